@@ -1,0 +1,67 @@
+#!/usr/bin/env bash
+# Proves every crate, tries the edits that must fail, runs the programs (rt ci), tries wrong definitions against the theorems, runs
+# the examples, then the host tests.
+# The last line is 'N passed, M failed'; the exit status is 0 only where nothing failed.
+set -u
+cd "$(dirname "$0")" || exit 1
+
+passed=0
+failed=0
+say() { printf '%s\n' "$*"; }
+
+# add TITLE PASSED FAILED
+add() {
+  say "== $1: $2 passed, $3 failed"
+  passed=$((passed + $2))
+  failed=$((failed + $3))
+}
+
+# one NAME COMMAND..: a part that counts as one test
+one() {
+  local name=$1
+  shift
+  if "$@"; then add "$name" 1 0; else add "$name" 0 1; fi
+}
+
+# counted NAME COMMAND..: a part whose own last line is 'N passed, M failed'
+counted() {
+  local name=$1 log status last bad
+  shift
+  log=$(mktemp)
+  "$@" 2>&1 | tee "$log"
+  status=${PIPESTATUS[0]}
+  last=$(grep -E '^[0-9]+ passed, [0-9]+ failed$' "$log" | tail -n 1)
+  rm -f "$log"
+  if [ -z "$last" ]; then add "$name" 0 1; return; fi
+  set -- $last
+  bad=$3
+  if [ "$status" -ne 0 ] && [ "$bad" -eq 0 ]; then bad=1; fi
+  add "$name" "$1" "$bad"
+}
+
+# The second implementation's own tests, and the comparison.
+host() {
+  [ -f host/Cargo.toml ] || return
+  if ! command -v cargo >/dev/null; then
+    apt-get update -qq && apt-get install -y -qq cargo rustc >/dev/null || { add cargo 0 1; return; }
+  fi
+  local log status good bad
+  log=$(mktemp)
+  (cd host && cargo test --release --offline --quiet) 2>&1 | tee "$log"
+  status=${PIPESTATUS[0]}
+  good=$(grep -oE '[0-9]+ passed;' "$log" | awk '{n += $1} END {print n + 0}')
+  bad=$(grep -oE '[0-9]+ failed;' "$log" | awk '{n += $1} END {print n + 0}')
+  rm -f "$log"
+  if [ "$status" -ne 0 ] && [ "$bad" -eq 0 ]; then bad=1; fi
+  if [ "$good" -eq 0 ]; then bad=$((bad + 1)); fi
+  add 'host tests' "$good" "$bad"
+  one 'host comparison' host/compare.sh
+}
+
+one layout rt fmt --check
+counted proofs rt ci
+counted 'wrong definitions' must-fail-theory/run.py
+one examples examples/check.sh
+host
+say "$passed passed, $failed failed"
+[ "$failed" -eq 0 ]
