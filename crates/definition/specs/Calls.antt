@@ -1,0 +1,54 @@
+-- Lists of start, advance and reading calls over one run buffer. Assumes nothing.
+use Prim.Native.Nat.{ℕ}
+use mathlib.Core.List.{List, [], _∷_}
+use Rattle.definition.specs.Bytes.{Bytes}
+use Rattle.definition.specs.Engine.{Wrote, Advanced, WasRead, start, advance, reading}
+use Rattle.definition.specs.FlatMachine.{flatStart, flatAdvance, flatReading}
+
+-- "Each advance brings a trace buffer of any length and first bytes."
+pub record AdvanceCall : Type 0 where
+  pub moment : ℕ
+  pub bag : Bytes
+  pub trace : Bytes
+
+pub data Call : Type 0 where
+  startCall : Call
+  advanceCall : AdvanceCall → Call
+  readingCall : ℕ → Call
+
+-- What a call answers, the buffers that it alone was lent included.
+pub data Answer : Type 0 where
+  startAnswer : (number written : ℕ) → Answer
+  advanceAnswer : (number instants steps used : ℕ) (trace : Bytes) → Answer
+  readingAnswer : (number phase last due : ℕ) → Answer
+
+-- A machine: what each kind of call does with the run buffer.
+pub record Machine : Type 0 where
+  pub starts : Bytes → Wrote
+  pub advances : Bytes → ℕ → Bytes → Bytes → Advanced
+  pub reads : Bytes → ℕ → WasRead
+
+-- The answer of one call, and the run buffer after it.
+unfoldable pub called : Machine → Bytes → Call → Answer × Bytes
+called k run startCall = let r = k .starts run in (startAnswer (r .number) (r .written), r .buffer)
+called k run (advanceCall c) =
+    let r = k .advances run (c .moment) (c .bag) (c .trace) in
+    (advanceAnswer (r .number) (r .instants) (r .steps) (r .used) (r .trace), r .run)
+called k run (readingCall position) =
+    let r = k .reads run position in
+    (readingAnswer (r .number) (r .phase) (r .last) (r .due), run)
+
+-- The answers of a list of calls in turn, and the run buffer at the end.
+unfoldable pub runCalls : Machine → Bytes → List Call → List Answer × Bytes
+runCalls k run [] = ([], run)
+runCalls k run (c ∷ cs) =
+    let r = called k run c in
+    let rest = runCalls k (r .1) cs in
+    (r .0 ∷ rest .0, rest .1)
+
+-- The engine and the flat machine on a model file.
+unfoldable pub engine : Bytes → Machine
+engine file = record { starts = start file; advances = advance file; reads = reading file }
+
+unfoldable pub flatMachine : Bytes → Machine
+flatMachine file = record { starts = flatStart file; advances = flatAdvance file; reads = flatReading file }

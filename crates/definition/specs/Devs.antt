@@ -1,0 +1,146 @@
+-- Parallel DEVS as source document 001 has it: a model, the resultant of a coupled model, and a transition at a moment.
+-- Assumes nothing.
+use Prim.Native.Nat.{ℕ, _+_, _-_, min}
+use mathlib.Core.List.{List, [], _∷_, _++_, map}
+use mathlib.Core.Bool.{Bool, true, false, cond}
+use lib.Dec.{eqb}
+use Rattle.definition.specs.Model.{Message, Bag, Coupling}
+use Rattle.definition.specs.Routes.{portsTo}
+
+-- ---- times
+
+-- A time advance, or a moment: never is one case, later than all.
+pub data Time : Type 0 where
+  finite : ℕ → Time
+  never : Time
+
+unfoldable pub earlier : Time → Time → Time
+earlier (finite a) (finite b) = finite (min a b)
+earlier (finite a) never = finite a
+earlier never (finite b) = finite b
+earlier never never = never
+
+-- What is left of a time advance after some elapsed time.
+unfoldable pub left : Time → ℕ → Time
+left (finite a) e = finite (a - e)
+left never e = never
+
+-- So much later.
+unfoldable pub later : ℕ → Time → Time
+later n (finite a) = finite (n + a)
+later n never = never
+
+-- Equal, and not never: "a never-due child is not imminent".
+unfoldable pub sameTime : Time → Time → Bool
+sameTime (finite a) (finite b) = eqb a b
+sameTime (finite a) never = false
+sameTime never (finite b) = false
+sameTime never never = false
+
+unfoldable pub ticks : Time → ℕ
+ticks (finite a) = a
+ticks never = 0
+
+-- ---- the formalism: S, ta, λ, δ_int, δ_ext, δ_con
+
+pub record Devs : Type 1 where
+  pub State : Type 0
+  pub ta : State → Time
+  pub out : State → Bag
+  pub int : State → State
+  pub ext : State → ℕ → Bag → State
+  pub con : State → Bag → State
+
+-- ---- the coupled model: components d with their models M_d, and couplings
+
+pub record Part : Type 1 where
+  pub name : ℕ
+  pub model : Devs
+
+-- The resultant's state s: a total state (s_d, e_d) for each component.
+abbrev pub Totals : List Part → Type 0
+Totals [] = Unit {0}
+Totals (d ∷ ds) = (d .model .State × ℕ) × Totals ds
+
+-- Z_{i,d}: "Couplings translate the port and keep the value"; a message goes along every coupling from its port.
+unfoldable pub through : List Coupling → ℕ → ℕ → Message → Bag
+through ks i d x = map (λ q. record { port = q; value = x .value }) (portsTo ks i d (x .port))
+
+unfoldable pub translate : List Coupling → ℕ → ℕ → Bag → Bag
+translate ks i d [] = []
+translate ks i d (x ∷ xs) = through ks i d x ++ translate ks i d xs
+
+-- σ_d = ta(s_d) - e_d
+unfoldable pub sigma : (d : Devs) → d .State × ℕ → Time
+sigma d s = left (d .ta (s .0)) (s .1)
+
+-- ta(s) = minimum { σ_d | d ∈ D }
+unfoldable pub least : (ds : List Part) → Totals ds → Time
+least [] s = never
+least (d ∷ ds) s = earlier (sigma (d .model) (s .0)) (least ds (s .1))
+
+-- { Z_{d,to}(λ_d(s_d)) | d ∈ IMM(s) }, where IMM(s) = { d | σ_d = t } and t = ta(s)
+unfoldable pub outputsTo : List Coupling → ℕ → Time → (ds : List Part) → Totals ds → Bag
+outputsTo ks to t [] s = []
+outputsTo ks to t (d ∷ ds) s =
+    let mine = translate ks (d .name) to (d .model .out (s .0 .0)) in
+    cond (sameTime (sigma (d .model) (s .0)) t) mine [] ++ outputsTo ks to t ds (s .1)
+
+-- (s'_d, e'_d) after a time e: for d in INT, in CONF, in UN, in EXT, as it is imminent or not and its input x_d is empty or not.
+unfoldable pub changed : (d : Devs) → Bool → Bag → ℕ → d .State × ℕ → d .State × ℕ
+changed d true [] e s = (d .int (s .0), 0)
+changed d true (x ∷ xs) e s = (d .con (s .0) (x ∷ xs), 0)
+changed d false [] e s = (s .0, s .1 + e)
+changed d false (x ∷ xs) e s = (d .ext (s .0) (s .1 + e) (x ∷ xs), 0)
+
+unfoldable pub changedAll : (Time → Bool) → (ℕ → Bag) → ℕ → (ds : List Part) → Totals ds → Totals ds
+changedAll imminent input e [] s = s
+changedAll imminent input e (d ∷ ds) s =
+    (changed (d .model) (imminent (sigma (d .model) (s .0))) (input (d .name)) e (s .0), changedAll imminent input e ds (s .1))
+
+-- The resultant of the coupled model n with components ds.
+module _ (ks : List Coupling) (n : ℕ) (ds : List Part) where
+  unfoldable pub resultantOut : Totals ds → Bag
+  resultantOut s = outputsTo ks n (least ds s) ds s
+
+  -- x_d = { Z_{i,d}(λ_i(s_i)) | i ∈ IMM(s) }
+  unfoldable pub resultantInt : Totals ds → Totals ds
+  resultantInt s =
+      let t = least ds s in
+      changedAll (λ u. sameTime u t) (λ d. outputsTo ks d t ds s) (ticks t) ds s
+
+  -- x_d = { Z_{N,d}(x) | x ∈ x^b }
+  unfoldable pub resultantExt : Totals ds → ℕ → Bag → Totals ds
+  resultantExt s e x = changedAll (λ u. false) (λ d. translate ks n d x) e ds s
+
+  -- x_d = { Z_{i,d}(λ_i(s_i)) | i ∈ IMM(s) } ∪ { Z_{N,d}(x) | x ∈ x^b }
+  unfoldable pub resultantCon : Totals ds → Bag → Totals ds
+  resultantCon s x =
+      let t = least ds s in
+      changedAll (λ u. sameTime u t) (λ d. outputsTo ks d t ds s ++ translate ks n d x) (ticks t) ds s
+
+  abbrev pub resultant : Devs
+  resultant = record { State = Totals ds; ta = least ds; out = resultantOut; int = resultantInt; ext = resultantExt; con = resultantCon }
+
+-- ---- a transition at a moment
+
+-- A model between events: its state, and the moment of its last event.
+pub record Since (d : Devs) : Type 0 where
+  pub state : d .State
+  pub event : ℕ
+
+-- The output, and the one of the three transitions that document 001 names, an elapsed time e after the last event.
+unfoldable pub transition : (d : Devs) → Bool → ℕ → Bag → d .State → Bag × d .State
+transition d true e [] s = (d .out s, d .int s)
+transition d true e (x ∷ xs) s = (d .out s, d .con s (x ∷ xs))
+transition d false e x s = ([], d .ext s e x)
+
+unfoldable pub devsStep : (d : Devs) → ℕ → Bag → Since d → Bag × Since d
+devsStep d now x q =
+    let e = now - q .event in
+    let r = transition d (sameTime (d .ta (q .state)) (finite e)) e x (q .state) in
+    (r .0, record { state = r .1; event = now })
+
+-- The moment at which the model is due.
+unfoldable pub devsDue : (d : Devs) → Since d → Time
+devsDue d q = later (q .event) (d .ta (q .state))

@@ -1,0 +1,187 @@
+-- The flat machine, from its own section of document 01 and with loops of its own: it shares with the engine only the lines for one
+-- atomic, the byte forms, and the table's checks. Assumes nothing.
+use Prim.Native.Nat.{ℕ, zero, suc, _+_, _-_}
+use mathlib.Core.List.{List, [], _∷_, _++_, map}
+use mathlib.Core.Bool.{Bool, true, false, _&&_, _||_, not, cond}
+use lib.Dec.{leb, ltb, eqb}
+use lib.ListN.{length, take, drop}
+use Rattle.definition.specs.Lists.{concat, all, isEmpty}
+use Rattle.definition.specs.Bytes.{Bytes, Result, ok, refused, _>>=_, stored}
+use Rattle.definition.specs.Limits.{maxSteps, maxRootBag}
+use Rattle.definition.specs.Model.{Message, Bag, Coupling, Model, atomics, phaseAt, outputs}
+use Rattle.definition.specs.Routes.{accepted}
+use Rattle.definition.specs.Devs.{Time, finite, never, earlier, sameTime}
+use Rattle.definition.specs.Atomic.{internal, external, confluent}
+use Rattle.definition.specs.SavedRun.{Entry, runBytes, runOf, dueOf}
+use Rattle.definition.specs.Step.{Stepped}
+use Rattle.definition.specs.Instant.{records}
+use Rattle.definition.specs.Engine.{Wrote, wrote, startRun, Advanced, advanceChecks, toBag, WasRead, wasRead, readingChecks, readAt}
+
+-- ---- a step
+
+-- A message and the component that it leaves.
+pub record Sent : Type 0 where
+  pub source : ℕ
+  pub message : Message
+
+unfoldable pub sent : ℕ → Bag → List Sent
+sent c x = map (λ y. record { source = c; message = y }) x
+
+module _ (m : Model) (now : ℕ) where
+  unfoldable pub dueNow : ℕ → Entry → Bool
+  dueNow c r = sameTime (dueOf m c r) (finite now)
+
+  -- "A step first reads the output of every atomic due then."
+  unfoldable pub putOut : List ℕ → List Entry → List Sent
+  putOut [] rs = []
+  putOut (c ∷ cs) [] = []
+  putOut (c ∷ cs) (r ∷ rs) = cond (dueNow c r) (sent c (outputs (phaseAt m c (r .phase)))) [] ++ putOut cs rs
+
+  -- "Each message .. goes once along every coupling from its port": what reaches component d of one message, and of all.
+  unfoldable pub reaching : ℕ → Sent → List Coupling → Bag
+  reaching d x [] = []
+  reaching d x (k ∷ ks) =
+      let rest = reaching d x ks in
+      cond (eqb (k .source) (x .source) && eqb (k .sourcePort) (x .message .port) && eqb (k .target) d)
+      (record { port = k .targetPort; value = x .message .value } ∷ rest) rest
+
+  unfoldable pub arriving : ℕ → List Sent → Bag
+  arriving d xs = concat (map (λ x. reaching d x (m .couplings)) xs)
+
+  -- "by the lines of `One step`": an atomic that is due or not, with its bag.
+  unfoldable pub moved : ℕ → Bool → Bag → Entry → Entry
+  moved c true [] r = record { phase = internal m c (r .phase); last = now }
+  moved c true (x ∷ xs) r = record { phase = confluent m c (r .phase) (x ∷ xs); last = now }
+  moved c false [] r = r
+  moved c false (x ∷ xs) r = record { phase = external m c (r .phase) (now - r .last) (x ∷ xs); last = now }
+
+  -- "Then all atomics change together."
+  unfoldable pub movedAll : List Sent → List ℕ → List Entry → List Entry
+  movedAll xs [] rs = []
+  movedAll xs (c ∷ cs) [] = []
+  movedAll xs (c ∷ cs) (r ∷ rs) = moved c (dueNow c r) (arriving c xs) r ∷ movedAll xs cs rs
+
+  -- "What reaches an atomic is its bag; what reaches the root is the root's output bag."
+  unfoldable pub flatStep : Bag → List Entry → Stepped (List Entry)
+  flatStep x rs =
+      let xs = sent 0 x ++ putOut (atomics (m .components)) rs in
+      record { out = arriving 0 xs; state = movedAll xs (atomics (m .components)) rs }
+
+  -- Some atomic is due now.
+  unfoldable pub anyDue : List ℕ → List Entry → Bool
+  anyDue [] rs = false
+  anyDue (c ∷ cs) [] = false
+  anyDue (c ∷ cs) (r ∷ rs) = dueNow c r || anyDue cs rs
+
+  -- "Steps follow while something is due there": the root bags of at most n steps, and the entries after them.
+  unfoldable pub takeSteps : ℕ → Bag → List Entry → List Bag × List Entry
+  takeSteps zero x rs = ([], rs)
+  takeSteps (suc n) x rs =
+      let r = flatStep x rs in
+      let rest = takeSteps n [] (r .state) in
+      cond (anyDue (atomics (m .components)) rs || not (isEmpty x)) (r .out ∷ rest .0, rest .1) ([], rs)
+
+-- The earliest moment at which an atomic is due.
+unfoldable pub firstDue : Model → List ℕ → List Entry → Time
+firstDue m [] rs = never
+firstDue m (c ∷ cs) [] = never
+firstDue m (c ∷ cs) (r ∷ rs) = earlier (dueOf m c r) (firstDue m cs rs)
+
+unfoldable pub flatDue : Model → List Entry → Time
+flatDue m rs = firstDue m (atomics (m .components)) rs
+
+-- ---- advance
+
+-- The state is the run buffer's bytes; beside it the lent trace and the counts of the instants that stand.
+pub record Stage : Type 0 where
+  pub state : Bytes
+  pub trace : Bytes
+  pub instants : ℕ
+  pub steps : ℕ
+  pub used : ℕ
+
+unfoldable pub entriesIn : Model → Stage → List Entry
+entriesIn m g = runOf m (g .state) .entries
+
+-- "otherwise the copy is the new state and the records are written on in the lent trace"
+unfoldable pub standing : ℕ → Stage → List Bag × List Entry → Stage
+standing now g c =
+    let new = records now (c .0) in
+    record {
+      state = stored (runBytes (record { opening = suc now; entries = c .1 })) (g .state);
+      trace = take (g .used) (g .trace) ++ new ++ drop (g .used + length new) (g .trace);
+      instants = suc (g .instants);
+      steps = g .steps + length (c .0);
+      used = g .used + length new;
+    }
+
+-- "A number from the row `each instant` drops the copy with its records and ends the call."
+unfoldable pub judged : Model → ℕ → Stage → List Bag × List Entry → Result Stage
+judged m now g c =
+    cond (anyDue m now (atomics (m .components)) (c .1)) (refused 13)
+    (cond (isEmpty (c .0)) (ok g)
+    (cond (not (all (λ x. leb (length x) maxRootBag) (c .0))) (refused 14)
+    (cond (ltb (length (g .trace)) (g .used + length (records now (c .0)))) (refused 15) (ok (standing now g c)))))
+
+-- The instant at `now`, "on a copy of the state".
+unfoldable pub attempt : Model → ℕ → Bag → Stage → Result Stage
+attempt m now x g = judged m now g (takeSteps m now maxSteps x (entriesIn m g))
+
+-- "the open moment moves as above": one past t on success.
+unfoldable pub openedPast : Model → ℕ → Stage → Stage
+openedPast m t g = record {
+  state = stored (runBytes (record { opening = suc t; entries = entriesIn m g })) (g .state);
+  trace = g .trace;
+  instants = g .instants;
+  steps = g .steps;
+  used = g .used;
+}
+
+unfoldable pub goOn : (Stage → ℕ × Stage) → Stage → Result Stage → ℕ × Stage
+goOn on before (ok g) = on g
+goOn on before (refused n) = (n, before)
+
+unfoldable pub dueBefore : Time → ℕ → Bool
+dueBefore (finite a) t = ltb a t
+dueBefore never t = false
+
+unfoldable pub dueMoment : Time → ℕ
+dueMoment (finite a) = a
+dueMoment never = 0
+
+-- "Advance takes its instants in turn": those due before t, then t with the bag.
+unfoldable pub inTurn : ℕ → Model → ℕ → Bag → Stage → ℕ × Stage
+inTurn zero m t x g = (0, g)
+inTurn (suc turns) m t x g =
+    let u = flatDue m (entriesIn m g) in
+    let one = goOn (λ h. inTurn turns m t x h) g (attempt m (dueMoment u) [] g) in
+    let last = goOn (λ h. (0, openedPast m t h)) g (attempt m t x g) in
+    cond (dueBefore u t) one last
+
+-- "The answer counts the instants that stand, their steps and their trace bytes"; a call refused before any instant "gets that
+-- number, with zeros, and changes nothing".
+unfoldable pub answered : Bytes → Bytes → Result (ℕ × Stage) → Advanced
+answered run trace (refused n) = record { number = n; instants = 0; steps = 0; used = 0; run = run; trace = trace }
+answered run trace (ok r) =
+    let g = r .1 in
+    record { number = r .0; instants = g .instants; steps = g .steps; used = g .used; run = g .state; trace = g .trace }
+
+unfoldable pub flatAdvance : Bytes → Bytes → ℕ → Bytes → Bytes → Advanced
+flatAdvance file run t bag trace = answered run trace (do
+  m ← accepted file
+  _ ← advanceChecks m run t bag
+  ok (inTurn (suc t) m t (toBag bag) (record { state = run; trace = trace; instants = 0; steps = 0; used = 0 })))
+
+-- ---- start and reading
+
+-- "Otherwise start writes its run, and reading answers from the state."
+unfoldable pub flatStart : Bytes → Bytes → Wrote
+flatStart file run = wrote run (do
+  m ← accepted file
+  ok (runBytes (startRun m)))
+
+unfoldable pub flatReading : Bytes → Bytes → ℕ → WasRead
+flatReading file run position = wasRead (do
+  m ← accepted file
+  _ ← readingChecks m run position
+  ok (let rs = runOf m run .entries in readAt rs position (flatDue m rs)))

@@ -1,0 +1,20 @@
+-- The definitions in the order of document 01.
+pub mod Lists
+pub mod Bytes
+pub mod Limits
+pub mod Model
+pub mod Records
+pub mod File
+pub mod Routes
+pub mod Devs
+pub mod Atomic
+pub mod SavedRun
+pub mod Step
+pub mod Instant
+pub mod Advance
+pub mod Engine
+pub mod Flatten
+pub mod FlatMachine
+pub mod Calls
+pub mod AdvanceRelation
+pub mod Demands

@@ -1,0 +1,90 @@
+-- Every limit and every width of document 01, by name, once. Assumes nothing.
+use Prim.Native.Nat.{ℕ}
+
+-- ---- the model file
+abbrev pub maxComponents : ℕ
+maxComponents = 64
+
+-- "At most 8 ancestors."
+abbrev pub maxAncestors : ℕ
+maxAncestors = 8
+
+-- "An atomic has 1 to 64 phases."
+abbrev pub maxOwnPhases : ℕ
+maxOwnPhases = 64
+
+abbrev pub maxPhases : ℕ
+maxPhases = 512
+
+-- "output count (1, 0 to 4), four slots"
+abbrev pub maxOutputs : ℕ
+maxOutputs = 4
+
+abbrev pub maxRules : ℕ
+maxRules = 1024
+
+abbrev pub maxCouplings : ℕ
+maxCouplings = 1024
+
+-- "at most 1,024 in all"
+abbrev pub maxRoutes : ℕ
+maxRoutes = 1024
+
+-- "Ports are 0 to 3."
+abbrev pub portCount : ℕ
+portCount = 4
+
+-- "advance (4 bytes, 0 to 1,000,000,000, or 4,294,967,295 for never)"
+abbrev pub maxAdvance : ℕ
+maxAdvance = 1000000000
+
+abbrev pub neverField : ℕ
+neverField = 4294967295
+
+-- ---- widths of counts and records
+abbrev pub countSize : ℕ
+countSize = 2
+
+abbrev pub componentSize : ℕ
+componentSize = 5
+
+abbrev pub phaseSize : ℕ
+phaseSize = 18
+
+abbrev pub ruleSize : ℕ
+ruleSize = 18
+
+abbrev pub couplingSize : ℕ
+couplingSize = 4
+
+abbrev pub messageSize : ℕ
+messageSize = 3
+
+-- The head of a saved run: open moment (8) and atomic count (2).
+abbrev pub headSize : ℕ
+headSize = 10
+
+-- Phase (1) and last moment (8) of an atomic in a saved run.
+abbrev pub entrySize : ℕ
+entrySize = 9
+
+-- ---- calls
+-- The latest moment to which a run is advanced.
+abbrev pub maxMoment : ℕ
+maxMoment = 1000000000000
+
+-- "over 16 messages"
+abbrev pub maxGiven : ℕ
+maxGiven = 16
+
+-- Steps of an instant.
+abbrev pub maxSteps : ℕ
+maxSteps = 1024
+
+-- "a step's root bag over 4,096 messages"
+abbrev pub maxRootBag : ℕ
+maxRootBag = 4096
+
+-- "18,446,744,073,709,551,615 for never"
+abbrev pub neverMoment : ℕ
+neverMoment = 18446744073709551615

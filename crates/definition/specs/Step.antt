@@ -1,0 +1,67 @@
+-- One step of a saved run: the root's resultant is given the state that the entries stand for, takes its transition, and is read
+-- back. Assumes nothing.
+use Prim.Native.Nat.{ℕ, _+_, _-_}
+use mathlib.Core.List.{List, [], _∷_, _++_, map}
+use mathlib.Core.Bool.{cond}
+use lib.Dec.{eqb}
+use Rattle.definition.specs.Model.{Bag, Model, atomics, Tree, Forest, leaf, node, stop, more, tree}
+use Rattle.definition.specs.Devs.{Time, Totals, devsStep}
+use Rattle.definition.specs.Atomic.{devsOf, partsOf}
+use Rattle.definition.specs.SavedRun.{Entry, noEntry, entryOf, nextDue}
+
+-- Something to run: when it is next due, and its step at a moment with a bag.
+pub record Stepped (S : Type 0) : Type 0 where
+  pub out : Bag
+  pub state : S
+
+pub record Simulator (S : Type 0) : Type 0 where
+  pub next : S → Time
+  pub step : ℕ → Bag → S → Stepped S
+
+-- ---- the state at a moment
+
+-- An atomic's elapsed time is the time since its last transition; all of it is put at the atomic, and none at the levels above it.
+unfoldable pub elapsed : (ℕ → Entry) → ℕ → Tree → ℕ
+elapsed at now (leaf c) = now - at c .last
+elapsed at now (node c f) = 0
+
+unfoldable mutual
+  pub load : (m : Model) (at : ℕ → Entry) (now : ℕ) (t : Tree) → devsOf m t .State
+  load m at now (leaf c) = at c .phase
+  load m at now (node c f) = loadAll m at now f
+
+  pub loadAll : (m : Model) (at : ℕ → Entry) (now : ℕ) (f : Forest) → Totals (partsOf m f)
+  loadAll m at now stop = tt
+  loadAll m at now (more t f) = ((load m at now t, elapsed at now t), loadAll m at now f)
+
+-- Read back: each atomic's phase, and now less the elapsed times on the way to it; e is what the levels above have.
+unfoldable mutual
+  pub leavesOf : (m : Model) (now e : ℕ) (t : Tree) → devsOf m t .State → List (ℕ × Entry)
+  leavesOf m now e (leaf c) s = (c, record { phase = s; last = now - e }) ∷ []
+  leavesOf m now e (node c f) s = leavesOfAll m now e f s
+
+  pub leavesOfAll : (m : Model) (now e : ℕ) (f : Forest) → Totals (partsOf m f) → List (ℕ × Entry)
+  leavesOfAll m now e stop s = []
+  leavesOfAll m now e (more t f) s = leavesOf m now (e + s .0 .1) t (s .0 .0) ++ leavesOfAll m now e f (s .1)
+
+unfoldable pub assoc : List (ℕ × Entry) → ℕ → Entry
+assoc [] c = noEntry
+assoc (x ∷ xs) c = cond (eqb (x .0) c) (x .1) (assoc xs c)
+
+-- The entries in file order.
+unfoldable pub unload : (m : Model) (now : ℕ) (t : Tree) → devsOf m t .State → List Entry
+unload m now t s = map (assoc (leavesOf m now 0 t s)) (atomics (m .components))
+
+-- ---- the step
+
+unfoldable pub stepOn : Model → Tree → ℕ → Bag → List Entry → Stepped (List Entry)
+stepOn m t now x rs =
+    let r = devsStep (devsOf m t) now x (record { state = load m (entryOf m rs) now t; event = now }) in
+    record { out = r .0; state = unload m now t (r .1 .state) }
+
+unfoldable pub step : Model → ℕ → Bag → List Entry → Stepped (List Entry)
+step m now x rs = stepOn m (tree m) now x rs
+
+-- The nest, run from its saved entries.
+abbrev pub nested : Model → Simulator (List Entry)
+nested m = record { next = nextDue m; step = step m }
