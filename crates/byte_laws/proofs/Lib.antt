@@ -1,0 +1,6 @@
+pub mod Rows
+pub mod Alls
+pub mod Refusals
+pub mod Records
+pub mod Sections
+pub mod Four

@@ -1,0 +1,87 @@
+-- What the checks of a call let through: a run that fits has an entry for each atomic, none changed after its opening or due before it; a
+-- moment that is open; a bag on ports that there are. The laws of a step start from these. Assumes nothing.
+use mathlib.Core.Path.{_≡_, refl, _∙_}
+use Prim.Native.Nat.{ℕ, suc, _*_, _%_, _≤_}
+use mathlib.Core.List.{List, [], _∷_}
+use mathlib.Core.Bool.{Bool, true, false, _&&_, _||_, not}
+use native.Mathlib.Omega.{arith}
+use lib.Dec.{leb, ltb, eqb}
+use lib.ListN.{length, drop, length-map}
+use borrow.Author.Tests.{ltb-true, ltb-false, eqb-true, not-false}
+use Rattle.definition.specs.Bytes.{Bytes, ok, refuseIf, number, chunks}
+use Rattle.definition.specs.Lists.{all}
+use Rattle.definition.specs.Limits.{maxMoment, headSize, entrySize, messageSize, maxGiven}
+use Rattle.definition.specs.Model.{Model, componentAt, atomics}
+use Rattle.definition.specs.SavedRun.{Entry, runLength, toEntry, toRun, entryFits, entriesFit, atomicCount, runOf, fits}
+use Rattle.definition.specs.Engine.{advanceChecks, bagFits, toBag}
+use Rattle.definition.specs.Records.{portFits}
+use Rattle.laws.proofs.Sorting.{clash, and-left, and-right}
+use Rattle.model_laws.proofs.Codec.{length-chunks}
+use Rattle.model_laws.proofs.Sections.{refuse-ok}
+use Rattle.nest_laws.proofs.Pairs.{Pairs}
+use Rattle.nest_laws.proofs.Nest.{Fresh}
+use Rattle.nest_laws.proofs.Stepping.{Good}
+
+-- a run's entries that fit are fresh at its opening
+pub entry-fresh : (m : Model) (o c : ℕ) (r : Entry) → entryFits m o c r ≡ true → Fresh m o c r
+unfolding entryFits
+entry-fresh m o c r h =
+    let a = ltb (r .phase) (componentAt (m .components) c .phases) in
+    let b = ltb (r .last) o || (eqb o 0 && eqb (r .last) 0) in
+    let k = and-left (a && b) _ h in
+    (go (ltb (r .last) o) refl (and-right a b k), and-right (a && b) _ h)
+  where
+    go : (t : Bool) → ltb (r .last) o ≡ t → ltb (r .last) o || (eqb o 0 && eqb (r .last) 0) ≡ true → r .last ≤ o
+    go true e k = omega (arith, ltb-true (r .last) o e)
+    go false e k = let g : eqb o 0 && eqb (r .last) 0 ≡ true = rw e at k in omega (arith, eqb-true (r .last) 0 (and-right (eqb o 0) _ g))
+
+entries-fresh : (m : Model) (o : ℕ) (cs : List ℕ) (rs : List Entry) → length rs ≡ length cs → entriesFit m o cs rs ≡ true → Pairs (Fresh m o) cs rs
+unfolding entriesFit
+entries-fresh m o [] [] e h = tt
+entries-fresh m o [] (r ∷ rs) e h = absurd (omega arith)
+entries-fresh m o (c ∷ cs) [] e h = absurd (omega arith)
+entries-fresh m o (c ∷ cs) (r ∷ rs) e h =
+    (entry-fresh m o c r (and-left (entryFits m o c r) _ h), entries-fresh m o cs rs (omega arith) (and-right (entryFits m o c r) _ h))
+
+pub run-length : (m : Model) (s : Bytes) → length (runOf m s .entries) ≡ length (atomics (m .components))
+unfolding runOf toRun atomicCount
+run-length m s = length-map (chunks (length (atomics (m .components))) entrySize (drop headSize s)) toEntry ∙ length-chunks (length (atomics (m .components))) entrySize (drop headSize s)
+
+pub fits-good : (m : Model) (s : Bytes) → fits m s ≡ true → Good m (runOf m s .opening) (runOf m s .entries)
+unfolding fits
+fits-good m s h =
+    let a = leb (runLength (atomicCount m)) (length s) && eqb (number 2 8 s) (atomicCount m) && leb (runOf m s .opening) (suc maxMoment) in
+    entries-fresh m (runOf m s .opening) (atomics (m .components)) (runOf m s .entries) (run-length m s) (and-right a _ h)
+
+-- the bag that the checks let in
+bag-fine : (b : Bytes) → bagFits b ≡ true → all portFits (toBag b) ≡ true
+unfolding bagFits
+bag-fine b h = and-right (eqb (length b % messageSize) 0 && leb (length b) (messageSize * maxGiven)) _ h
+
+-- an advance that the checks let through
+pub record LetIn (m : Model) (run : Bytes) (t : ℕ) (bag : Bytes) : Type 0 where
+  pub run-fits : fits m run ≡ true
+  pub from-opening : runOf m run .opening ≤ t
+  pub low-moment : t ≤ maxMoment
+  pub bag-ports : all portFits (toBag bag) ≡ true
+
+pub advance-ok : (m : Model) (run : Bytes) (t : ℕ) (bag : Bytes) → advanceChecks m run t bag ≡ ok tt → LetIn m run t bag
+unfolding advanceChecks
+advance-ok m run t bag h =
+    let early = ltb t (runOf m run .opening) in
+    let x = refuse-ok (not (fits m run)) 10 _ tt h in
+    let y = refuse-ok (early || ltb maxMoment t) 11 _ tt (x .1) in
+    record {
+      run-fits = not-false (fits m run) (x .0);
+      from-opening = ltb-false t (runOf m run .opening) (neither early (ltb maxMoment t) (y .0) .0);
+      low-moment = ltb-false maxMoment t (neither early (ltb maxMoment t) (y .0) .1);
+      bag-ports = bag-fine bag (passed (bagFits bag) (y .1));
+    }
+  where
+    neither : (b c : Bool) → b || c ≡ false → (b ≡ false) × (c ≡ false)
+    neither true c h = absurd (clash refl h)
+    neither false c h = (refl, h)
+
+    passed : (b : Bool) → refuseIf (not b) 12 ≡ ok tt → b ≡ true
+    passed true h = refl
+    passed false h = absurd (let z : _≡_ {A = ℕ} 0 1 = cc in omega arith)

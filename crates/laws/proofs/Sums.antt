@@ -1,0 +1,61 @@
+-- Sums over lists. Assumes nothing.
+use mathlib.Core.Path.{_≡_, refl, sym, ap, ap₂, _∙_, fun-ext}
+use Prim.Native.Nat.{ℕ, zero, suc, _+_, _*_, _≤_}
+use mathlib.Core.List.{List, [], _∷_, _++_, map}
+use mathlib.Core.Bool.{Bool, true, false, cond}
+use native.Mathlib.Omega.{arith}
+use Rattle.definition.specs.Lists.{concat, keep}
+
+unfoldable pub sumOf : {A : Type 0} → (A → ℕ) → List A → ℕ
+sumOf f [] = 0
+sumOf f (a ∷ l) = f a + sumOf f l
+
+module _ {A : Type 0} where
+  pub sum-append : (f : A → ℕ) (x y : List A) → sumOf f (x ++ y) ≡ sumOf f x + sumOf f y
+  unfolding sumOf
+  sum-append f [] y = omega arith
+  sum-append f (a ∷ x) y = let h = sum-append f x y in omega arith
+
+  pub sum-map : {B : Type 0} (f : A → ℕ) (g : B → A) (l : List B) → sumOf f (map g l) ≡ sumOf (λ b. f (g b)) l
+  unfolding sumOf
+  sum-map f g [] = refl
+  sum-map f g (b ∷ l) = rw (sum-map f g l)
+
+  pub sum-concat : {B : Type 0} (f : A → ℕ) (g : B → List A) (l : List B) → sumOf f (concat (map g l)) ≡ sumOf (λ b. sumOf f (g b)) l
+  unfolding sumOf concat
+  sum-concat f g [] = refl
+  sum-concat f g (b ∷ l) = sum-append f (g b) (concat (map g l)) ∙ rw (sum-concat f g l)
+
+  pub sum-add : (f g : A → ℕ) (l : List A) → sumOf (λ a. f a + g a) l ≡ sumOf f l + sumOf g l
+  unfolding sumOf
+  sum-add f g [] = refl
+  sum-add f g (a ∷ l) = let h = sum-add f g l in omega arith
+
+  pub sum-zero : (l : List A) → sumOf (λ a. 0) l ≡ 0
+  unfolding sumOf
+  sum-zero [] = refl
+  sum-zero (a ∷ l) = let h = sum-zero l in omega arith
+
+  pub sum-cong : (f g : A → ℕ) (l : List A) → ((a : A) → f a ≡ g a) → sumOf f l ≡ sumOf g l
+  sum-cong f g l h = ap (λ (k : A → ℕ). sumOf k l) (fun-ext h)
+
+  pub sum-cond : (f : A → ℕ) (b : Bool) (l : List A) → sumOf f (cond b l []) ≡ cond b (sumOf f l) 0
+  unfolding sumOf
+  sum-cond f true l = refl
+  sum-cond f false l = refl
+
+  pub sum-le : (f g : A → ℕ) (l : List A) → ((a : A) → f a ≤ g a) → sumOf f l ≤ sumOf g l
+  unfolding sumOf
+  sum-le f g [] h = omega arith
+  sum-le f g (a ∷ l) h = omega (arith, h a, sum-le f g l h)
+
+  pub sum-scale : (n : ℕ) (f : A → ℕ) (l : List A) → sumOf (λ a. n * f a) l ≡ n * sumOf f l
+  unfolding sumOf
+  sum-scale n f [] = omega arith
+  sum-scale n f (a ∷ l) = let h = sum-scale n f l in omega arith
+
+-- sums change places
+pub sum-swap : {A B : Type 0} (f : A → B → ℕ) (x : List A) (y : List B) → sumOf (λ a. sumOf (f a) y) x ≡ sumOf (λ b. sumOf (λ a. f a b) x) y
+unfolding sumOf
+sum-swap f [] y = sym (sum-zero y)
+sum-swap f (a ∷ x) y = ap (λ n. sumOf (f a) y + n) (sum-swap f x y) ∙ sym (sum-add (f a) (λ b. sumOf (λ a. f a b) x) y)

@@ -1,0 +1,57 @@
+-- What the decoder has checked of a model that it gave, said of the model itself: reading shows it, writing needs it, and the theory
+-- takes it in place of bytes. Assumes nothing.
+use mathlib.Core.Path.{_≡_, refl}
+use Prim.Native.Nat.{ℕ, suc, _≤_, _<_}
+use mathlib.Core.List.{List, [], _∷_, map}
+use mathlib.Core.Bool.{Bool, true}
+use native.Mathlib.Omega.{arith}
+use lib.ListN.{length, getD}
+use Rattle.definition.specs.Lists.{all}
+use Rattle.definition.specs.Bytes.{Bytes}
+use Rattle.definition.specs.Limits.{maxComponents, maxPhases, maxRules, maxCouplings, maxRoutes}
+use Rattle.definition.specs.Model.{Component, Model, noRule, noCoupling}
+use Rattle.definition.specs.Records.{toComponent, componentBytes, componentFits, toPhase, phaseBytes, phaseFits, toRule, ruleBytes, ruleFields, ruleFits, toCoupling, couplingBytes, couplingFields, couplingFits}
+use Rattle.definition.specs.File.{phaseTotal}
+use Rattle.definition.specs.Routes.{routes}
+use Rattle.laws.proofs.Sorting.{and-left}
+use Rattle.laws.proofs.Lists.{and-true}
+
+-- The records of one section: no more than its limit, each spelled by its bytes, each keeping the lines of document 01.
+pub record Checked {A : Type 0} (limit : ℕ) (to : Bytes → A) (bytes : A → Bytes) (fits : List A → ℕ → Bool) (xs : List A) : Type 0 where
+  pub few : length xs ≤ limit
+  pub held : map (λ x. to (bytes x)) xs ≡ xs
+  pub fit : (i : ℕ) → i < length xs → fits xs i ≡ true
+
+pub record Sound (m : Model) : Type 0 where
+  pub some-component : 0 < length (m .components)
+  pub components : Checked maxComponents toComponent componentBytes componentFits (m .components)
+  pub phase-count : length (m .phases) ≡ phaseTotal (m .components)
+  pub phases : Checked maxPhases toPhase phaseBytes (phaseFits (m .components)) (m .phases)
+  pub rules : Checked maxRules toRule ruleBytes (ruleFits (m .components)) (m .rules)
+  pub couplings : Checked maxCouplings toCoupling couplingBytes (couplingFits (m .components)) (m .couplings)
+
+-- What acceptance gives: soundness, and few routes.
+pub record Accepted (m : Model) : Type 0 where
+  pub sound : Sound m
+  pub few-routes : length (routes m) ≤ maxRoutes
+
+-- Each component keeps its lines.
+abbrev pub ComponentsFit : List Component → Type 0
+ComponentsFit cs = (i : ℕ) → i < length cs → componentFits cs i ≡ true
+
+-- ---- rules and couplings as lists
+
+-- a test that the element at each place passes
+pub all-places : {A : Type 0} (p : A → Bool) (d : A) (xs : List A) → ((i : ℕ) → i < length xs → p (getD xs i d) ≡ true) → all p xs ≡ true
+unfolding all
+all-places p d [] h = refl
+all-places p d (x ∷ xs) h = and-true (p x) (all p xs) (h 0 (omega arith)) (all-places p d xs (λ i l. h (suc i) (omega arith)))
+
+module _ (m : Model) (w : Sound m) where
+  pub rules-fit : all (ruleFields (m .components)) (m .rules) ≡ true
+  unfolding ruleFits
+  rules-fit = all-places (ruleFields (m .components)) noRule (m .rules) (w .rules .fit)
+
+  pub couplings-fit : all (couplingFields (m .components)) (m .couplings) ≡ true
+  unfolding couplingFits
+  couplings-fit = all-places (couplingFields (m .components)) noCoupling (m .couplings) (λ i l. and-left (couplingFields (m .components) (getD (m .couplings) i noCoupling)) _ (w .couplings .fit i l))

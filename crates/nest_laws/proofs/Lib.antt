@@ -1,0 +1,21 @@
+-- Laws of one step of a nest, in the order of the argument.
+pub mod Numbers
+pub mod Occurs
+pub mod Places
+pub mod Pairs
+pub mod Times
+pub mod Trees
+pub mod Kin
+pub mod Components
+pub mod Renumber
+pub mod Nest
+pub mod AnySplit
+pub mod Leaves
+pub mod StepOf
+pub mod Paths
+pub mod Carried
+pub mod Carry
+pub mod Arrivals
+pub mod Firsts
+pub mod Stepping
+pub mod Capacity
