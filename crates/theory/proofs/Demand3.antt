@@ -1,0 +1,135 @@
+-- Demand 3: for every list of calls an accepted model, its flat form and the flat machine on the flat form give the same answers and the same
+-- bytes; the flat form is accepted and flattens to itself. Assumes nothing.
+use mathlib.Core.Path.{_≡_, refl, sym, ap, _∙_, subst}
+use Prim.Native.Nat.{ℕ}
+use mathlib.Core.List.{List}
+use mathlib.Core.Bool.{Bool, true, false}
+use native.Mathlib.Omega.{arith}
+use lib.Dec.{ltb}
+use lib.ListN.{length, take, drop}
+use lib.Seq.{take-at}
+use Rattle.definition.specs.Bytes.{Bytes, AllBytes, Result, ok, refused, _>>=_, stored}
+use Rattle.definition.specs.Model.{Model}
+use Rattle.definition.specs.File.{modelBytes}
+use Rattle.definition.specs.Routes.{accepted, checkModel}
+use Rattle.definition.specs.SavedRun.{Entry, runOf, nextDue}
+use Rattle.definition.specs.Step.{nested}
+use Rattle.definition.specs.Advance.{advanceFrom}
+use Rattle.definition.specs.Engine.{start, wrote, advanceChecks, advanced, advance, toBag, reading}
+use Rattle.definition.specs.Flatten.{flat, flatten}
+use Rattle.definition.specs.FlatMachine.{flatDue}
+use Rattle.definition.specs.Calls.{runCalls, engine}
+use Rattle.definition.specs.Demands.{flatForm, Alike, Demand3}
+use Rattle.model_laws.proofs.Sound.{Sound, Accepted}
+use Rattle.model_laws.proofs.Reading.{accepted-sound}
+use Rattle.model_laws.proofs.Refusals.{Positive, accepted-positive}
+use Rattle.flat_laws.proofs.FlatTwice.{flat-stays, flat-accepted, flat-twice}
+use Rattle.flat_laws.proofs.Checks.{run-length, advance-ok}
+use Rattle.flat_laws.proofs.SameChecks.{same-run, same-fits, same-checks, same-reading, same-start}
+use Rattle.theory.proofs.Kept.{Fit}
+use Rattle.theory.proofs.Agreement.{levelled, due-same}
+use Rattle.theory.proofs.Fitting.{fits-run}
+use Rattle.theory.proofs.FlatCalls.{lifted, calls-self}
+
+-- ---- a model and its flat form
+
+module _ (file : Bytes) (m : Model) (e : accepted file ≡ ok m) (a : Accepted m) where
+  abbrev w : Sound m
+  w = a .sound
+
+  abbrev v : Sound (flat m)
+  v = flat-stays m a .sound
+
+  abbrev f : accepted (modelBytes (flat m)) ≡ ok (flat m)
+  f = flat-accepted m a
+
+  abbrev twice : flat (flat m) ≡ flat m
+  twice = flat-twice m a
+
+  start-same : (run : Bytes) → start file run ≡ start (modelBytes (flat m)) run
+  unfolding start
+  start-same run = rw (e, f, same-start m w)
+
+  -- both are advances of the flat step on the flat form
+  advance-same : (run : Bytes) (t : ℕ) (bag trace : Bytes) → advance file run t bag trace ≡ advance (modelBytes (flat m)) run t bag trace
+  unfolding advance
+  advance-same run t bag trace = rw (e, f, same-checks m w run t bag, same-run m w run) (go (advanceChecks m run t bag) refl)
+    where
+      rs : List Entry
+      rs = runOf m run .entries
+
+      o : ℕ
+      o = runOf m run .opening
+
+      go : (r : Result (Unit {0})) → advanceChecks m run t bag ≡ r
+          → advanced run trace (advanceChecks m run t bag >>= λ _. ok (advanceFrom (nested m) o rs (length trace) t (toBag bag)))
+          ≡ advanced run trace (advanceChecks m run t bag >>= λ _. ok (advanceFrom (nested (flat m)) o rs (length trace) t (toBag bag)))
+      go (refused n) h = rw h
+      go (ok u) h =
+          let c = advance-ok m run t bag h in
+          let ports = c .bag-ports in
+          let fit = subst (λ r. Fit (flat m) (r .opening) (r .entries)) (same-run m w run) (fits-run (flat m) run (same-fits m w run ∙ c .run-fits) .0 .0) in
+          rw h (ap (λ x. advanced run trace (ok x))
+          (lifted m w o rs (length trace) t (toBag bag) (fits-run m run (c .run-fits) .0 .0) (c .from-opening) ports
+          ∙ sym (lifted (flat m) v o rs (length trace) t (toBag bag) fit (c .from-opening) ports ∙ ap (λ k. advanceFrom (levelled k) o rs (length trace) t (toBag bag)) twice)))
+
+  next-same : (run : Bytes) → nextDue m (runOf m run .entries) ≡ nextDue (flat m) (runOf m run .entries)
+  next-same run =
+      let rs = runOf m run .entries in
+      due-same m w rs (run-length m run)
+      ∙ sym (due-same (flat m) v rs (ap (λ r. length (r .entries)) (sym (same-run m w run)) ∙ run-length (flat m) run) ∙ ap (λ k. flatDue k rs) twice)
+
+  reading-same : (run : Bytes) (position : ℕ) → reading file run position ≡ reading (modelBytes (flat m)) run position
+  unfolding reading
+  reading-same run position = rw (e, f, same-reading m w run position, same-run m w run, next-same run)
+
+  -- the engine does the same on both
+  engine-same : engine file ≡ engine (modelBytes (flat m))
+  unfolding engine
+  engine-same = λ i. record {
+    starts = λ run. start-same run i;
+    advances = λ run t bag trace. advance-same run t bag trace i;
+    reads = λ run position. reading-same run position i;
+  }
+
+-- ---- by what flattening writes
+
+flat-form : (file buffer : Bytes) (m : Model) → accepted file ≡ ok m → flatten file buffer .number ≡ 0 → flatForm file buffer ≡ modelBytes (flat m)
+unfolding flatForm flatten wrote stored
+flat-form file buffer m e h = rw e (go (ltb (length buffer) (length (modelBytes (flat m)))) refl)
+  where
+    b : Bytes
+    b = modelBytes (flat m)
+
+    go : (t : Bool) → ltb (length buffer) (length b) ≡ t → (let w = wrote buffer (ok b) in take (w .written) (w .buffer)) ≡ b
+    go true f = absurd (let k = rw (e, f) at h in omega arith)
+    go false f = rw f (take-at b (drop (length b) buffer) (length b) refl)
+
+flatten-accepts : (file buffer : Bytes) → flatten file buffer .number ≡ 0 → (m : Model) × (accepted file ≡ ok m)
+unfolding flatten wrote
+flatten-accepts file buffer h = go (accepted file) refl (accepted-positive file)
+  where
+    go : (r : Result Model) → accepted file ≡ r → Positive r → (m : Model) × (accepted file ≡ ok m)
+    go (ok m) e p = (m, e)
+    go (refused n) e p = absurd (let k : n ≡ 0 = rw e at h in omega arith)
+
+flat-alike : (file : Bytes) (m : Model) → AllBytes file → accepted file ≡ ok m → Alike file (modelBytes (flat m))
+unfolding checkModel
+flat-alike file m b e =
+    let a = accepted-sound file m b e in
+    let acc = flat-accepted m a in
+    let twice = flat-twice m a in
+    record {
+      accepts = rw acc;
+      itself = λ buffer h. flat-form (modelBytes (flat m)) buffer (flat m) acc h ∙ ap modelBytes twice;
+      calls-alike = λ run calls h. (
+        ap (λ k. runCalls k run calls) (engine-same file m e a),
+        calls-self (modelBytes (flat m)) (flat m) acc (flat-stays m a .sound) twice calls run h,
+      );
+    }
+
+pub demand3 : Demand3
+unfolding Demand3
+demand3 file buffer b h =
+    let m = flatten-accepts file buffer h in
+    subst (Alike file) (sym (flat-form file buffer (m .0) (m .1) h)) (flat-alike file (m .0) b (m .1))

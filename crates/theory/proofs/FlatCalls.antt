@@ -1,0 +1,141 @@
+-- On a model that is its own flat form the engine and the flat machine answer every list of calls alike, over every run buffer of bytes.
+-- Assumes nothing.
+use mathlib.Core.Path.{_≡_, refl, sym, ap, _∙_}
+use Prim.Native.Nat.{ℕ, suc, _≤_}
+use mathlib.Core.List.{List, [], _∷_, map}
+use mathlib.Core.Bool.{Bool, true, false, cond}
+use native.Mathlib.Omega.{arith}
+use lib.Dec.{ltb}
+use lib.ListN.{length}
+use Rattle.definition.specs.Lists.{all, concat}
+use Rattle.definition.specs.Bytes.{Bytes, AllBytes, none, Result, ok, refused, _>>=_, stored}
+use Rattle.definition.specs.Model.{Bag, Model}
+use Rattle.definition.specs.Records.{portFits}
+use Rattle.definition.specs.Routes.{accepted}
+use Rattle.definition.specs.SavedRun.{Entry, Run, entryBytes, runBytes, runOf, atomicCount}
+use Rattle.definition.specs.Step.{nested}
+use Rattle.definition.specs.Advance.{Progress, Ended, advanceFrom}
+use Rattle.definition.specs.Engine.{WasRead, Wrote, startRun, start, wrote, Advanced, advanceChecks, advanced, advance, toBag, reading}
+use Rattle.definition.specs.Flatten.{flat}
+use Rattle.definition.specs.FlatMachine.{inTurn, answered, flatAdvance, flatStart, flatReading}
+use Rattle.definition.specs.Calls.{advanceAnswer, readingAnswer, Call, startCall, advanceCall, readingCall, called, runCalls, engine, flatMachine}
+use Rattle.model_laws.proofs.Sound.{Sound}
+use Rattle.model_laws.proofs.Codec.{append-bytes, drop-bytes, number-bytes}
+use Rattle.model_laws.proofs.RunBack.{run-written}
+use Rattle.flat_laws.proofs.Checks.{run-length, advance-ok}
+use Rattle.theory.proofs.Lift.{advance-alike, ends-equal}
+use Rattle.theory.proofs.Kept.{Fit, BetweenSame}
+use Rattle.theory.proofs.Agreement.{levelled, due-same, agree-flat}
+use Rattle.theory.proofs.Fitting.{fits-run}
+use Rattle.theory.proofs.FlatStages.{toStage, answer, in-turn}
+
+-- An advance of the nest is one of the flat step on the flat form.
+pub lifted : (m : Model) (w : Sound m) (o : ℕ) (rs : List Entry) (room t : ℕ) (x : Bag) → Fit m o rs → o ≤ t → all portFits x ≡ true
+    → advanceFrom (nested m) o rs room t x ≡ advanceFrom (levelled (flat m)) o rs room t x
+lifted m w o rs room t x f l ports =
+    ends-equal {Between = BetweenSame m w} {t = t} _ _ (λ o rs qs z. z .0) (advance-alike (agree-flat m w) room t x x (refl, ports) o rs rs (refl, f) l)
+
+-- ---- the run buffer stays bytes
+
+stored-bytes : (a s : Bytes) → AllBytes a → AllBytes s → AllBytes (stored a s)
+unfolding stored
+stored-bytes a s h k = append-bytes h (drop-bytes (length a) k)
+
+entries-bytes : (es : List Entry) → AllBytes (concat (map entryBytes es))
+unfolding concat entryBytes
+entries-bytes [] = none
+entries-bytes (e ∷ es) = append-bytes (append-bytes (number-bytes 1 (e .phase)) (number-bytes 8 (e .last))) (entries-bytes es)
+
+run-bytes : (r : Run) → AllBytes (runBytes r)
+unfolding runBytes
+run-bytes r = append-bytes (append-bytes (number-bytes 8 (r .opening)) (number-bytes 2 (length (r .entries)))) (entries-bytes (r .entries))
+
+start-bytes : (file run : Bytes) → AllBytes run → AllBytes (start file run .buffer)
+unfolding start wrote
+start-bytes file run h = go (accepted file)
+  where
+    go : (r : Result Model) → AllBytes (wrote run (r >>= λ m. ok (runBytes (startRun m))) .buffer)
+    go (refused n) = h
+    go (ok m) = pick (ltb (length run) (length (runBytes (startRun m))))
+      where
+        pick : (b : Bool) → AllBytes (cond {A = Wrote} b (record { number = 15; written = 0; buffer = run }) (record { number = 0; written = length (runBytes (startRun m)); buffer = stored (runBytes (startRun m)) run }) .buffer)
+        pick true = h
+        pick false = stored-bytes (runBytes (startRun m)) run (run-bytes (startRun m)) h
+
+advance-bytes : (file run : Bytes) (t : ℕ) (bag trace : Bytes) → AllBytes run → AllBytes (advance file run t bag trace .run)
+unfolding advance advanced
+advance-bytes file run t bag trace h =
+    go (accepted file >>= λ m. advanceChecks m run t bag >>= λ _. ok (advanceFrom (nested m) (runOf m run .opening) (runOf m run .entries) (length trace) t (toBag bag)))
+  where
+    go : (r : Result (Ended (List Entry))) → AllBytes (advanced run trace r .run)
+    go (refused n) = h
+    go (ok a) = stored-bytes _ run (run-bytes _) h
+
+module _ (file : Bytes) (m : Model) (e : accepted file ≡ ok m) (w : Sound m) (self : flat m ≡ m) where
+  -- ---- one call
+
+  module _ (run : Bytes) (t : ℕ) (bag trace : Bytes) (b : AllBytes run) (h : advanceChecks m run t bag ≡ ok tt) where
+    abbrev first : Progress (List Entry)
+    first = record { opening = runOf m run .opening; state = runOf m run .entries; instants = 0; steps = 0; trace = [] }
+
+    -- the lent buffers are the first stage
+    first-stage : toStage m w self run trace first ≡ record { state = run; trace = trace; instants = 0; steps = 0; used = 0 }
+    unfolding toStage stored runOf
+    first-stage =
+        let f = fits-run m run (advance-ok m run t bag h .run-fits) in
+        λ i. record { state = run-written (atomicCount m) (f .1) (f .2) b i; trace = trace; instants = 0; steps = 0; used = 0 }
+
+    own-loops : inTurn (suc t) m t (toBag bag) (record { state = run; trace = trace; instants = 0; steps = 0; used = 0 })
+        ≡ answer m w self run trace (advanceFrom (nested m) (runOf m run .opening) (runOf m run .entries) (length trace) t (toBag bag))
+    unfolding advanceFrom
+    own-loops =
+        let c = advance-ok m run t bag h in
+        let ports = c .bag-ports in
+        let f = fits-run m run (c .run-fits) .0 .0 in
+        ap (inTurn (suc t) m t (toBag bag)) (sym first-stage)
+        ∙ in-turn m w self run trace t (c .low-moment) (toBag bag) ports (suc t) first (f, c .from-opening, omega arith)
+        ∙ ap (answer m w self run trace) (sym (lifted m w (runOf m run .opening) (runOf m run .entries) (length trace) t (toBag bag) f (c .from-opening) ports
+        ∙ ap (λ k. advanceFrom (levelled k) (runOf m run .opening) (runOf m run .entries) (length trace) t (toBag bag)) self))
+
+  answers : (run trace : Bytes) (a : Ended (List Entry)) → answered run trace (ok (answer m w self run trace a)) ≡ advanced run trace (ok a)
+  unfolding answered advanced toStage
+  answers run trace a = refl
+
+  advance-self : (run : Bytes) (t : ℕ) (bag trace : Bytes) → AllBytes run → advance file run t bag trace ≡ flatAdvance file run t bag trace
+  unfolding advance flatAdvance
+  advance-self run t bag trace b = rw e (go (advanceChecks m run t bag) refl)
+    where
+      go : (r : Result (Unit {0})) → advanceChecks m run t bag ≡ r
+          → advanced run trace (advanceChecks m run t bag >>= λ _. ok (advanceFrom (nested m) (runOf m run .opening) (runOf m run .entries) (length trace) t (toBag bag)))
+          ≡ answered run trace (advanceChecks m run t bag >>= λ _. ok (inTurn (suc t) m t (toBag bag) (record { state = run; trace = trace; instants = 0; steps = 0; used = 0 })))
+      go (refused n) h = rw h (unfold answered advanced in refl)
+      go (ok u) h = rw (h, own-loops run t bag trace b h) (sym (answers run trace _))
+
+  reading-self : (run : Bytes) (position : ℕ) → reading file run position ≡ flatReading file run position
+  unfolding reading flatReading
+  reading-self run position = rw (e, due-same m w (runOf m run .entries) (run-length m run), self)
+
+  called-self : (run : Bytes) (c : Call) → AllBytes run → called (engine file) run c ≡ called (flatMachine file) run c
+  unfolding called engine flatMachine
+  called-self run startCall h = unfold start flatStart in refl
+  called-self run (advanceCall c) h =
+      ap (λ (r : Advanced). (advanceAnswer (r .number) (r .instants) (r .steps) (r .used) (r .trace), r .run)) (advance-self run (c .moment) (c .bag) (c .trace) h)
+  called-self run (readingCall position) h =
+      ap (λ (r : WasRead). (readingAnswer (r .number) (r .phase) (r .last) (r .due), run)) (reading-self run position)
+
+  call-bytes : (run : Bytes) (c : Call) → AllBytes run → AllBytes (called (engine file) run c .1)
+  unfolding called engine
+  call-bytes run startCall h = start-bytes file run h
+  call-bytes run (advanceCall c) h = advance-bytes file run (c .moment) (c .bag) (c .trace) h
+  call-bytes run (readingCall position) h = h
+
+  -- ---- every list of calls
+
+  pub calls-self : (calls : List Call) (run : Bytes) → AllBytes run → runCalls (engine file) run calls ≡ runCalls (flatMachine file) run calls
+  unfolding runCalls
+  calls-self [] run h = refl
+  calls-self (c ∷ cs) run h =
+      let q = called-self run c h in
+      let rest : runCalls (engine file) (called (engine file) run c .1) cs ≡ runCalls (flatMachine file) (called (flatMachine file) run c .1) cs
+      = calls-self cs (called (engine file) run c .1) (call-bytes run c h) ∙ ap (λ s. runCalls (flatMachine file) s cs) (ap (λ r. r .1) q) in
+      λ i. (q i .0 ∷ rest i .0, rest i .1)

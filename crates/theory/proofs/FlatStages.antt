@@ -1,0 +1,252 @@
+-- The flat machine's own advance, on a model that is its own flat form, ends with the buffers that the generic advance of its step describes:
+-- its stage is at every turn the progress written into the lent buffers. Assumes nothing.
+use mathlib.Core.Path.{_≡_, refl, sym, ap, ap₂, _∙_, subst}
+use Prim.Native.Nat.{ℕ, zero, suc, _+_, _≤_}
+use mathlib.Core.List.{List, [], _∷_, _++_}
+use mathlib.Core.Bool.{Bool, true, false, not, cond}
+use native.Mathlib.Omega.{arith}
+use lib.Dec.{leb, ltb}
+use lib.ListN.{length, take, drop, length-append, length-drop}
+use borrow.Author.Tests.{ltb-false}
+use lib.Seq.{take-at, drop-at, drop-append-add, drop-drop}
+use Rattle.definition.specs.Lists.{all, isEmpty}
+use Rattle.definition.specs.Bytes.{Bytes, Result, ok, refused, refuseIf, _>>=_, stored}
+use Rattle.definition.specs.Limits.{maxMoment, maxSteps, maxRootBag}
+use Rattle.definition.specs.Model.{Bag, Model, atomics}
+use Rattle.definition.specs.Records.{portFits}
+use Rattle.definition.specs.Devs.{Time, finite, never}
+use Rattle.definition.specs.SavedRun.{Entry, Run, runLength, runBytes, notBefore, nextDue}
+use Rattle.definition.specs.Step.{nested}
+use Rattle.definition.specs.Instant.{Instant, done, jammed, instant, over, records}
+use Rattle.definition.specs.Advance.{Progress, Ended, ended, tried, continued, succeeded, isBefore, moment, advancing}
+use Rattle.definition.specs.Flatten.{flat}
+use Rattle.definition.specs.FlatMachine.{anyDue, takeSteps, flatDue, Stage, entriesIn, standing, judged, attempt, openedPast, goOn, dueBefore, dueMoment, inTurn}
+use Rattle.model_laws.proofs.Sound.{Sound}
+use Rattle.model_laws.proofs.RunBack.{length-run}
+use Rattle.nest_laws.proofs.Pairs.{pairs-length}
+use Rattle.theory.proofs.Lift.{before-t, not-before-t, Agree, AlikeAfter, tried-alike, instant-same}
+use Rattle.theory.proofs.Kept.{Kept, Fit, AtSame, BetweenSame, fit-opens, fit-early}
+use Rattle.theory.proofs.Agreement.{levelled, OnPorts}
+use Rattle.theory.proofs.FlatLoops.{settled, agree-self, no-ports, settles, kept-steps}
+use Rattle.theory.proofs.Fitting.{fit-written}
+
+-- ---- buffers
+
+stored-again : (a b s : Bytes) → length a ≡ length b → stored a (stored b s) ≡ stored a s
+unfolding stored
+stored-again a b s e = ap (λ k. a ++ drop k (b ++ drop (length b) s)) e ∙ ap (λ z. a ++ z) (drop-at b (drop (length b) s) (length b) refl ∙ ap (λ k. drop k s) (sym e))
+
+-- records written on behind those that stand
+written-on : (a r s : Bytes) → take (length a) (stored a s) ++ r ++ drop (length a + length r) (stored a s) ≡ stored (a ++ r) s
+unfolding stored
+written-on a r s =
+    ap₂ (λ x y. x ++ r ++ y) (take-at a (drop (length a) s) (length a) refl)
+    (drop-append-add a (drop (length a) s) (length r) ∙ drop-drop (length r) (length a) s ∙ ap (λ k. drop k s) (sym (length-append a r)))
+
+-- the next moment, by the flat machine's own names
+same-before : (u : Time) (t : ℕ) → dueBefore u t ≡ isBefore u t
+unfolding dueBefore isBefore
+same-before (finite a) t = refl
+same-before never t = refl
+
+same-moment : (u : Time) → dueMoment u ≡ moment u
+unfolding dueMoment moment
+same-moment (finite a) = refl
+same-moment never = refl
+
+module _ (m : Model) (w : Sound m) (self : flat m ≡ m) (run₀ trace₀ : Bytes) where
+  -- ---- the stage that a progress stands for
+
+  abbrev runIn : Progress (List Entry) → Run
+  runIn p = record { opening = p .opening; entries = p .state }
+
+  unfoldable pub toStage : Progress (List Entry) → Stage
+  toStage p = record {
+    state = stored (runBytes (runIn p)) run₀;
+    trace = stored (p .trace) trace₀;
+    instants = p .instants;
+    steps = p .steps;
+    used = length (p .trace);
+  }
+
+  abbrev staged : Result (Progress (List Entry)) → Result Stage
+  staged (ok p) = ok (toStage p)
+  staged (refused n) = refused n
+
+  abbrev pub answer : Ended (List Entry) → ℕ × Stage
+  answer a = (a .number, toStage (a .progress))
+
+  same-run-length : (r q : Run) → length (r .entries) ≡ length (q .entries) → length (runBytes r) ≡ length (runBytes q)
+  same-run-length r q e = length-run r ∙ ap runLength e ∙ sym (length-run q)
+
+  abbrev room : ℕ
+  room = length trace₀
+
+  -- the lent trace keeps its length
+  same-room : (p : Progress (List Entry)) → length (p .trace) ≤ room → length (stored (p .trace) trace₀) ≡ room
+  unfolding stored
+  same-room p l = length-append (p .trace) (drop (length (p .trace)) trace₀) ∙ omega (arith, length-drop (length (p .trace)) trace₀)
+
+  -- ---- the verdict
+
+  judged-tried : (now : ℕ) (p : Progress (List Entry)) (c : List Bag × List Entry) → length (c .1) ≡ length (p .state) → length (p .trace) ≤ room
+      → judged m now (toStage p) c ≡ staged (tried room now p (settled (anyDue m now (atomics (m .components)) (c .1)) c))
+  unfolding judged tried settled toStage isEmpty over
+  judged-tried now p c e l = rw (same-room p l) (go (anyDue m now (atomics (m .components)) (c .1)) (c .0))
+    where
+      go : (b : Bool) (xs : List Bag)
+          → (let d : List Bag × List Entry = (xs, c .1) in
+          cond b (refused 13) (cond (isEmpty xs) (ok (toStage p)) (cond (not (all (λ x. leb (length x) maxRootBag) xs)) (refused 14)
+          (cond (ltb room (length (p .trace) + length (records now xs))) (refused 15) (ok (standing now (toStage p) d)))))
+          ≡ staged (tried room now p (cond b jammed (done xs (c .1)))))
+      go true xs = refl
+      go false [] = refl
+      go false (x ∷ xs) = rw (length-append (p .trace) (records now (x ∷ xs))) (ends (over (x ∷ xs)) (ltb room (length (p .trace) + length (records now (x ∷ xs)))))
+        where
+          new : Progress (List Entry)
+          new = record {
+            opening = suc now;
+            state = c .1;
+            instants = suc (p .instants);
+            steps = p .steps + length (x ∷ xs);
+            trace = p .trace ++ records now (x ∷ xs);
+          }
+
+          same : standing now (toStage p) (x ∷ xs, c .1) ≡ toStage new
+          same = unfold standing in (λ i. record {
+            state = stored-again (runBytes (runIn new)) (runBytes (runIn p)) run₀ (same-run-length (runIn new) (runIn p) e) i;
+            trace = written-on (p .trace) (records now (x ∷ xs)) trace₀ i;
+            instants = suc (p .instants);
+            steps = p .steps + length (x ∷ xs);
+            used = sym (length-append (p .trace) (records now (x ∷ xs))) i;
+          })
+
+          ends : (a b : Bool) → cond a (refused 14) (cond b (refused 15) (ok (standing now (toStage p) (x ∷ xs, c .1)))) ≡ staged (refuseIf a 14 >>= λ _. refuseIf b 15 >>= λ _. ok new)
+          ends true b = refl
+          ends false true = refl
+          ends false false = ap ok same
+
+  -- ---- what stands between instants
+
+  module _ (t : ℕ) (last : t ≤ maxMoment) where
+    abbrev pub Sits : ℕ → Progress (List Entry) → Type 0
+    Sits now p = Fit m (p .opening) (p .state) × (p .opening ≤ now) × (length (p .trace) ≤ room)
+
+    abbrev SitsAfter : ℕ → Result (Progress (List Entry)) → Type 0
+    SitsAfter now (ok p) = Sits now p
+    SitsAfter now (refused n) = Unit {0}
+
+    entries-in : (p : Progress (List Entry)) → Sits (suc t) p → entriesIn m (toStage p) ≡ p .state
+    unfolding entriesIn toStage stored
+    entries-in p h = ap (λ r. r .entries) (fit-written m w (runIn p) _ (h .0, omega (arith, h .1)) .1)
+
+    abbrev InRoom : Result (Progress (List Entry)) → Type 0
+    InRoom (ok p) = length (p .trace) ≤ room
+    InRoom (refused n) = Unit {0}
+
+    in-room : (now : ℕ) (p : Progress (List Entry)) (i : Instant (List Entry)) → length (p .trace) ≤ room → InRoom (tried room now p i)
+    unfolding tried
+    in-room now p jammed l = tt
+    in-room now p (done [] s) l = l
+    in-room now p (done (x ∷ xs) s) l = go (over (x ∷ xs)) (ltb room (length (p .trace ++ records now (x ∷ xs)))) refl
+      where
+        go : (b c : Bool) → ltb room (length (p .trace ++ records now (x ∷ xs))) ≡ c
+            → InRoom (refuseIf b 14 >>= λ _. refuseIf c 15 >>= λ _. ok (record {
+              opening = suc now;
+              state = s;
+              instants = suc (p .instants);
+              steps = p .steps + length (x ∷ xs);
+              trace = p .trace ++ records now (x ∷ xs);
+            }))
+        go true c e = tt
+        go false true e = tt
+        go false false e = ltb-false room _ e
+
+    module _ (now : ℕ) (y : Bag) (p : Progress (List Entry)) (ports : all portFits y ≡ true) (h : Sits (suc t) p) (o : p .opening ≤ now) (kept : Kept m now (p .state)) where
+      -- the progress with the instant at `now`, or its number
+      abbrev verdict : Result (Progress (List Entry))
+      verdict = tried room now p (instant (levelled m) now y (p .state))
+
+      attempted : attempt m now y (toStage p) ≡ staged verdict
+      unfolding attempt
+      attempted =
+          let L = atomics (m .components) in
+          let c = takeSteps m now maxSteps y (p .state) in
+          ap (λ rs. judged m now (toStage p) (takeSteps m now maxSteps y rs)) (entries-in p h)
+          ∙ judged-tried now p c (pairs-length _ L (c .1) (kept-steps m w self maxSteps now y (p .state) ports kept .0) ∙ sym (pairs-length _ L (p .state) (kept .0))) (h .2)
+          ∙ ap (λ i. staged (tried room now p i)) (sym (settles m w self now y (p .state) ports kept))
+
+      sits-on : SitsAfter (suc now) verdict
+      sits-on =
+          go (tried room now p (instant (nested m) now y (p .state))) verdict
+          (tried-alike k room now p p (instant (nested m) now y (p .state)) (instant (levelled m) now y (p .state))
+          (record { opening = refl; state = (refl, h .0); instants = refl; steps = refl; trace = refl }) o (instant-same k now y y (p .state) (p .state) (refl, kept) (refl, ports)))
+          (in-room now p (instant (levelled m) now y (p .state)) (h .2))
+        where
+          k : Agree (AtSame m w) (BetweenSame m w) OnPorts (nested m) (levelled m)
+          k = agree-self m w self
+
+          go : (r₁ r₂ : Result (Progress (List Entry))) → AlikeAfter k now r₁ r₂ → InRoom r₂ → SitsAfter (suc now) r₂
+          go (ok p₁) (ok p₂) h l = (
+            subst (λ n. Fit m n (p₂ .state)) (h .0 .opening) (subst (Fit m (p₁ .opening)) (h .0 .state .0) (h .0 .state .1)),
+            omega (arith, h .0 .opening, h .1),
+            l,
+          )
+          go (ok p₁) (refused n) h l = tt
+          go (refused n) (ok p₂) h l = absurd h
+          go (refused n) (refused j) h l = tt
+
+    -- ---- the instants in turn
+
+    goes-on : (n : ℕ) (f : Stage → ℕ × Stage) (g : Progress (List Entry) → Ended (List Entry)) (p : Progress (List Entry)) (r : Result (Progress (List Entry))) → SitsAfter n r
+        → ((q : Progress (List Entry)) → Sits n q → f (toStage q) ≡ answer (g q)) → goOn f (toStage p) (staged r) ≡ answer (continued g p r)
+    unfolding goOn continued ended
+    goes-on n f g p (refused j) h e = refl
+    goes-on n f g p (ok q) h e = e q h
+
+    opened-past : (q : Progress (List Entry)) → Sits (suc t) q → (0, openedPast m t (toStage q)) ≡ answer (succeeded t q)
+    unfolding openedPast succeeded ended toStage
+    opened-past q h = λ i. (
+      0,
+      record {
+        state = (ap (λ es. stored (runBytes (record { opening = suc t; entries = es })) (toStage q .state)) (entries-in q h) ∙ again) i;
+        trace = toStage q .trace;
+        instants = q .instants;
+        steps = q .steps;
+        used = length (q .trace);
+      },
+    )
+      where
+        again : stored (runBytes (record { opening = suc t; entries = q .state })) (toStage q .state) ≡ stored (runBytes (record { opening = suc t; entries = q .state })) run₀
+        again = unfold toStage in (stored-again _ (runBytes (runIn q)) run₀ (same-run-length (record { opening = suc t; entries = q .state }) (runIn q) refl))
+
+    module _ (x : Bag) (ports : all portFits x ≡ true) where
+      pub in-turn : (n : ℕ) (p : Progress (List Entry)) → Sits t p → inTurn n m t x (toStage p) ≡ answer (advancing (levelled m) n room t x p)
+      unfolding inTurn advancing ended
+      in-turn zero p h = refl
+      in-turn (suc n) p h =
+          rw (entries-in p wide, same-before (flatDue m (p .state)) t, same-moment (flatDue m (p .state))) (go (isBefore u t) refl (λ q k. in-turn n q k))
+        where
+          u : Time
+          u = flatDue m (p .state)
+
+          wide : Sits (suc t) p
+          wide = (h .0, omega (arith, h .1), h .2)
+
+          next : nextDue m (p .state) ≡ u
+          next = agree-self m w self .same-next (p .opening) (p .state) (p .state) (refl, fit-opens m w (p .opening) (p .opening) (p .state) (h .0) (omega arith) (fit-early m w (p .opening) (p .state) (h .0)))
+
+          go : (b : Bool) → isBefore u t ≡ b → ((q : Progress (List Entry)) → Sits t q → inTurn n m t x (toStage q) ≡ answer (advancing (levelled m) n room t x q))
+              → cond b (goOn (λ h. inTurn n m t x h) (toStage p) (attempt m (moment u) [] (toStage p))) (goOn (λ h. (0, openedPast m t h)) (toStage p) (attempt m t x (toStage p)))
+              ≡ answer (cond b (continued (λ q. advancing (levelled m) n room t x q) p (tried room (moment u) p (instant (levelled m) (moment u) [] (p .state))))
+              (continued (succeeded t) p (tried room t p (instant (levelled m) t x (p .state)))))
+          go true e ih =
+              let b = before-t t (p .opening) u (ap (notBefore (p .opening)) (sym next) ∙ fit-early m w (p .opening) (p .state) (h .0)) e in
+              let kept = fit-opens m w (p .opening) (moment u) (p .state) (h .0) (b .0) (ap (notBefore (moment u)) next ∙ b .2) in
+              ap (goOn (λ h. inTurn n m t x h) (toStage p)) (attempted (moment u) [] p no-ports wide (b .0) kept)
+              ∙ goes-on (suc (moment u)) _ _ p (verdict (moment u) [] p no-ports wide (b .0) kept) (sits-on (moment u) [] p no-ports wide (b .0) kept)
+              (λ q k. ih q (k .0, omega (arith, k .1, b .1), k .2))
+          go false e ih =
+              let kept = fit-opens m w (p .opening) t (p .state) (h .0) (h .1) (ap (notBefore t) next ∙ not-before-t t u e) in
+              ap (goOn (λ h. (0, openedPast m t h)) (toStage p)) (attempted t x p ports wide (h .1) kept)
+              ∙ goes-on (suc t) _ _ p (verdict t x p ports wide (h .1) kept) (sits-on t x p ports wide (h .1) kept) opened-past

@@ -1,0 +1,1 @@
+// The proofs of the demands stand in proofs/: this crate has no code.
