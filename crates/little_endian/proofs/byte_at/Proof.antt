@@ -1,0 +1,31 @@
+-- `little_endian::byte_at` meets its contract. A one-byte number is the element at its place, and past the end both are 0 (number-one).
+-- Assumes nothing.
+use borrow.Author.Needs.{needs}
+use native.Mathlib.Omega.{arith}
+use Rattle.byte_laws.proofs.Rows.{number-one}
+use lib.ListN.{List·getD-eq-default}
+use denote.Ref.{now}
+use mathlib.Core.Path.{sym, _∙_}
+use Rattle.little_endian.proofs.byte_at.Statement.{statement}
+use Rattle.little_endian.proofs.byte_at.Tie as tie
+use Rattle.little_endian.proofs.byte_at.Reads as reads
+use Rattle.little_endian.proofs.byte_at.Lts as lts
+
+-- src/lib.rt:22:23
+shared-slice-read-result : tie.Need-shared-slice-read-result
+shared-slice-read-result c = search needs
+
+-- src/lib.rt:19:1
+returns : tie.Need-returns
+returns c =
+    let a = c .before .before .args in
+    sym (number-one (a .at) (now (a .s)))
+
+-- src/lib.rt:19:1
+returns-2 : tie.Need-returns-2
+returns-2 c =
+    let a = c .before .args in
+    sym (number-one (a .at) (now (a .s)) ∙ List·getD-eq-default (now (a .s)) 0 (c .if1 .left))
+
+pub byte-at-spec : {M : Type 1} → statement M
+byte-at-spec = tie.close (tie.spec shared-slice-read-result returns returns-2)

@@ -1,0 +1,89 @@
+-- `little_endian::number_of` meets its contract. Invariant: v is the number in the bytes from k on. One byte more in front is number-back;
+-- with no byte left to take it is the whole number. v fits, since at most 7 bytes are held before the last is added (number-fits). Assumes
+-- nothing.
+use borrow.Author.Needs.{needs}
+use native.Mathlib.Omega.{arith}
+use Prim.Native.Nat.{ℕ, _≤_, _<_, _*_, _+_, _-_}
+use mathlib.Core.Path.{_≡_, _∙_, sym}
+use denote.Ref.{now}
+use native.Mathlib.Nat.{sub-zero}
+use Rattle.definition.specs.Bytes.{number}
+use Rattle.byte_laws.proofs.Rows.{number-none, number-fits, number-back}
+use Rattle.little_endian.proofs.number_of.Statement.{statement}
+use Rattle.little_endian.proofs.number_of.Tie as tie
+use Rattle.little_endian.proofs.number_of.Reads as reads
+use Rattle.little_endian.proofs.number_of.Lts as lts
+use Rattle.little_endian.proofs.byte_at.Reads as byte-at-reads
+use Rattle.little_endian.proofs.wide.Reads as wide-reads
+
+abbrev Inv-loop : tie.InvT-loop
+Inv-loop s n k₀ v₀ k v = (k ≤ n) × (v ≡ number (n - k) k s)
+
+abbrev μ-loop : tie.MeasureT-loop
+μ-loop s n k₀ v₀ k v = k
+
+-- src/lib.rt:54:5
+loop-holds : tie.Need-loop-holds Inv-loop μ-loop
+loop-holds c =
+    let a = c .before .args in
+    let e : a .n - a .n ≡ 0 = omega arith in
+    (omega arith, rw e (sym (number-none (a .n) (now (a .s)))))
+
+-- src/lib.rt:55:13
+sub-k : tie.Need-sub-k Inv-loop μ-loop
+sub-k c = search needs
+
+-- src/lib.rt:56:13
+mul-v : tie.Need-mul-v Inv-loop μ-loop
+mul-v c =
+    let a = c .before .before .before .args in
+    let k = c .before .loop .k in
+    omega (arith, number-fits 7 {w = a .n - k} (omega arith) k (now (a .s)) (λ i. c .before .before .shared-slice-known .given i .fits))
+
+-- src/lib.rt:56:28
+byte-at-requires : tie.Need-byte-at-requires Inv-loop μ-loop
+byte-at-requires c κs = search needs
+
+-- src/lib.rt:56:23
+wide-requires : tie.Need-wide-requires Inv-loop μ-loop
+wide-requires c κs = search needs
+
+-- src/lib.rt:56:13
+add-v : tie.Need-add-v Inv-loop μ-loop
+add-v c =
+    let a = c .before .before .before .before .before .args in
+    let k = c .before .before .before .loop .k in
+    omega (arith, number-fits 7 {w = a .n - k} (omega arith) k (now (a .s)) (λ i. c .before .before .before .before .shared-slice-known .given i .fits))
+
+-- src/lib.rt:54:5
+loop-less : tie.Need-loop-less Inv-loop μ-loop
+loop-less c = search needs
+
+-- src/lib.rt:54:5
+loop-again : tie.Need-loop-again Inv-loop μ-loop
+loop-again c =
+    let a = c .before .before .before .before .before .args in
+    let k = c .before .before .before .loop .k in
+    (omega arith, omega (arith, number-back (a .n) k (now (a .s)) (omega arith) (omega arith)))
+
+-- src/lib.rt:48:1
+returns : tie.Need-returns Inv-loop μ-loop
+returns c =
+    let z : c .before .loop .k ≡ 0 = omega arith in
+    c .before .loop .inv .1 ∙ rw (z, sub-zero)
+
+pub number-of-spec : {M : Type 1} → statement M
+number-of-spec =
+    tie.close
+    (tie.spec
+    Inv-loop
+    μ-loop
+    loop-holds
+    sub-k
+    mul-v
+    byte-at-requires
+    wide-requires
+    add-v
+    loop-less
+    loop-again
+    returns)

@@ -1,0 +1,82 @@
+-- `little_endian::put_number` meets its contract. Invariant: storing what is left of the number from here on gives what storing all of it
+-- from the first place gives. One byte more is sets-more. Assumes nothing.
+use borrow.Author.Needs.{needs}
+use native.Mathlib.Omega.{arith}
+use Prim.Native.Nat.{_≤_, _+_, _-_}
+use mathlib.Core.Path.{_≡_, _∙_, refl}
+use native.Mathlib.Nat.{sub-zero, add-zero}
+use lib.ListN.{length, length-set}
+use lib.Seq.{sets}
+use Rattle.definition.specs.Bytes.{bytesOf}
+use Rattle.byte_laws.proofs.Rows.{sets-more, bytes-none}
+use Rattle.little_endian.proofs.put_number.Statement.{statement}
+use Rattle.little_endian.proofs.put_number.Tie as tie
+use Rattle.little_endian.proofs.put_number.Reads as reads
+use Rattle.little_endian.proofs.put_number.Lts as lts
+
+abbrev Inv-loop : tie.InvT-loop
+Inv-loop out₀ at n v k₀ w₀ out k w = (k ≤ n) × (length out ≡ length out₀) × (sets out (at + k) (bytesOf (n - k) w) ≡ sets out₀ at (bytesOf n v))
+
+abbrev μ-loop : tie.MeasureT-loop
+μ-loop out₀ at n v k₀ w₀ out k w = n - k
+
+-- src/lib.rt:89:5
+loop-holds : tie.Need-loop-holds Inv-loop μ-loop
+loop-holds c =
+    (omega arith, refl, rw (sub-zero, add-zero))
+
+-- src/lib.rt:90:23
+cast-out : tie.Need-cast-out Inv-loop μ-loop
+cast-out c = search needs
+
+-- src/lib.rt:90:13
+add-out : tie.Need-add-out Inv-loop μ-loop
+add-out c = search needs
+
+-- src/lib.rt:90:9
+slice-write-out : tie.Need-slice-write-out Inv-loop μ-loop
+slice-write-out c = search needs
+
+-- src/lib.rt:92:13
+add-k : tie.Need-add-k Inv-loop μ-loop
+add-k c = search needs
+
+-- src/lib.rt:89:5
+loop-less : tie.Need-loop-less Inv-loop μ-loop
+loop-less c = search needs
+
+-- src/lib.rt:89:5
+loop-again : tie.Need-loop-again Inv-loop μ-loop
+loop-again c =
+    let a = c .before .before .args in
+    let l = c .before .loop in
+    (omega arith, simp length-set (l .inv .1), sets-more (a .n) (l .k) (l .w) (l .out) (a .at) (omega arith) ∙ l .inv .2)
+
+-- src/lib.rt:83:1
+same-length : tie.Need-same-length Inv-loop μ-loop
+same-length c =
+    c .before .loop .inv .1
+
+-- src/lib.rt:83:1
+returns : tie.Need-returns Inv-loop μ-loop
+returns c =
+    let a = c .before .before .args in
+    let l = c .before .loop in
+    let z : a .n - l .k ≡ 0 = omega arith in
+    rw (z, bytes-none) at (l .inv .2)
+
+pub put-number-spec : {M : Type 1} → statement M
+put-number-spec =
+    tie.close
+    (tie.spec
+    Inv-loop
+    μ-loop
+    loop-holds
+    cast-out
+    add-out
+    slice-write-out
+    add-k
+    loop-less
+    loop-again
+    same-length
+    returns)

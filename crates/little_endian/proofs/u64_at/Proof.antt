@@ -1,0 +1,31 @@
+-- `little_endian::u64_at` meets its contract. The number at the front of the rest is the number at the position (number-drop). Assumes
+-- nothing.
+use borrow.Author.Needs.{needs}
+use native.Mathlib.Omega.{arith}
+use mathlib.Core.Path.{_∙_, ap}
+use denote.Ref.{now}
+use Rattle.definition.specs.Bytes.{number}
+use Rattle.byte_laws.proofs.Rows.{number-drop}
+use Rattle.little_endian.proofs.u64_at.Statement.{statement}
+use Rattle.little_endian.proofs.u64_at.Tie as tie
+use Rattle.little_endian.proofs.u64_at.Reads as reads
+use Rattle.little_endian.proofs.u64_at.Lts as lts
+use Rattle.little_endian.proofs.number_of.Reads as number-of-reads
+use Rattle.little_endian.proofs.rest.Reads as rest-reads
+
+-- src/lib.rt:78:9
+rest-requires : tie.Need-rest-requires
+rest-requires c κs = search needs
+
+-- src/lib.rt:79:5
+number-of-requires : tie.Need-number-of-requires
+number-of-requires c κs = search needs
+
+-- src/lib.rt:75:1
+returns : tie.Need-returns
+returns c =
+    let a = c .before .before .before .args in
+    c .number-of .ensures ∙ ap (number 8 0) (c .before .rest .ensures) ∙ number-drop 8 (a .at) (now (a .s))
+
+pub u64-at-spec : {M : Type 1} → statement M
+u64-at-spec = tie.close (tie.spec rest-requires number-of-requires returns)

@@ -1,0 +1,94 @@
+// Little-endian numbers in slices of bytes, and parts of slices; a byte past the end reads as 0, so that no reader asks anything.
+ghost use mathlib.Core.Path.{_≡_};
+ghost use Prim.Native.Nat.{_+_, _≤_};
+ghost use lib.ListN.{length, drop, take};
+ghost use lib.Seq.{sets};
+ghost use Rattle.definition.specs.Bytes.{number, bytesOf};
+
+// A byte, and a two-byte number, as a position.
+pub fn size(x: u8) -> usize
+    ensures { λ r. ⌜ r ≡ x ⌝ }
+{
+    x as usize
+}
+
+pub fn size16(x: u16) -> usize
+    ensures { λ r. ⌜ r ≡ x ⌝ }
+{
+    x as usize
+}
+
+fn wide(x: u8) -> u64
+    ensures { λ r. ⌜ r ≡ x ⌝ }
+{
+    x as u64
+}
+
+// The rest of a slice from a position on; nothing past the end.
+pub fn rest<'a>(s: &'a [u8], at: usize) -> &'a [u8]
+    ensures { λ r. ⌜ now r ≡ drop at (now (s .entry)) ⌝ }
+{
+    if at <= s.len() { &s[at..] } else { &s[..0] }
+}
+
+// The first n bytes of a slice, all of it where it is shorter.
+pub fn front<'a>(s: &'a [u8], n: usize) -> &'a [u8]
+    ensures { λ r. ⌜ now r ≡ take n (now (s .entry)) ⌝ }
+{
+    if n <= s.len() { &s[..n] } else { &s[..] }
+}
+
+pub fn byte_at(s: &[u8], at: usize) -> u8
+    ensures { λ r. ⌜ r ≡ number 1 at (now (s .entry)) ⌝ }
+{
+    if at < s.len() { s[at] } else { 0 }
+}
+
+// The number in the first n bytes, n at most 8.
+fn number_of(s: &[u8], n: usize) -> u64
+    requires { ⌜ n ≤ 8 ⌝ }
+    ensures { λ r. ⌜ r ≡ number n 0 (now (s .entry)) ⌝ }
+{
+    let mut k = n;
+    let mut v: u64 = 0;
+    while 0 < k {
+        k = k - 1;
+        v = v * 256 + wide(byte_at(s, k));
+    }
+    v
+}
+
+pub fn u16_at(s: &[u8], at: usize) -> u16
+    ensures { λ r. ⌜ r ≡ number 2 at (now (s .entry)) ⌝ }
+{
+    let t = rest(s, at);
+    number_of(t, 2) as u16
+}
+
+pub fn u32_at(s: &[u8], at: usize) -> u32
+    ensures { λ r. ⌜ r ≡ number 4 at (now (s .entry)) ⌝ }
+{
+    let t = rest(s, at);
+    number_of(t, 4) as u32
+}
+
+pub fn u64_at(s: &[u8], at: usize) -> u64
+    ensures { λ r. ⌜ r ≡ number 8 at (now (s .entry)) ⌝ }
+{
+    let t = rest(s, at);
+    number_of(t, 8)
+}
+
+// The low n bytes of v at `at`.
+pub fn put_number(out: &mut [u8], at: usize, n: usize, v: u64)
+    requires { ⌜ at + n ≤ length (now out) ⌝ }
+    ensures { λ _. ⌜ now (out .exit) ≡ sets (now (out .entry)) at (bytesOf n v) ⌝ }
+{
+    let mut k: usize = 0;
+    let mut w = v;
+    while k < n {
+        out[at + k] = (w % 256) as u8;
+        w = w / 256;
+        k = k + 1;
+    }
+}
