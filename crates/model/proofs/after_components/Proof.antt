@@ -1,0 +1,16 @@
+-- `model::after_components` meets its contract. The definition's own line, by what `section_rest` gives. Assumes nothing.
+use borrow.Author.Needs.{needs}
+use Rattle.model.specs.Checked.{afterComponents}
+use Rattle.model.proofs.after_components.Statement.{statement}
+use Rattle.model.proofs.after_components.Tie as tie
+
+section-rest-requires : tie.Need-section-rest-requires
+section-rest-requires c κs = search needs
+
+returns : tie.Need-returns
+unfolding afterComponents
+returns c =
+    c .section-rest .ensures
+
+pub after-components-spec : {M : Type 1} → statement M
+after-components-spec = tie.close (tie.spec section-rest-requires returns)

@@ -1,0 +1,115 @@
+// Reading a model file down to its end, and the parts of an accepted file that later calls read: four slices, one for each section,
+// that hold exactly the records.
+ghost use mathlib.Core.Path.{_≡_};
+ghost use Rattle.definition.specs.File.{decode};
+ghost use Rattle.model.specs.Checked.{componentsPart, phasesPart, rulesPart, couplingsPart, afterComponents, afterPhases, afterRules, checkedAs, checkedNumber};
+use limits::COMPONENT_SIZE;
+use limits::COUPLING_SIZE;
+use limits::PHASE_SIZE;
+use limits::RULE_SIZE;
+use model_sections::SectionRead;
+use model_sections::section_part;
+use model_sections::section_refusal;
+use model_sections::section_rest;
+
+// How many records each section has.
+pub struct Counts {
+    pub components: u16,
+    pub phases: u16,
+    pub rules: u16,
+    pub couplings: u16,
+}
+
+pub enum Checked {
+    Accepted(Counts),
+    Refused(u16),
+}
+
+pub fn checked_number(r: Checked) -> u16
+    ensures { λ n. ⌜ n ≡ checkedNumber r ⌝ }
+{
+    match r {
+        Checked::Accepted(_) => 0,
+        Checked::Refused(n) => n,
+    }
+}
+
+// The sections in a row, and nothing after them: numbers 1 to 8 and 2.
+pub fn decode_model(file: &[u8]) -> Checked
+    ensures { λ r. ⌜ checkedAs (now (file .entry)) r ≡ decode (now (file .entry)) ⌝ }
+{
+    let first = model_sections::read_components(file);
+    let SectionRead::Are(components) = first else {
+        return Checked::Refused(section_refusal(first));
+    };
+    let owners = section_part(file, components, COMPONENT_SIZE);
+    let after_components = section_rest(file, components, COMPONENT_SIZE);
+    let second = model_sections::read_phases(owners, after_components);
+    let SectionRead::Are(phases) = second else {
+        return Checked::Refused(section_refusal(second));
+    };
+    let after_phases = section_rest(after_components, phases, PHASE_SIZE);
+    let third = model_sections::read_rules(owners, after_phases);
+    let SectionRead::Are(rules) = third else {
+        return Checked::Refused(section_refusal(third));
+    };
+    let after_rules = section_rest(after_phases, rules, RULE_SIZE);
+    let fourth = model_sections::read_couplings(owners, after_rules);
+    let SectionRead::Are(couplings) = fourth else {
+        return Checked::Refused(section_refusal(fourth));
+    };
+    let end = section_rest(after_rules, couplings, COUPLING_SIZE);
+    if 0 < end.len() {
+        return Checked::Refused(2);
+    }
+    Checked::Accepted(Counts {
+        components,
+        phases,
+        rules,
+        couplings,
+    })
+}
+
+// ---- the parts of a file with so many records
+
+fn after_components<'a>(file: &'a [u8], n: Counts) -> &'a [u8]
+    ensures { λ r. ⌜ now r ≡ afterComponents (now (file .entry)) n ⌝ }
+{
+    section_rest(file, n.components, COMPONENT_SIZE)
+}
+
+fn after_phases<'a>(file: &'a [u8], n: Counts) -> &'a [u8]
+    ensures { λ r. ⌜ now r ≡ afterPhases (now (file .entry)) n ⌝ }
+{
+    section_rest(after_components(file, n), n.phases, PHASE_SIZE)
+}
+
+fn after_rules<'a>(file: &'a [u8], n: Counts) -> &'a [u8]
+    ensures { λ r. ⌜ now r ≡ afterRules (now (file .entry)) n ⌝ }
+{
+    section_rest(after_phases(file, n), n.rules, RULE_SIZE)
+}
+
+pub fn components_of<'a>(file: &'a [u8], n: Counts) -> &'a [u8]
+    ensures { λ r. ⌜ now r ≡ componentsPart (now (file .entry)) n ⌝ }
+{
+    section_part(file, n.components, COMPONENT_SIZE)
+}
+
+pub fn phases_of<'a>(file: &'a [u8], n: Counts) -> &'a [u8]
+    ensures { λ r. ⌜ now r ≡ phasesPart (now (file .entry)) n ⌝ }
+{
+    section_part(after_components(file, n), n.phases, PHASE_SIZE)
+}
+
+pub fn rules_of<'a>(file: &'a [u8], n: Counts) -> &'a [u8]
+    ensures { λ r. ⌜ now r ≡ rulesPart (now (file .entry)) n ⌝ }
+{
+    section_part(after_phases(file, n), n.rules, RULE_SIZE)
+}
+
+pub fn couplings_of<'a>(file: &'a [u8], n: Counts) -> &'a [u8]
+    ensures { λ r. ⌜ now r ≡ couplingsPart (now (file .entry)) n ⌝ }
+{
+    section_part(after_rules(file, n), n.couplings, COUPLING_SIZE)
+}

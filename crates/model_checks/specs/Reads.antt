@@ -1,0 +1,35 @@
+-- What the answers of the record readers stand for: "Reading one record yields either the record or a refusal number."
+-- Assumes nothing.
+use Prim.Native.Nat.{ℕ}
+use mathlib.Core.Bool.{Bool, not}
+use Rattle.definition.specs.Bytes.{Result, ok, refused, _>>=_, refuseIf}
+use Rattle.definition.specs.Model.{Component, Phase, Rule, Coupling}
+use Rattle.model_records.specs.Values.{componentOf, phaseOf, ruleOf, couplingOf}
+use Rattle.model_checks.specs.declared.ComponentRead as C
+use Rattle.model_checks.specs.declared.ComponentRead.the-variants as CV
+use Rattle.model_checks.specs.declared.PhaseRead as P
+use Rattle.model_checks.specs.declared.PhaseRead.the-variants as PV
+use Rattle.model_checks.specs.declared.RuleRead as R
+use Rattle.model_checks.specs.declared.RuleRead.the-variants as RV
+use Rattle.model_checks.specs.declared.CouplingRead as K
+use Rattle.model_checks.specs.declared.CouplingRead.the-variants as KV
+
+-- The record where its lines are kept, or the number of those that are not.
+unfoldable pub checked : {A : Type 0} → Bool → ℕ → A → Result A
+checked keeps n a = refuseIf (not keeps) n >>= λ _. ok a
+
+abbrev pub componentRead : C.ComponentRead → Result Component
+componentRead (CV.Is k) = ok (componentOf k)
+componentRead (CV.Refused n) = refused n
+
+abbrev pub phaseRead : P.PhaseRead → Result Phase
+phaseRead (PV.Is k) = ok (phaseOf k)
+phaseRead (PV.Refused n) = refused n
+
+abbrev pub ruleRead : R.RuleRead → Result Rule
+ruleRead (RV.Is k) = ok (ruleOf k)
+ruleRead (RV.Refused n) = refused n
+
+abbrev pub couplingRead : K.CouplingRead → Result Coupling
+couplingRead (KV.Is k) = ok (couplingOf k)
+couplingRead (KV.Refused n) = refused n

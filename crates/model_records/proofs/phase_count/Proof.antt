@@ -1,0 +1,17 @@
+-- `model_records::phase_count` meets its contract. A slice has room for its length over the record's size (length-records). Assumes
+-- nothing.
+use mathlib.Core.Path.{sym}
+use denote.Ref.{now}
+use Rattle.model_records.specs.Values.{phasesIn}
+use Rattle.definition.specs.Records.{toPhase}
+use Rattle.byte_laws.proofs.Records.{length-records}
+use Rattle.model_records.proofs.phase_count.Statement.{statement}
+use Rattle.model_records.proofs.phase_count.Tie as tie
+
+returns : tie.Need-returns
+unfolding phasesIn
+returns c =
+    sym (length-records 18 toPhase (now (c .args .phases)))
+
+pub phase-count-spec : {M : Type 1} → statement M
+phase-count-spec = tie.close (tie.spec returns)

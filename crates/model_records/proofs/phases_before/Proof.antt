@@ -1,0 +1,69 @@
+-- `model_records::phases_before` meets its contract. Invariant: the total is what stands before component i, at most 255 a component. One
+-- component more is before-more, also past the last one. Assumes nothing.
+use borrow.Author.Needs.{needs}
+use native.Mathlib.Omega.{arith}
+use Prim.Native.Nat.{_≤_, _*_, _-_}
+use mathlib.Core.Path.{_≡_, sym, ap, _∙_}
+use denote.Ref.{now}
+use Rattle.definition.specs.Model.{phasesBefore, componentAt}
+use Rattle.model_records.specs.Values.{componentsIn}
+use Rattle.model_records.proofs.Before.{before-none, before-more}
+use Rattle.model_records.proofs.phases_before.Statement.{statement}
+use Rattle.model_records.proofs.phases_before.Tie as tie
+
+abbrev Inv-loop : tie.InvT-loop
+Inv-loop components c total₀ i₀ total i = (i ≤ c) × (total ≤ 255 * i) × (total ≡ phasesBefore (componentsIn components) i)
+
+abbrev μ-loop : tie.MeasureT-loop
+μ-loop components c total₀ i₀ total i = c - i
+
+loop-holds : tie.Need-loop-holds Inv-loop μ-loop
+loop-holds c =
+    (omega arith, omega arith, sym (before-none (componentsIn (now (c .before .args .components)))))
+
+size-requires : tie.Need-size-requires Inv-loop μ-loop
+size-requires c κs = search needs
+
+component-at-requires : tie.Need-component-at-requires Inv-loop μ-loop
+component-at-requires c κs = search needs
+
+size-requires-2 : tie.Need-size-requires-2 Inv-loop μ-loop
+size-requires-2 c κs = search needs
+
+add-total : tie.Need-add-total Inv-loop μ-loop
+add-total c = search needs
+
+add-i : tie.Need-add-i Inv-loop μ-loop
+add-i c = search needs
+
+loop-less : tie.Need-loop-less Inv-loop μ-loop
+loop-less c = search needs
+
+loop-again : tie.Need-loop-again Inv-loop μ-loop
+loop-again c =
+    let l = c .before .before .before .before .loop in
+    let cs = componentsIn (now (c .before .before .before .before .before .before .args .components)) in
+    let e : c .size2 .result ≡ componentAt cs (l .i) .phases = c .size2 .ensures ∙ ap (λ k. k .phases) (c .before .component-at .ensures) ∙ ap (λ i. componentAt cs i .phases) (c .before .before .size .ensures) in
+    (omega arith, omega arith, omega (arith, before-more cs (l .i)))
+
+returns : tie.Need-returns Inv-loop μ-loop
+returns c =
+    let l = c .before .loop in
+    let e : l .i ≡ c .before .before .before .args .c = omega arith in
+    l .inv .2 ∙ ap (phasesBefore (componentsIn (now (c .before .before .before .args .components)))) e
+
+pub phases-before-spec : {M : Type 1} → statement M
+phases-before-spec =
+    tie.close
+    (tie.spec
+    Inv-loop
+    μ-loop
+    loop-holds
+    size-requires
+    component-at-requires
+    size-requires-2
+    add-total
+    add-i
+    loop-less
+    loop-again
+    returns)

@@ -1,0 +1,230 @@
+// The records of a model, read from the slice that holds a section's records; past its end stand zeros, so that no reader asks anything.
+ghost use mathlib.Core.Path.{_≡_};
+ghost use lib.ListN.{length, getD};
+ghost use Rattle.definition.specs.Model.{noPhase, noRule, noCoupling, componentAt, isAtomic, isChild, isSibling, phasesBefore};
+ghost use Rattle.model_records.specs.Values.{componentOf, phaseOf, ruleOf, couplingOf, componentsIn, phasesIn, rulesIn, couplingsIn};
+use limits::COMPONENT_SIZE;
+use limits::COUPLING_SIZE;
+use limits::PHASE_SIZE;
+use limits::RULE_SIZE;
+
+// Kind (0 coupled, 1 atomic), parent, phase count, initial phase, order.
+pub struct Component {
+    pub kind: u8,
+    pub parent: u8,
+    pub phases: u8,
+    pub initial: u8,
+    pub order: u8,
+}
+
+// Advance, next phase, output count, four slots of port and value.
+pub struct Phase {
+    pub advance: u32,
+    pub next: u8,
+    pub count: u8,
+    pub port0: u8,
+    pub value0: u16,
+    pub port1: u8,
+    pub value1: u16,
+    pub port2: u8,
+    pub value2: u16,
+    pub port3: u8,
+    pub value3: u16,
+}
+
+pub struct Rule {
+    pub component: u8,
+    pub phase: u8,
+    pub next: u8,
+    pub port: u8,
+    pub low: u16,
+    pub high: u16,
+    pub least: u16,
+    pub low_elapsed: u32,
+    pub high_elapsed: u32,
+}
+
+pub struct Coupling {
+    pub source: u8,
+    pub source_port: u8,
+    pub target: u8,
+    pub target_port: u8,
+}
+
+// ---- how many records a slice holds
+
+pub fn component_count(components: &[u8]) -> usize
+    ensures { λ r. ⌜ r ≡ length (componentsIn (now (components .entry))) ⌝ }
+{
+    components.len() / COMPONENT_SIZE
+}
+
+pub fn phase_count(phases: &[u8]) -> usize
+    ensures { λ r. ⌜ r ≡ length (phasesIn (now (phases .entry))) ⌝ }
+{
+    phases.len() / PHASE_SIZE
+}
+
+pub fn rule_count(rules: &[u8]) -> usize
+    ensures { λ r. ⌜ r ≡ length (rulesIn (now (rules .entry))) ⌝ }
+{
+    rules.len() / RULE_SIZE
+}
+
+pub fn coupling_count(couplings: &[u8]) -> usize
+    ensures { λ r. ⌜ r ≡ length (couplingsIn (now (couplings .entry))) ⌝ }
+{
+    couplings.len() / COUPLING_SIZE
+}
+
+// ---- a record by its number
+
+pub fn component_at(components: &[u8], i: usize) -> Component
+    ensures { λ r. ⌜ componentOf r ≡ componentAt (componentsIn (now (components .entry))) i ⌝ }
+{
+    if i < components.len() / COMPONENT_SIZE {
+        let at = COMPONENT_SIZE * i;
+        Component {
+            kind: little_endian::byte_at(components, at),
+            parent: little_endian::byte_at(components, at + 1),
+            phases: little_endian::byte_at(components, at + 2),
+            initial: little_endian::byte_at(components, at + 3),
+            order: little_endian::byte_at(components, at + 4),
+        }
+    } else {
+        Component {
+            kind: 0,
+            parent: 0,
+            phases: 0,
+            initial: 0,
+            order: 0,
+        }
+    }
+}
+
+pub fn phase_at(phases: &[u8], i: usize) -> Phase
+    ensures { λ r. ⌜ phaseOf r ≡ getD (phasesIn (now (phases .entry))) i noPhase ⌝ }
+{
+    if i < phases.len() / PHASE_SIZE {
+        let at = PHASE_SIZE * i;
+        Phase {
+            advance: little_endian::u32_at(phases, at),
+            next: little_endian::byte_at(phases, at + 4),
+            count: little_endian::byte_at(phases, at + 5),
+            port0: little_endian::byte_at(phases, at + 6),
+            value0: little_endian::u16_at(phases, at + 7),
+            port1: little_endian::byte_at(phases, at + 9),
+            value1: little_endian::u16_at(phases, at + 10),
+            port2: little_endian::byte_at(phases, at + 12),
+            value2: little_endian::u16_at(phases, at + 13),
+            port3: little_endian::byte_at(phases, at + 15),
+            value3: little_endian::u16_at(phases, at + 16),
+        }
+    } else {
+        Phase {
+            advance: 0,
+            next: 0,
+            count: 0,
+            port0: 0,
+            value0: 0,
+            port1: 0,
+            value1: 0,
+            port2: 0,
+            value2: 0,
+            port3: 0,
+            value3: 0,
+        }
+    }
+}
+
+pub fn rule_at(rules: &[u8], i: usize) -> Rule
+    ensures { λ r. ⌜ ruleOf r ≡ getD (rulesIn (now (rules .entry))) i noRule ⌝ }
+{
+    if i < rules.len() / RULE_SIZE {
+        let at = RULE_SIZE * i;
+        Rule {
+            component: little_endian::byte_at(rules, at),
+            phase: little_endian::byte_at(rules, at + 1),
+            next: little_endian::byte_at(rules, at + 2),
+            port: little_endian::byte_at(rules, at + 3),
+            low: little_endian::u16_at(rules, at + 4),
+            high: little_endian::u16_at(rules, at + 6),
+            least: little_endian::u16_at(rules, at + 8),
+            low_elapsed: little_endian::u32_at(rules, at + 10),
+            high_elapsed: little_endian::u32_at(rules, at + 14),
+        }
+    } else {
+        Rule {
+            component: 0,
+            phase: 0,
+            next: 0,
+            port: 0,
+            low: 0,
+            high: 0,
+            least: 0,
+            low_elapsed: 0,
+            high_elapsed: 0,
+        }
+    }
+}
+
+pub fn coupling_at(couplings: &[u8], i: usize) -> Coupling
+    ensures { λ r. ⌜ couplingOf r ≡ getD (couplingsIn (now (couplings .entry))) i noCoupling ⌝ }
+{
+    if i < couplings.len() / COUPLING_SIZE {
+        let at = COUPLING_SIZE * i;
+        Coupling {
+            source: little_endian::byte_at(couplings, at),
+            source_port: little_endian::byte_at(couplings, at + 1),
+            target: little_endian::byte_at(couplings, at + 2),
+            target_port: little_endian::byte_at(couplings, at + 3),
+        }
+    } else {
+        Coupling {
+            source: 0,
+            source_port: 0,
+            target: 0,
+            target_port: 0,
+        }
+    }
+}
+
+// ---- kinship
+
+pub fn is_atomic(components: &[u8], c: usize) -> bool
+    ensures { λ r. ⌜ r ≡ isAtomic (componentsIn (now (components .entry))) c ⌝ }
+{
+    let k = component_at(components, c);
+    k.kind == 1
+}
+
+// d is a child of c; the root is nobody's.
+pub fn is_child(components: &[u8], c: usize, d: usize) -> bool
+    ensures { λ r. ⌜ r ≡ isChild (componentsIn (now (components .entry))) c d ⌝ }
+{
+    let k = component_at(components, d);
+    !(d == 0) & (little_endian::size(k.parent) == c)
+}
+
+pub fn is_sibling(components: &[u8], c: usize, d: usize) -> bool
+    ensures { λ r. ⌜ r ≡ isSibling (componentsIn (now (components .entry))) c d ⌝ }
+{
+    let k = component_at(components, c);
+    !(c == d) & !(c == 0) & is_child(components, little_endian::size(k.parent), d)
+}
+
+// ---- phases
+
+// How many phase records stand before those of component c.
+pub fn phases_before(components: &[u8], c: u8) -> usize
+    ensures { λ r. ⌜ r ≡ phasesBefore (componentsIn (now (components .entry))) c ⌝ }
+{
+    let mut total: usize = 0;
+    let mut i: u8 = 0;
+    while i < c {
+        let k = component_at(components, little_endian::size(i));
+        total = total + little_endian::size(k.phases);
+        i = i + 1;
+    }
+    total
+}

@@ -1,0 +1,17 @@
+-- `model_sections::component_wrong` meets its contract. The definition's own test. Assumes nothing.
+use Rattle.definition.specs.File.{componentCount}
+use Rattle.model_sections.proofs.component_wrong.Statement.{statement}
+use Rattle.model_sections.proofs.component_wrong.Tie as tie
+
+returns : tie.Need-returns
+unfolding componentCount
+returns c =
+    rw (c .if1 .taken)
+
+returns-2 : tie.Need-returns-2
+unfolding componentCount
+returns-2 c =
+    rw (c .if1 .left)
+
+pub component-wrong-spec : {M : Type 1} → statement M
+component-wrong-spec = tie.close (tie.spec returns returns-2)

@@ -1,0 +1,23 @@
+-- `model_sections::phase_wrong` meets its contract. The definition's two tests in its order. Assumes nothing.
+use borrow.Author.Tests.{lt-ltb, le-ltb, ne-eqb, eq-eqb}
+use Rattle.definition.specs.File.{phaseCount}
+use Rattle.model_sections.proofs.phase_wrong.Statement.{statement}
+use Rattle.model_sections.proofs.phase_wrong.Tie as tie
+
+returns : tie.Need-returns
+unfolding phaseCount
+returns c =
+    rw (lt-ltb _ _ (c .if1 .taken))
+
+returns-2 : tie.Need-returns-2
+unfolding phaseCount
+returns-2 c =
+    rw (le-ltb _ _ (c .before .if1 .left), ne-eqb _ _ (c .if2 .taken))
+
+returns-3 : tie.Need-returns-3
+unfolding phaseCount
+returns-3 c =
+    rw (le-ltb _ _ (c .before .if1 .left), eq-eqb _ _ (c .if2 .left))
+
+pub phase-wrong-spec : {M : Type 1} → statement M
+phase-wrong-spec = tie.close (tie.spec returns returns-2 returns-3)
