@@ -1,0 +1,89 @@
+-- What a decoded model has as far as ways go, and the check's last line. Assumes nothing.
+use mathlib.Core.Path.{_≡_, refl, ap, _∙_}
+use mathlib.Core.List.{List}
+use mathlib.Core.Bool.{Bool, true}
+use Prim.Native.Nat.{ℕ, _≤_, _<_, min}
+use native.Mathlib.Omega.{arith}
+use lib.Dec.{ltb}
+use lib.ListN.{length}
+use Rattle.definition.specs.Bytes.{Bytes, Result, ok, refused, _>>=_, refuseIf, numberOf}
+use Rattle.definition.specs.Limits.{maxComponents, maxCouplings, maxRoutes}
+use Rattle.definition.specs.Model.{Model}
+use Rattle.definition.specs.Records.{toComponent, componentFits, toCoupling, couplingFits}
+use Rattle.definition.specs.File.{Section, componentCount, atMost, componentSection, phaseSection, ruleSection, couplingSection, endOfFile, decode}
+use Rattle.definition.specs.Routes.{routes, accepted}
+use Rattle.byte_laws.proofs.Alls.{each}
+use Rattle.byte_laws.proofs.Sections.{Gives, section-gives}
+use Rattle.model_records.specs.Values.{componentsIn, couplingsIn, modelIn}
+use Rattle.model.specs.declared.Counts as N
+use Rattle.model.specs.declared.Checked as C
+use Rattle.model.specs.declared.Checked.the-variants as CV
+use Rattle.model.specs.Checked.{componentsPart, couplingsPart, modelOf, checkedAs, checkedNumber}
+use Rattle.model.proofs.Chain.{component-limit}
+use Rattle.route_laws.specs.Ways.{waysCap, Counted, Placed, tableRoutes}
+use Rattle.route_laws.proofs.Placed.{rising, coupled-parents}
+use Rattle.route_laws.proofs.Total.{routes-counted, over-limit}
+
+bind-ok : {A B : Type 0} (r : Result A) (f : A → Result B) (b : B) → (r >>= f) ≡ ok b → (a : A) × (r ≡ ok a) × (f a ≡ ok b)
+bind-ok (ok a) f b e = (a, refl, e)
+bind-ok (refused n) f b e = let z : _≡_ {A = ℕ} 0 1 = cc in absurd (omega arith)
+
+ok-same : {A : Type 0} (a b : A) → ok a ≡ ok b → a ≡ b
+ok-same a b e = cc
+
+-- Each record of an accepted section keeps its lines.
+kept-all : {A : Type 0} (size : ℕ) (w : ℕ → ℕ) (to : Bytes → A) (fits : List A → ℕ → Bool) (s : Bytes) (x : Section A) → Gives size w to fits s x
+    → (i : ℕ) → i < length (x .records) → fits (x .records) i ≡ true
+kept-all size w to fits s x g =
+    let e = g .is in
+    rw e (λ i l. each (fits _) 0 _ (g .each) i (omega arith) (omega (arith, g .count)))
+
+pub decode-placed : (s : Bytes) (m : Model) → decode s ≡ ok m → Placed (m .components) (m .couplings) × (length (m .components) ≤ maxComponents)
+unfolding decode componentSection couplingSection
+decode-placed s m e =
+    let a = bind-ok (componentSection s) _ m e in
+    let b = bind-ok (phaseSection (a .0 .records) (a .0 .rest)) _ m (a .2) in
+    let c = bind-ok (ruleSection (a .0 .records) (b .0 .rest)) _ m (b .2) in
+    let d = bind-ok (couplingSection (a .0 .records) (c .0 .rest)) _ m (c .2) in
+    let f = bind-ok (endOfFile (d .0 .rest)) _ m (d .2) in
+    let g : record { components = a .0 .records; phases = b .0 .records; rules = c .0 .records; couplings = d .0 .records } ≡ m = ok-same _ m (f .2) in
+    let h = component-limit s (a .1) in
+    let u = section-gives 5 componentCount toComponent componentFits 4 s (omega arith) (a .1) in
+    let v = section-gives 4 (atMost maxCouplings) toCoupling (couplingFits (a .0 .records)) 8 (c .0 .rest) (omega arith) (d .1) in
+    rw (← g) (
+      record {
+        some-component = h .0;
+        components = kept-all 5 componentCount toComponent componentFits s (a .0) u;
+        couplings = kept-all 4 (atMost maxCouplings) toCoupling (couplingFits (a .0 .records)) (c .0 .rest) (d .0) v;
+      },
+      h .1,
+    )
+
+-- The table tells whether there are too many routes.
+pub routes-told : (m : Model) (table : List ℕ) (total : ℕ) → Placed (m .components) (m .couplings) → Counted (m .components) (m .couplings) table
+    → total ≡ min waysCap (tableRoutes (m .components) table) → ltb maxRoutes total ≡ ltb maxRoutes (length (routes m))
+routes-told m table total p h e =
+    ap (ltb maxRoutes) e
+    ∙ over-limit _ _ (routes-counted m table (p .some-component) (rising (m .components) (p .components)) (coupled-parents (m .components) (p .components)) h)
+
+-- ---- the same for the parts of a file
+
+module _ (file : Bytes) (n : N.Counts) (e : decode file ≡ ok (modelOf file n)) where
+  pub parts-placed : Placed (componentsIn (componentsPart file n)) (couplingsIn (couplingsPart file n)) × (length (componentsIn (componentsPart file n)) ≤ maxComponents)
+  unfolding modelOf modelIn
+  parts-placed = decode-placed file (modelOf file n) e
+
+  -- The check's last line, by the table.
+  pub parts-told : (table : List ℕ) (total : ℕ) (b : Bool) → Counted (componentsIn (componentsPart file n)) (couplingsIn (couplingsPart file n)) table
+      → total ≡ min waysCap (tableRoutes (componentsIn (componentsPart file n)) table) → ltb maxRoutes total ≡ b
+      → accepted file ≡ (refuseIf b 9 >>= λ _. ok (modelOf file n))
+  unfolding accepted modelOf modelIn
+  parts-told table total b h t f = rw (e, ← routes-told (modelOf file n) table total (parts-placed .0) h t, f)
+
+pub accepted-no : (file : Bytes) (n : ℕ) → decode file ≡ refused n → accepted file ≡ refused n
+unfolding accepted
+accepted-no file n e = rw e
+
+pub number-of : (file : Bytes) (r : C.Checked) → checkedNumber r ≡ numberOf (checkedAs file r)
+number-of file (CV.Accepted n) = refl
+number-of file (CV.Refused n) = refl
