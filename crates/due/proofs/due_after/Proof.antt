@@ -1,0 +1,36 @@
+-- The two cases of the advance field; the sum is `Moment.plus`.
+use borrow.Author.Needs.{needs}
+use native.Mathlib.Omega.{arith}
+use Rattle.definition.specs.Devs.{finite}
+use Rattle.due.specs.After.{dueAfter}
+use mathlib.Core.Path.{refl, ap, sym, _∙_}
+use borrow.Author.Tests.{eq-eqb, ne-eqb}
+use Rattle.due.proofs.due_after.Statement.{statement}
+use Rattle.due.proofs.due_after.Tie as tie
+use Rattle.due.proofs.due_after.Reads as reads
+use Rattle.due.proofs.due_after.Lts as lts
+use Rattle.clock.proofs.Moment.plus.Reads as plus-reads
+use Rattle.due.proofs.wide.Reads as wide-reads
+
+-- src/lib.rt:23:9
+returns : tie.Need-returns
+unfolding dueAfter
+returns c =
+    rw (eq-eqb _ _ (c .if1 .taken))
+
+-- src/lib.rt:25:28
+wide-requires : tie.Need-wide-requires
+wide-requires c κs = search needs
+
+-- src/lib.rt:25:13
+plus-requires : tie.Need-plus-requires
+plus-requires c κs = search needs
+
+-- src/lib.rt:19:1
+returns-2 : tie.Need-returns-2
+unfolding dueAfter
+returns-2 c =
+    rw (ne-eqb _ _ (c .before .before .if1 .left), ← c .before .wide .ensures) (ap finite (c .plus .ensures))
+
+pub due-after-spec : {M : Type 1} → statement M
+due-after-spec = tie.close (tie.spec returns wide-requires plus-requires returns-2)

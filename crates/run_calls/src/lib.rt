@@ -1,0 +1,62 @@
+// The calls start and reading, whole: the check of the model, the checks of the arguments, and the answer.
+ghost use mathlib.Core.Path.{_≡_};
+ghost use Prim.Native.Nat.{_≤_};
+ghost use mathlib.Core.List.{[]};
+ghost use lib.ListN.{length};
+ghost use Rattle.definition.specs.Bytes.{ok};
+ghost use Rattle.definition.specs.Limits.{maxComponents};
+ghost use Rattle.definition.specs.SavedRun.{runBytes};
+ghost use Rattle.definition.specs.Engine.{wrote, startRun, start};
+ghost use Rattle.model_records.specs.Values.{componentsIn};
+ghost use Rattle.model.specs.Checked.{checkedNumber};
+ghost use Rattle.saved_run.specs.Runs.{bare};
+ghost use Rattle.run_calls.specs.Answers.{wroteOf};
+use clock::Moment;
+use model::Checked;
+use saved_run::run_size;
+
+// The number, 0 for success, and the bytes written.
+pub struct Written {
+    pub number: u64,
+    pub bytes: u64,
+}
+
+fn wide16(x: u16) -> u64
+    ensures { λ r. ⌜ r ≡ x ⌝ }
+{
+    x as u64
+}
+
+// The run of a start, where there is room for it.
+fn start_run(components: &[u8], run: &mut [u8]) -> Written
+    requires { ⌜ length (componentsIn (now components)) ≤ maxComponents ⌝ }
+    ensures { λ r. ⌜ wroteOf r (now (run .exit)) ≡ wrote (now (run .entry)) (ok (runBytes (startRun (bare (now (components .entry)) [])))) ⌝ }
+{
+    let n = saved_run::atomic_count(components);
+    let size = run_size(n);
+    if run.len() < size {
+        return Written {
+            number: 15,
+            bytes: 0,
+        };
+    }
+    saved_run::store(run, Moment(0), n, saved_run::start_state(components));
+    Written {
+        number: 0,
+        bytes: size as u64,
+    }
+}
+
+// Start: the first run of a model, at the front of the buffer; the bytes beyond it stay.
+pub fn start(file: &[u8], run: &mut [u8]) -> Written
+    ensures { λ r. ⌜ wroteOf r (now (run .exit)) ≡ start (now (file .entry)) (now (run .entry)) ⌝ }
+{
+    let checked = route_count::check(file);
+    let Checked::Accepted(n) = checked else {
+        return Written {
+            number: wide16(model::checked_number(checked)),
+            bytes: 0,
+        };
+    };
+    start_run(model::components_of(file, n), run)
+}

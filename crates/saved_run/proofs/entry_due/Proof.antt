@@ -1,0 +1,43 @@
+-- The phase record at the first one plus the phase, and `due_after` of its advance.
+use borrow.Author.Needs.{needs}
+use native.Mathlib.Omega.{arith}
+use Rattle.due.specs.After.{dueAfter}
+use Rattle.model_records.specs.Values.{phasesIn}
+use Rattle.definition.specs.Model.{Phase, noPhase}
+use lib.ListN.{getD}
+use Prim.Native.Nat.{_+_}
+use mathlib.Core.Path.{_≡_, refl, _∙_, ap, sym}
+use Rattle.saved_run.proofs.entry_due.Statement.{statement}
+use Rattle.saved_run.proofs.entry_due.Tie as tie
+use Rattle.saved_run.proofs.entry_due.Reads as reads
+use Rattle.saved_run.proofs.entry_due.Lts as lts
+use Rattle.due.proofs.due_after.Reads as due-after-reads
+use Rattle.little_endian.proofs.size.Reads as size-reads
+use Rattle.model_records.proofs.phase_at.Reads as phase-at-reads
+
+-- src/lib.rt:97:57
+size-requires : tie.Need-size-requires
+size-requires c κs = search needs
+
+-- src/lib.rt:97:49
+add-phase-at : tie.Need-add-phase-at
+add-phase-at c = search needs
+
+-- src/lib.rt:97:9
+phase-at-requires : tie.Need-phase-at-requires
+phase-at-requires c κs = search needs
+
+-- src/lib.rt:98:5
+due-after-requires : tie.Need-due-after-requires
+due-after-requires c κs = search needs
+
+-- src/lib.rt:93:1
+returns : tie.Need-returns
+returns c =
+    let a = c .before .before .before .before .args in
+    c .due-after .ensures
+    ∙ ap (λ (p : Phase). dueAfter (a .e .last .0) (p .advance)) (c .before .phase-at .ensures ∙ ap (λ k. getD (phasesIn (a .phases .now)) (a .first + k) noPhase) (c .before .before .size .ensures))
+
+pub entry-due-spec : {M : Type 1} → statement M
+entry-due-spec =
+    tie.close (tie.spec size-requires add-phase-at phase-at-requires due-after-requires returns)

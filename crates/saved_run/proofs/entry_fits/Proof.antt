@@ -1,0 +1,25 @@
+-- The three tests are those of the contract, in its order.
+use borrow.Author.Needs.{needs}
+use native.Mathlib.Omega.{arith}
+use Rattle.saved_run.proofs.entry_fits.Statement.{statement}
+use Rattle.saved_run.proofs.entry_fits.Tie as tie
+use Rattle.saved_run.proofs.entry_fits.Reads as reads
+use Rattle.saved_run.proofs.entry_fits.Lts as lts
+use Rattle.clock.proofs.Moment.is_before.Reads as is-before-reads
+use Rattle.due.proofs.not_before.Reads as not-before-reads
+
+-- src/lib.rt:107:17
+is-before-requires : tie.Need-is-before-requires
+is-before-requires c κs = search needs
+
+-- src/lib.rt:108:38
+not-before-requires : tie.Need-not-before-requires
+not-before-requires c κs = search needs
+
+-- src/lib.rt:102:1
+returns : tie.Need-returns
+returns c =
+    rw (c .before .before .before .before .before .is-before .ensures, c .not-before .ensures)
+
+pub entry-fits-spec : {M : Type 1} → statement M
+entry-fits-spec = tie.close (tie.spec is-before-requires not-before-requires returns)

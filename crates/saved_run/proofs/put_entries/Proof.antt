@@ -1,0 +1,74 @@
+-- The rows still to be put from position i on make up the whole, by `rows-put` one fewer each turn.
+use borrow.Author.Needs.{needs}
+use native.Mathlib.Omega.{arith}
+use Rattle.saved_run.proofs.Storing.{rows-put, rows-none}
+use Rattle.saved_run.specs.Runs.{heldAt, entryRows}
+use Rattle.definition.specs.SavedRun.{runLength, entryBytes}
+use lib.Seq.{sets, length-sets}
+use lib.ListN.{length}
+use Prim.Native.Nat.{ℕ, _≤_, _+_, _-_}
+use mathlib.Core.Path.{_≡_, refl, _∙_, ap, sym}
+use Rattle.saved_run.proofs.put_entries.Statement.{statement}
+use Rattle.saved_run.proofs.put_entries.Tie as tie
+use Rattle.saved_run.proofs.put_entries.Reads as reads
+use Rattle.saved_run.proofs.put_entries.Lts as lts
+use Rattle.saved_run.proofs.put_entry.Reads as put-entry-reads
+
+abbrev Inv-loop : tie.InvT-loop
+Inv-loop run₀ n st i₀ run i = (i ≤ n) × (length run ≡ length run₀) × (sets run (runLength i) (entryRows st i (n - i)) ≡ sets run₀ (runLength 0) (entryRows st 0 (n - 0)))
+
+abbrev μ-loop : tie.MeasureT-loop
+μ-loop run₀ n st i₀ run i = n - i
+
+-- src/lib.rt:172:5
+loop-holds : tie.Need-loop-holds Inv-loop μ-loop
+loop-holds c =
+    (omega arith, refl, refl)
+
+-- src/lib.rt:173:9
+put-entry-requires : tie.Need-put-entry-requires Inv-loop μ-loop
+unfolding runLength
+put-entry-requires c κs =
+    (omega arith, omega arith)
+
+-- src/lib.rt:174:13
+add-i : tie.Need-add-i Inv-loop μ-loop
+add-i c = search needs
+
+-- src/lib.rt:172:5
+loop-less : tie.Need-loop-less Inv-loop μ-loop
+loop-less c = search needs
+
+-- src/lib.rt:172:5
+loop-again : tie.Need-loop-again Inv-loop μ-loop
+loop-again c =
+    let a = c .before .before .before .before .before .before .before .args in
+    let l = c .before .before .before .before .before .loop in
+    (omega arith, c .before .before .put-entry .kept .0 ∙ l .inv .1, rw (c .before .before .put-entry .ensures) (rows-put (a .st) (a .n) (l .i) (l .run) (omega arith)) ∙ l .inv .2)
+
+-- src/lib.rt:167:1
+same-length : tie.Need-same-length Inv-loop μ-loop
+same-length c =
+    c .before .loop .inv .1
+
+-- src/lib.rt:167:1
+returns : tie.Need-returns Inv-loop μ-loop
+returns c =
+    let a = c .before .before .before .args in
+    let l = c .before .loop in
+    let z : a .n - 0 ≡ a .n = omega arith in
+    sym (rows-none (a .st) (l .i) (a .n - l .i) (runLength (l .i)) (l .run) (omega arith)) ∙ l .inv .2 ∙ ap (λ k. sets (a .run .now) (runLength 0) (entryRows (a .st) 0 k)) z
+
+pub put-entries-spec : {M : Type 1} → statement M
+put-entries-spec =
+    tie.close
+    (tie.spec
+    Inv-loop
+    μ-loop
+    loop-holds
+    put-entry-requires
+    add-i
+    loop-less
+    loop-again
+    same-length
+    returns)

@@ -1,0 +1,76 @@
+-- Two stores in a row are the entry (`entry-put`).
+use borrow.Author.Needs.{needs}
+use native.Mathlib.Omega.{arith}
+use Rattle.saved_run.proofs.Storing.{entry-put}
+use Rattle.saved_run.specs.Runs.{heldAt}
+use Rattle.definition.specs.SavedRun.{runLength}
+use Rattle.definition.specs.Bytes.{bytesOf}
+use lib.Seq.{sets}
+use mathlib.Core.Path.{_≡_, refl, _∙_, ap, ap₂, sym}
+use Rattle.saved_run.proofs.put_entry.Statement.{statement}
+use Rattle.saved_run.proofs.put_entry.Tie as tie
+use Rattle.saved_run.proofs.put_entry.Reads as reads
+use Rattle.saved_run.proofs.put_entry.Lts as lts
+use Rattle.little_endian.proofs.put_number.Reads as put-number-reads
+use Rattle.run_state.proofs.State.last_of.Reads as last-of-reads
+use Rattle.run_state.proofs.State.phase_of.Reads as phase-of-reads
+use Rattle.saved_run.proofs.wide.Reads as wide-reads
+
+-- src/lib.rt:161:26
+mul-at : tie.Need-mul-at
+mul-at c = search needs
+
+-- src/lib.rt:161:14
+add-at : tie.Need-add-at
+add-at c = search needs
+
+-- src/lib.rt:162:9
+last-of-requires : tie.Need-last-of-requires
+last-of-requires c κs = search needs
+
+-- src/lib.rt:163:48
+phase-of-requires : tie.Need-phase-of-requires
+phase-of-requires c κs = search needs
+
+-- src/lib.rt:163:43
+wide-requires : tie.Need-wide-requires
+wide-requires c κs = search needs
+
+-- src/lib.rt:163:5
+put-number-requires : tie.Need-put-number-requires
+unfolding runLength
+put-number-requires c κs = search needs
+
+-- src/lib.rt:164:36
+add-put-number : tie.Need-add-put-number
+add-put-number c = search needs
+
+-- src/lib.rt:164:5
+put-number-requires-2 : tie.Need-put-number-requires-2
+unfolding runLength
+put-number-requires-2 c κs = search needs
+
+-- src/lib.rt:157:1
+same-length : tie.Need-same-length
+same-length c = search needs
+
+-- src/lib.rt:157:1
+returns : tie.Need-returns
+returns c =
+    let a = c .before .before .before .before .before .before .before .before .before .before .before .before .args in
+    rw (c .before .before .put-number2 .ensures, c .before .before .before .before .before .before .put-number .ensures, c .before .before .before .before .before .before .before .wide .ensures, c .before .before .before .before .before .before .before .before .phase-of .ensures, c .before .before .before .before .before .before .before .before .before .before .last-of .ensures) (entry-put (a .run .now) (a .i) (heldAt (a .st) (a .i)))
+
+pub put-entry-spec : {M : Type 1} → statement M
+put-entry-spec =
+    tie.close
+    (tie.spec
+    mul-at
+    add-at
+    last-of-requires
+    phase-of-requires
+    wide-requires
+    put-number-requires
+    add-put-number
+    put-number-requires-2
+    same-length
+    returns)

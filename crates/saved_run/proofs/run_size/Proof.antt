@@ -1,0 +1,26 @@
+-- The sum is the definition.
+use borrow.Author.Needs.{needs}
+use native.Mathlib.Omega.{arith}
+use Rattle.definition.specs.SavedRun.{runLength}
+use mathlib.Core.Path.{refl}
+use Rattle.saved_run.proofs.run_size.Statement.{statement}
+use Rattle.saved_run.proofs.run_size.Tie as tie
+use Rattle.saved_run.proofs.run_size.Reads as reads
+use Rattle.saved_run.proofs.run_size.Lts as lts
+
+-- src/lib.rt:37:17
+mul-result : tie.Need-mul-result
+mul-result c = search needs
+
+-- src/lib.rt:37:5
+add-result : tie.Need-add-result
+add-result c = search needs
+
+-- src/lib.rt:33:1
+returns : tie.Need-returns
+unfolding runLength
+returns c =
+    refl
+
+pub run-size-spec : {M : Type 1} → statement M
+run-size-spec = tie.close (tie.spec mul-result add-result returns)
