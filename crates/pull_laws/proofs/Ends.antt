@@ -1,0 +1,101 @@
+-- The theorem of pulling: for a sound model, an atomic's bag, pulled port by port as keys, is its bag in the nest in another order, and so is
+-- the root's output bag. Everything that the pulled account needs comes from the checks of the decoder. Assumes nothing.
+use mathlib.Core.Path.{_≡_, refl, sym, ap, _∙_, subst}
+use Prim.Native.Nat.{ℕ, zero, suc, _+_, _≤_, _<_}
+use mathlib.Core.List.{_∷_, map}
+use mathlib.Core.Bool.{Bool, true, false, cond}
+use native.Mathlib.Omega.{arith}
+use lib.Dec.{eqb}
+use lib.ListN.{length}
+use Rattle.definition.specs.Lists.{all, keep, upFrom, Same}
+use Rattle.definition.specs.Limits.{maxAncestors, portCount}
+use Rattle.definition.specs.Model.{Bag, Model, isAtomic, isChild, children, Tree, Forest, leaf, node, stop, forest, tree}
+use Rattle.definition.specs.Records.{portFits}
+use Rattle.definition.specs.SavedRun.{Entry}
+use Rattle.model_laws.proofs.Sound.{Sound, couplings-fit}
+use Rattle.nest_laws.proofs.Components.{atomic-below, rooted, near-root, partsOfRoot, root, shape}
+use Rattle.nest_laws.proofs.Nest.{Fresh, Ready, ReadyAll, outTo, bagAt}
+use Rattle.pull_laws.specs.Put.{messageOf, keysOf}
+use Rattle.route_laws.proofs.Placed.{coupled-parents}
+use Rattle.route_laws.proofs.Placed as P
+use Rattle.route_laws.specs.Ways.{Rising, sub}
+use Rattle.route_laws.proofs.Nests.{sub-step}
+use Rattle.pull_laws.proofs.Flow.{on}
+use Rattle.pull_laws.proofs.Nodes.{inn, out, rowsAt, atomicAt, sentAt, givenAt, rootAt, outputAt, pulledOut, pulledIn}
+use Rattle.pull_laws.proofs.Pulled.{in-right, root-right}
+use Rattle.pull_laws.proofs.Arriving.{bag-right}
+use Rattle.pull_laws.proofs.Keys.{isValue, same-by-port}
+use Rattle.pull_laws.proofs.Values.{hasValue, values-all, sent-values, coupled-values, input-values, out-fits, bag-fits}
+
+below : Tree → Forest
+below (leaf c) = stop
+below (node c f) = f
+
+module _ (m : Model) (w : Sound m) where
+  pub rising : Rising (m .components)
+  rising = P.rising (m .components) (w .components .fit)
+
+  pub root-tree : sub (m .components) 0 ≡ root m
+  unfolding sub tree
+  root-tree = shape m w
+
+  root-parts : forest (map (sub (m .components)) (children (m .components) 0)) ≡ partsOfRoot m
+  unfolding below
+  root-parts =
+      let z = rooted (m .components) (w .components .fit) (w .some-component) .root-coupled in
+      let s : sub (m .components) 0 ≡ node 0 (forest (map (sub (m .components)) (children (m .components) 0))) = sub-step (m .components) rising 0 ∙ rw z in
+      ap below (sym s ∙ root-tree)
+
+  module _ (at : ℕ → Entry) (now : ℕ) (fresh : (c : ℕ) → isAtomic (m .components) c ≡ true → Fresh m now c (at c)) where
+    keep-ready : (p : ℕ → Bool) (k n : ℕ) → k + n ≤ length (m .components)
+        → ((e : ℕ) → p e ≡ true → e < length (m .components) → Ready m at now (sub (m .components) e))
+        → ReadyAll m at now (forest (map (sub (m .components)) (keep p (upFrom k n))))
+    unfolding keep upFrom forest
+    keep-ready p k zero b ih = tt
+    keep-ready p k (suc n) b ih = go (p k) refl (keep-ready p (suc k) n (omega arith) ih)
+      where
+        go : (t : Bool) → p k ≡ t → ReadyAll m at now (forest (map (sub (m .components)) (keep p (upFrom (suc k) n))))
+            → ReadyAll m at now (forest (map (sub (m .components)) (cond t (k ∷ keep p (upFrom (suc k) n)) (keep p (upFrom (suc k) n)))))
+        go true e r = (ih k e (omega arith), r)
+        go false e r = r
+
+    -- no atomic below any component was changed after now or is due before
+    ready-sub : (d c : ℕ) → c < length (m .components) → length (m .components) ≤ d + c → Ready m at now (sub (m .components) c)
+    ready-sub zero c l s = absurd (omega arith)
+    ready-sub (suc d) c l s =
+        subst (Ready m at now) (sym (sub-step (m .components) rising c)) (go (isAtomic (m .components) c) refl (λ e b i. ready-sub d e i (omega (arith, rising c e b i))))
+      where
+        go : (b : Bool) → isAtomic (m .components) c ≡ b
+            → ((e : ℕ) → isChild (m .components) c e ≡ true → e < length (m .components) → Ready m at now (sub (m .components) e))
+            → Ready m at now (cond b (leaf c) (node c (forest (map (sub (m .components)) (children (m .components) c)))))
+        go true e ih = fresh c e
+        go false e ih = unfold children in (keep-ready (isChild (m .components) c) 0 (length (m .components)) (omega arith) ih)
+
+    pub ready-all : (c : ℕ) → c < length (m .components) → Ready m at now (sub (m .components) c)
+    ready-all c l = ready-sub (length (m .components)) c l (omega arith)
+
+    -- the root's output bag
+    pub root-same : Same (map messageOf (keysOf (λ q. pulledOut m at now maxAncestors (out 0 q)) portCount 0)) (outTo m at now (partsOfRoot m) 0)
+    unfolding sentAt
+    root-same =
+        let fit = couplings-fit m w in
+        same-by-port _ _ (λ q. coupled-values isValue (rowsAt m) (atomicAt m) (sentAt m at now) (λ y. sent-values m w at now (y .port) (y .component)) maxAncestors (out 0 q))
+        (out-fits m at now fit (partsOfRoot m) 0)
+        (λ g q. root-right m at now g rising fit ready-all (near-root (m .components) (w .components .fit) (w .some-component)) q
+        ∙ ap (λ f. on q g (outTo m at now f 0)) root-parts)
+
+    -- the bag of an atomic, where the given bag has ports and values as it should
+    pub pulled-same : (x : Bag) → all portFits x ≡ true → all hasValue x ≡ true → (a : ℕ) → isAtomic (m .components) a ≡ true
+        → Same (map messageOf (keysOf (λ q. pulledIn m at now x maxAncestors (inn a q)) portCount 0)) (bagAt m at now a (root m) x)
+    unfolding sentAt givenAt hasValue
+    pulled-same x ports values a e =
+        let fit = couplings-fit m w in
+        let l = atomic-below (m .components) a e in
+        let near = near-root (m .components) (w .components .fit) (w .some-component) in
+        same-by-port _ _
+        (λ q. input-values isValue (rowsAt m) (atomicAt m) (sentAt m at now) (λ y. sent-values m w at now (y .port) (y .component))
+        (givenAt x) rootAt outputAt (λ y. values-all isValue (y .port) x values) maxAncestors (inn a q))
+        (bag-fits m at now fit a (root m) x ports)
+        (λ g q. in-right m at now g rising fit ready-all near x maxAncestors a q l (near a l)
+        ∙ sym (bag-right m at now x (λ y. cond (eqb q (y .port)) (g (y .value)) 0) a rising near (w .some-component) l e (coupled-parents (m .components) (w .components .fit)))
+        ∙ ap (λ t. on q g (bagAt m at now a t x)) root-tree)

@@ -1,0 +1,23 @@
+-- Laws of the pulled step, in the order of the argument.
+pub mod Tests
+pub mod Nests
+pub mod Flow
+pub mod Nodes
+pub mod Pulled
+pub mod Arriving
+pub mod Keys
+pub mod Values
+pub mod Ends
+pub mod Pruned
+pub mod Coded
+pub mod Marks
+pub mod Positions
+pub mod Numbered
+pub mod Flagged
+pub mod Closed
+pub mod TablePull
+pub mod Decided
+pub mod Moves
+pub mod StepLaw
+pub mod NextLaw
+pub mod Putting

@@ -1,0 +1,6 @@
+-- The account of a step that pulls, as the code's contracts cite it.
+pub mod Pull
+pub mod Put
+pub mod Tables
+pub mod TableStep
+pub mod Tabled
