@@ -1,0 +1,2 @@
+-- Laws of the tables by node and by link.
+pub mod Loops

@@ -1,0 +1,4 @@
+-- Laws of writes.
+pub mod Loops
+pub mod Columns
+pub mod Chains

@@ -1,0 +1,34 @@
+-- One store where the region has the row, none otherwise: the two sides of the definition's test. Assumes nothing.
+use borrow.Author.Needs.{needs}
+use native.Mathlib.Omega.{arith}
+use Rattle.table_words.specs.Writes.{putIn}
+use borrow.Author.Tests.{lt-ltb, le-ltb}
+use Rattle.table_words.proofs.put_in.Statement.{statement}
+use Rattle.table_words.proofs.put_in.Tie as tie
+use Rattle.table_words.proofs.put_in.Reads as reads
+use Rattle.table_words.proofs.put_in.Lts as lts
+
+add-t : tie.Need-add-t
+add-t c = search needs
+
+mul-t : tie.Need-mul-t
+mul-t c = search needs
+
+slice-write-t : tie.Need-slice-write-t
+slice-write-t c = search needs
+
+same-length : tie.Need-same-length
+same-length c = search needs
+
+returns : tie.Need-returns
+unfolding putIn
+returns c =
+    rw (lt-ltb _ _ (c .if1 .taken))
+
+returns-2 : tie.Need-returns-2
+unfolding putIn
+returns-2 c =
+    rw (le-ltb _ _ (c .if1 .left))
+
+pub put-in-spec : {M : Type 1} → statement M
+put-in-spec = tie.close (tie.spec add-t mul-t slice-write-t same-length returns returns-2)

@@ -1,0 +1,26 @@
+-- Within the slice it is the word, past the end the default. Assumes nothing.
+use borrow.Author.Needs.{needs}
+use native.Mathlib.Omega.{arith}
+use lib.ListN.{List·getD-eq-default}
+use denote.Ref.{now}
+use mathlib.Core.Path.{sym}
+use Rattle.table_words.proofs.word_at.Statement.{statement}
+use Rattle.table_words.proofs.word_at.Tie as tie
+use Rattle.table_words.proofs.word_at.Reads as reads
+use Rattle.table_words.proofs.word_at.Lts as lts
+
+mul-result : tie.Need-mul-result
+mul-result c = search needs
+
+shared-slice-read-result : tie.Need-shared-slice-read-result
+shared-slice-read-result c = search needs
+
+returns : tie.Need-returns
+returns c = search needs
+
+returns-2 : tie.Need-returns-2
+returns-2 c =
+    sym (List·getD-eq-default (now (c .before .args .t)) 0 (c .if1 .left))
+
+pub word-at-spec : {M : Type 1} → statement M
+word-at-spec = tie.close (tie.spec mul-result shared-slice-read-result returns returns-2)

@@ -1,0 +1,117 @@
+// The tables of a call are one slice of numbers: where its regions begin, and how words of it are read and written.
+ghost use mathlib.Core.Path.{_≡_};
+ghost use Prim.Native.Nat.{_+_, _<_, _≤_};
+ghost use lib.ListN.{getD, length};
+ghost use Rattle.table_words.specs.Writes.{column, cleared, putIn, linkAt, linked};
+use limits::MAX_COMPONENTS;
+use limits::MAX_COUPLINGS;
+use limits::MAX_NODES;
+
+// By position among the atomics: its component number.
+pub const NUMBERS_AT: usize = 0;
+
+// By component: position among the atomics, kind, order, first phase record, parent, first rule that names it and one past the last, first child, next sibling.
+pub const POSITIONS_AT: usize = MAX_COMPONENTS;
+
+pub const KINDS_AT: usize = 2 * MAX_COMPONENTS;
+
+pub const ORDERS_AT: usize = 3 * MAX_COMPONENTS;
+
+pub const PHASES_AT: usize = 4 * MAX_COMPONENTS;
+
+pub const PARENTS_AT: usize = 5 * MAX_COMPONENTS;
+
+pub const RULES_FROM_AT: usize = 6 * MAX_COMPONENTS;
+
+pub const RULES_TO_AT: usize = 7 * MAX_COMPONENTS;
+
+pub const CHILD_AT: usize = 8 * MAX_COMPONENTS;
+
+pub const SIBLING_AT: usize = 9 * MAX_COMPONENTS;
+
+// By node: the first link of the couplings that end there, and whether a source can lead there.
+pub const FIRST_AT: usize = 10 * MAX_COMPONENTS;
+
+pub const LIVE_AT: usize = FIRST_AT + MAX_NODES;
+
+// By link (coupling i is link i + 1, and link 0 is none): the next link of the same target, and the node where the coupling begins.
+pub const LINKS: usize = MAX_COUPLINGS + 1;
+
+pub const NEXT_AT: usize = LIVE_AT + MAX_NODES;
+
+pub const SOURCE_AT: usize = NEXT_AT + LINKS;
+
+// How many components there are.
+pub const COUNT_AT: usize = SOURCE_AT + LINKS;
+
+pub const TABLE_SIZE: usize = COUNT_AT + 1;
+
+pub fn word(x: u8) -> u16
+    ensures { λ r. ⌜ r ≡ x ⌝ }
+{
+    x as u16
+}
+
+// A word; past the end stand zeros.
+pub fn word_at(t: &[u16], at: usize) -> u16
+    ensures { λ r. ⌜ r ≡ getD (now (t .entry)) at 0 ⌝ }
+{
+    if at < t.len() { t[at] } else { 0 }
+}
+
+// Zeros everywhere.
+pub fn clear(t: &mut [u16])
+    ensures { λ _. ⌜ now (t .exit) ≡ cleared (now (t .entry)) ⌝ }
+{
+    let mut i: usize = 0;
+    while i < t.len() {
+        t[i] = 0;
+        i = i + 1;
+    }
+}
+
+// Row k of a region holds v, where the region has such a row.
+pub fn put_in(t: &mut [u16], at: usize, size: usize, k: usize, v: u16)
+    requires { ⌜ at + size ≤ length (now t) ⌝ }
+    ensures { λ _. ⌜ now (t .exit) ≡ putIn at size k v (now (t .entry)) ⌝ }
+{
+    if k < size {
+        t[at + k] = v;
+    }
+}
+
+// The first n words of a slice as a column.
+pub fn copy_words(words: &[u16], from: usize, n: usize, at: usize, t: &mut [u16])
+    requires { ⌜ (from + n ≤ length (now words)) × (at + n ≤ length (now t)) ⌝ }
+    ensures { λ _. ⌜ now (t .exit) ≡ column at (λ i. getD (now (words .entry)) (from + i) 0) n 0 (now (t .entry)) ⌝ }
+{
+    let mut i: usize = 0;
+    while i < n {
+        t[at + i] = words[from + i];
+        i = i + 1;
+    }
+}
+
+// Link j before the links of key k.
+fn link(t: &mut [u16], first: usize, size: usize, next: usize, k: usize, j: u16)
+    requires { ⌜ (first + size ≤ length (now t)) × (next + j < length (now t)) ⌝ }
+    ensures { λ _. ⌜ now (t .exit) ≡ linkAt first size next k j (now (t .entry)) ⌝ }
+{
+    if k < size {
+        t[next + little_endian::size16(j)] = t[first + k];
+        t[first + k] = j;
+    }
+}
+
+// The links 1 to n by their keys.
+pub fn link_all(keys: &[u16], n: u16, first: usize, size: usize, next: usize, t: &mut [u16])
+    requires { ⌜ (first + size ≤ length (now t)) × (next + n < length (now t)) ⌝ }
+    ensures { λ _. ⌜ now (t .exit) ≡ linked first size next (λ j. getD (now (keys .entry)) j 0) n (now (t .entry)) ⌝ }
+{
+    let mut j = n;
+    while 0 < j {
+        let k = little_endian::size16(word_at(keys, little_endian::size16(j)));
+        link(t, first, size, next, k, j);
+        j = j - 1;
+    }
+}
