@@ -1,0 +1,69 @@
+-- A refused model gives its number (`read-refused`); an accepted one is read.
+use borrow.Author.Needs.{needs}
+use Rattle.reading.proofs.Answering.{read-refused}
+use Rattle.model.specs.Checked.{checkedAs}
+use mathlib.Core.Path.{_∙_, ap, sym}
+use Rattle.reading.proofs.read.Statement.{statement}
+use Rattle.reading.proofs.read.Tie as tie
+use Rattle.reading.proofs.read.Reads as reads
+use Rattle.reading.proofs.read.Lts as lts
+use Rattle.model.proofs.checked_number.Reads as checked-number-reads
+use Rattle.reading.proofs.read_accepted.Reads as read-accepted-reads
+use Rattle.reading.proofs.refused.Reads as refused-reads
+use Rattle.reading.proofs.wide16.Reads as wide16-reads
+use Rattle.route_count.proofs.check.Reads as check-reads
+
+-- src/lib.rt:99:9
+check-requires : tie.Need-check-requires
+check-requires c κs = search needs
+
+-- src/lib.rt:100:27
+enum-known-checked : tie.Need-enum-known-checked
+enum-known-checked c = search needs
+
+-- src/lib.rt:101:31
+enum-told : tie.Need-enum-told
+enum-told c = search needs
+
+-- src/lib.rt:101:31
+checked-number-requires : tie.Need-checked-number-requires
+checked-number-requires c κs = search needs
+
+-- src/lib.rt:101:24
+wide16-requires : tie.Need-wide16-requires
+wide16-requires c κs = search needs
+
+-- src/lib.rt:101:9
+refused-requires : tie.Need-refused-requires
+refused-requires c κs = search needs
+
+-- src/lib.rt:101:9
+returns : tie.Need-returns
+returns c =
+    let a = c .before .before .before .before .before .before .before .before .args in
+    let told = sym (ap (checkedAs (a .file .now)) (c .before .before .before .enum-told .given .1)) ∙ c .before .before .before .before .before .check .ensures in
+    c .refused .ensures ∙ rw (c .before .wide16 .ensures, c .before .before .checked-number .ensures, c .before .before .before .enum-told .given .1) (read-refused (a .file .now) (a .run .now) (a .position) _ told)
+
+-- src/lib.rt:103:5
+read-accepted-requires : tie.Need-read-accepted-requires
+read-accepted-requires c κs =
+    sym (ap (checkedAs (c .before .before .before .before .before .before .args .file .now)) (c .before .checked .given .1)) ∙ c .before .before .before .check .ensures
+
+-- src/lib.rt:96:1
+returns-2 : tie.Need-returns-2
+returns-2 c =
+    c .read-accepted .ensures
+
+pub read-spec : {M : Type 1} → statement M
+read-spec =
+    tie.close
+    (tie.spec
+    check-requires
+    enum-known-checked
+    enum-told
+    checked-number-requires
+    wide16-requires
+    refused-requires
+    returns
+    read-accepted-requires
+    returns-2)

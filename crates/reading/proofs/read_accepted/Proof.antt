@@ -1,0 +1,124 @@
+-- A run that does not fit (`read-unfit`), a position past the last atomic (`read-past`), or the entry there and the next due moment
+-- (`answered`, `read-done`).
+use borrow.Author.Needs.{needs}
+use native.Mathlib.Omega.{arith}
+use Rattle.reading.proofs.Whole.{not-true, not-false, few-atomics}
+use Rattle.reading.proofs.Answering.{fits-file, count-file, read-unfit, read-past, read-done, answered}
+use Rattle.run_calls.proofs.Starts.{few-components}
+use Rattle.saved_run.specs.Runs.{bare, entryOf}
+use Rattle.model.specs.Checked.{modelOf}
+use Rattle.model_records.specs.Values.{componentsIn}
+use Rattle.definition.specs.Engine.{dueNumber}
+use Rattle.definition.specs.SavedRun.{fits}
+use Rattle.definition.specs.Model.{atomics}
+use Rattle.definition.specs.Bytes.{Bytes}
+use lib.ListN.{length}
+use Prim.Native.Nat.{_<_}
+use mathlib.Core.Path.{_∙_, ap, ap₂, sym}
+use Rattle.reading.proofs.read_accepted.Statement.{statement}
+use Rattle.reading.proofs.read_accepted.Tie as tie
+use Rattle.reading.proofs.read_accepted.Reads as reads
+use Rattle.reading.proofs.read_accepted.Lts as lts
+use Rattle.model.proofs.components_of.Reads as components-of-reads
+use Rattle.model.proofs.phases_of.Reads as phases-of-reads
+use Rattle.reading.proofs.due_number.Reads as due-number-reads
+use Rattle.reading.proofs.refused.Reads as refused-reads
+use Rattle.reading.proofs.whole_due.Reads as whole-due-reads
+use Rattle.reading.proofs.wide.Reads as wide-reads
+use Rattle.saved_run.proofs.atomic_count.Reads as atomic-count-reads
+use Rattle.saved_run.proofs.entry_at.Reads as entry-at-reads
+use Rattle.saved_run.proofs.fits.Reads as fits-reads
+
+-- src/lib.rt:78:9
+components-of-requires : tie.Need-components-of-requires
+components-of-requires c κs = search needs
+
+-- src/lib.rt:79:37
+phases-of-requires : tie.Need-phases-of-requires
+phases-of-requires c κs = search needs
+
+-- src/lib.rt:79:9
+fits-requires : tie.Need-fits-requires
+fits-requires c κs =
+    let a = c .before .before .before .before .args in
+    rw (c .before .components-of .ensures) (few-components (a .file .now) (a .n) (λ i. c .before .before .before .shared-slice-known .given i .fits) (c .before .before .before .before .pre))
+
+-- src/lib.rt:80:9
+refused-requires : tie.Need-refused-requires
+refused-requires c κs = search needs
+
+-- src/lib.rt:80:9
+returns : tie.Need-returns
+returns c =
+    let a = c .before .before .before .before .before .before .before .args in
+    let f = c .before .before .fits2 .ensures ∙ ap₂ (λ (x y : Bytes). fits (bare x y) (a .run .now)) (c .before .before .before .before .components-of .ensures) (c .before .before .before .phases-of .ensures) ∙ fits-file (a .file .now) (a .run .now) (a .n) in
+    c .refused .ensures ∙ read-unfit (a .file .now) (a .run .now) (a .position) (modelOf (a .file .now) (a .n)) (c .before .before .before .before .before .before .before .pre) (sym f ∙ not-true (c .before .before .fits2 .result) (c .before .if1 .taken))
+
+-- src/lib.rt:82:9
+atomic-count-requires : tie.Need-atomic-count-requires
+atomic-count-requires c κs = search needs
+
+-- src/lib.rt:84:9
+refused-requires-2 : tie.Need-refused-requires-2
+refused-requires-2 c κs = search needs
+
+-- src/lib.rt:84:9
+returns-2 : tie.Need-returns-2
+returns-2 c =
+    let a = c .before .before .before .before .before .before .before .before .before .args in
+    let f = c .before .before .before .before .fits2 .ensures ∙ ap₂ (λ (x y : Bytes). fits (bare x y) (a .run .now)) (c .before .before .before .before .before .before .components-of .ensures) (c .before .before .before .before .before .phases-of .ensures) ∙ fits-file (a .file .now) (a .run .now) (a .n) in
+    let ce = c .before .before .atomic-count .ensures ∙ ap (λ (s : Bytes). length (atomics (componentsIn s))) (c .before .before .before .before .before .before .components-of .ensures) ∙ count-file (a .file .now) (a .n) in
+    c .refused2 .ensures ∙ read-past (a .file .now) (a .run .now) (a .position) (modelOf (a .file .now) (a .n)) (c .before .before .before .before .before .before .before .before .before .pre) (sym f ∙ not-false (c .before .before .before .before .fits2 .result) (c .before .before .before .if1 .left)) (omega (arith, ce, c .before .if2 .taken))
+
+-- src/lib.rt:86:9
+entry-at-requires : tie.Need-entry-at-requires
+entry-at-requires c κs =
+    let a = c .before .before .before .before .before .before .before .before .args in
+    let ce = c .before .atomic-count .ensures ∙ ap (λ (s : Bytes). length (atomics (componentsIn s))) (c .before .before .before .before .before .components-of .ensures) ∙ count-file (a .file .now) (a .n) in
+    omega (arith, ce, few-atomics (a .file .now) (a .n) (λ i. c .before .before .before .before .before .before .before .shared-slice-known .given i .fits) (c .before .before .before .before .before .before .before .before .pre), c .if2 .left)
+
+-- src/lib.rt:90:16
+wide-requires : tie.Need-wide-requires
+wide-requires c κs = search needs
+
+-- src/lib.rt:92:30
+whole-due-requires : tie.Need-whole-due-requires
+whole-due-requires c κs =
+    let a = c .before .before .before .before .before .before .before .before .before .before .before .args in
+    let f = c .before .before .before .before .before .before .fits2 .ensures ∙ ap₂ (λ (x y : Bytes). fits (bare x y) (a .run .now)) (c .before .before .before .before .before .before .before .before .components-of .ensures) (c .before .before .before .before .before .before .before .phases-of .ensures) ∙ fits-file (a .file .now) (a .run .now) (a .n) in
+    let ce = c .before .before .before .before .atomic-count .ensures ∙ ap (λ (s : Bytes). length (atomics (componentsIn s))) (c .before .before .before .before .before .before .before .before .components-of .ensures) ∙ count-file (a .file .now) (a .n) in
+    (c .before .before .before .before .before .before .before .before .before .before .before .pre, sym f ∙ not-false (c .before .before .before .before .before .before .fits2 .result) (c .before .before .before .before .before .if1 .left), ce)
+
+-- src/lib.rt:92:19
+due-number-requires : tie.Need-due-number-requires
+due-number-requires c κs = search needs
+
+-- src/lib.rt:74:1
+returns-3 : tie.Need-returns-3
+returns-3 c =
+    let a = c .before .before .before .before .before .before .before .before .before .before .before .before .before .args in
+    let f = c .before .before .before .before .before .before .before .before .fits2 .ensures ∙ ap₂ (λ (x y : Bytes). fits (bare x y) (a .run .now)) (c .before .before .before .before .before .before .before .before .before .before .components-of .ensures) (c .before .before .before .before .before .before .before .before .before .phases-of .ensures) ∙ fits-file (a .file .now) (a .run .now) (a .n) in
+    let ce = c .before .before .before .before .before .before .atomic-count .ensures ∙ ap (λ (s : Bytes). length (atomics (componentsIn s))) (c .before .before .before .before .before .before .before .before .before .before .components-of .ensures) ∙ count-file (a .file .now) (a .n) in
+    let m = modelOf (a .file .now) (a .n) in
+    let l : a .position < length (atomics (m .components)) = omega (arith, ce, c .before .before .before .before .before .if2 .left) in
+    rw (c .before .before .wide .ensures)
+    (answered m (a .run .now) (a .position) (entryOf (c .before .before .before .before .entry-at .result)) (c .due-number .result) l (c .before .before .before .before .entry-at .ensures) (c .due-number .ensures ∙ ap dueNumber (c .before .whole-due .ensures))
+    ∙ read-done (a .file .now) (a .run .now) (a .position) m (c .before .before .before .before .before .before .before .before .before .before .before .before .before .pre) (sym f ∙ not-false (c .before .before .before .before .before .before .before .before .fits2 .result) (c .before .before .before .before .before .before .before .if1 .left)) l)
+
+pub read-accepted-spec : {M : Type 1} → statement M
+read-accepted-spec =
+    tie.close
+    (tie.spec
+    components-of-requires
+    phases-of-requires
+    fits-requires
+    refused-requires
+    returns
+    atomic-count-requires
+    refused-requires-2
+    returns-2
+    entry-at-requires
+    wide-requires
+    whole-due-requires
+    due-number-requires
+    returns-3)

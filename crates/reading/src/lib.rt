@@ -1,0 +1,112 @@
+// The call read, whole: the check of the model, the checks of run and position, and what stands at the position.
+ghost use mathlib.Core.Path.{_≡_};
+ghost use mathlib.Core.Bool.{true};
+ghost use lib.ListN.{length};
+ghost use Rattle.definition.specs.Bytes.{ok};
+ghost use Rattle.definition.specs.Limits.{maxComponents};
+ghost use Rattle.definition.specs.Model.{atomics};
+ghost use Rattle.definition.specs.Routes.{accepted};
+ghost use Rattle.definition.specs.SavedRun.{runOf, nextDue, fits};
+ghost use Rattle.definition.specs.Engine.{dueNumber, reading};
+ghost use Rattle.clock.specs.Times.{timeOf};
+ghost use Rattle.model.specs.Checked.{modelOf};
+ghost use Rattle.reading.specs.Answers.{readOf};
+use clock::Due;
+use model::Checked;
+use model::Counts;
+use table_words::TABLE_SIZE;
+
+// The number, 0 for success; the phase and the last moment of the atomic at the position; and the whole model's next due moment.
+pub struct Reading {
+    pub number: u64,
+    pub phase: u64,
+    pub last: u64,
+    pub next_due: u64,
+}
+
+fn wide(x: u8) -> u64
+    ensures { λ r. ⌜ r ≡ x ⌝ }
+{
+    x as u64
+}
+
+fn wide16(x: u16) -> u64
+    ensures { λ r. ⌜ r ≡ x ⌝ }
+{
+    x as u64
+}
+
+// A refused reading: zeros in every other number.
+fn refused(number: u64) -> Reading
+    ensures { λ r. ⌜ readOf r ≡ record { number = number; phase = 0; last = 0; due = 0 } ⌝ }
+{
+    Reading {
+        number,
+        phase: 0,
+        last: 0,
+        next_due: 0,
+    }
+}
+
+// The moment, or 18,446,744,073,709,551,615 for never.
+fn due_number(due: Due) -> u64
+    ensures { λ r. ⌜ r ≡ dueNumber (timeOf due) ⌝ }
+{
+    match due {
+        Due::At(moment) => moment.0,
+        Due::Never => 18446744073709551615,
+    }
+}
+
+// The next due moment of the whole model, for a run of `count` atomics that fits.
+fn whole_due(file: &[u8], n: Counts, run: &[u8], count: usize) -> Due
+    requires { ⌜ (ok (modelOf (now file) n) ≡ accepted (now file)) × (fits (modelOf (now file) n) (now run) ≡ true)
+        × (count ≡ length (atomics (modelOf (now file) n .components))) ⌝ }
+    ensures { λ r. ⌜ timeOf r ≡ nextDue (modelOf (now (file .entry)) n) (runOf (modelOf (now (file .entry)) n) (now (run .entry)) .entries) ⌝ }
+{
+    let mut tables = [0u16; TABLE_SIZE];
+    tables::fill_tables(
+        model::components_of(file, n),
+        model::rules_of(file, n),
+        model::couplings_of(file, n),
+        &mut tables,
+    );
+    dues::next_due(
+        model::phases_of(file, n),
+        &tables,
+        saved_run::load(run, count),
+    )
+}
+
+// The checks of run and position, and the answer, for an accepted model.
+fn read_accepted(file: &[u8], n: Counts, run: &[u8], position: u64) -> Reading
+    requires { ⌜ ok (modelOf (now file) n) ≡ accepted (now file) ⌝ }
+    ensures { λ r. ⌜ readOf r ≡ reading (now (file .entry)) (now (run .entry)) position ⌝ }
+{
+    let components = model::components_of(file, n);
+    if !saved_run::fits(components, model::phases_of(file, n), run) {
+        return refused(10);
+    }
+    let count = saved_run::atomic_count(components);
+    if count as u64 <= position {
+        return refused(16);
+    }
+    let entry = saved_run::entry_at(run, position as usize);
+    let last = entry.last;
+    Reading {
+        number: 0,
+        phase: wide(entry.phase),
+        last: last.0,
+        next_due: due_number(whole_due(file, n, run, count)),
+    }
+}
+
+pub fn read(file: &[u8], run: &[u8], position: u64) -> Reading
+    ensures { λ r. ⌜ readOf r ≡ reading (now (file .entry)) (now (run .entry)) position ⌝ }
+{
+    let checked = route_count::check(file);
+    let Checked::Accepted(n) = checked else {
+        return refused(wide16(model::checked_number(checked)));
+    };
+    read_accepted(file, n, run, position)
+}
