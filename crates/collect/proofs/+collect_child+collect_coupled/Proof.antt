@@ -1,0 +1,252 @@
+-- What is put so far and what the rest of the chain gives is all that the coupled component puts out; one coupling more is one call for a
+-- child, one level further down. The measures are twice the depth, and one more for the child.
+use borrow.Author.Needs.{needs}
+use native.Mathlib.Omega.{arith}
+use Prim.Native.Nat.{_≤_, _+_, _-_, _*_, _/_, ℕ, _<_}
+use mathlib.Core.Path.{_≡_, _∙_, refl, sym, ap}
+use mathlib.Core.List.{[]}
+use mathlib.Core.Bool.{true, false}
+use lib.ListN.{getD, length}
+use denote.Ref.{now}
+use borrow.Author.Tests.{eq-eqb, ne-eqb, not-true, not-false}
+use Rattle.pull_laws.specs.TableStep.{isOpen, pulledBelow}
+use Rattle.pull_laws.specs.Tables.{kindsAt, nodeComponent, atomicAt, atomicNode}
+use Rattle.pull_laws.specs.Put.{puts}
+use Rattle.pull_laws.specs.Pull.{joined, childOut, coupledOut}
+use Rattle.model_records.specs.Values.{phasesIn}
+use Rattle.collect.specs.Turns.{pulledChild}
+use Rattle.collect.proofs.Laws.{rowsFrom, both-left, chain-more, chain-end, coupled-open, coupled-shut, sent-by}
+use borrow.Fn.Kinds.{In}
+use borrow.Fn.PlainCycle.{Measures, is, falls, and}
+use Rattle.collect.proofs.collect_child.Reads as collect-child
+use Rattle.collect.proofs.collect_child.Kinds as collect-child-kinds
+use Rattle.collect.proofs.+collect_child+collect_coupled.Lts-collect_child as collect-child-lts
+use Rattle.collect.proofs.collect_coupled.Reads as collect-coupled
+use Rattle.collect.proofs.collect_coupled.Kinds as collect-coupled-kinds
+use Rattle.collect.proofs.+collect_child+collect_coupled.Lts-collect_coupled as collect-coupled-lts
+use Rattle.bag_keys.proofs.key_at.Reads as key-at-reads
+use Rattle.bag_keys.proofs.put_sent.Reads as put-sent-reads
+use Rattle.collect.proofs.first_link.Reads as first-link-reads
+use Rattle.collect.proofs.is_open.Reads as is-open-reads
+use Rattle.collect.proofs.next_link.Reads as next-link-reads
+use Rattle.collect.proofs.port_of.Reads as port-of-reads
+use Rattle.collect.proofs.size.Reads as size-reads
+use Rattle.collect.proofs.source_of.Reads as source-of-reads
+use Rattle.table_words.proofs.word_at.Reads as word-at-reads
+use Rattle.collect.proofs.+collect_child+collect_coupled.{statement}
+use Rattle.collect.proofs.+collect_child+collect_coupled.Tie.{close}
+
+abbrev μ-collect-child : Measures 5 collect-child-kinds.ps ℕ
+μ-collect-child κs a = 2 * a .1 .1 .1 .1 .0 + 1
+
+abbrev μ-collect-coupled : Measures 5 collect-coupled-kinds.ps ℕ
+μ-collect-coupled κs a = 2 * a .1 .1 .1 .1 .0
+
+abbrev collect-child-at : ℕ → In 5 collect-child-kinds.ps
+collect-child-at t =
+    and 5 collect-child-kinds.ps (is 5 collect-child-kinds.ps μ-collect-child t) collect-child.Pre
+
+abbrev collect-child-below : ℕ → In 5 collect-child-kinds.ps
+collect-child-below t =
+    and
+    5
+    collect-child-kinds.ps
+    (falls 5 collect-child-kinds.ps _<_ μ-collect-child t)
+    collect-child.Pre
+
+abbrev collect-coupled-at : ℕ → In 5 collect-coupled-kinds.ps
+collect-coupled-at t =
+    and
+    5
+    collect-coupled-kinds.ps
+    (is 5 collect-coupled-kinds.ps μ-collect-coupled t)
+    collect-coupled.Pre
+
+abbrev collect-coupled-below : ℕ → In 5 collect-coupled-kinds.ps
+collect-coupled-below t =
+    and
+    5
+    collect-coupled-kinds.ps
+    (falls 5 collect-coupled-kinds.ps _<_ μ-collect-coupled t)
+    collect-coupled.Pre
+
+abbrev collect-child-calls : ℕ → collect-child-lts.Claims
+collect-child-calls t = (size-reads.Asked, size-reads.Learnt, word-at-reads.Asked, word-at-reads.Learnt, key-at-reads.Asked, key-at-reads.Learnt, port-of-reads.Asked, port-of-reads.Learnt, put-sent-reads.Asked, put-sent-reads.Learnt, collect-coupled-below t, collect-coupled.Post)
+
+abbrev collect-coupled-calls : ℕ → collect-coupled-lts.Claims
+collect-coupled-calls t = (is-open-reads.Asked, is-open-reads.Learnt, first-link-reads.Asked, first-link-reads.Learnt, source-of-reads.Asked, source-of-reads.Learnt, collect-child-below t, collect-child.Post, next-link-reads.Asked, next-link-reads.Learnt)
+
+collect-child-size-requires : (t : ℕ) → collect-child-lts.Need-size-requires (collect-child-calls t) (collect-child-at t) collect-child.Post
+collect-child-size-requires t c κs = search needs
+
+collect-child-add-word-at : (t : ℕ) → collect-child-lts.Need-add-word-at (collect-child-calls t) (collect-child-at t) collect-child.Post
+collect-child-add-word-at t c = search needs
+
+collect-child-word-at-requires : (t : ℕ) → collect-child-lts.Need-word-at-requires (collect-child-calls t) (collect-child-at t) collect-child.Post
+collect-child-word-at-requires t c κs = search needs
+
+collect-child-key-at-requires : (t : ℕ) → collect-child-lts.Need-key-at-requires (collect-child-calls t) (collect-child-at t) collect-child.Post
+collect-child-key-at-requires t c κs = search needs
+
+collect-child-port-of-requires : (t : ℕ) → collect-child-lts.Need-port-of-requires (collect-child-calls t) (collect-child-at t) collect-child.Post
+collect-child-port-of-requires t c κs = search needs
+
+collect-child-put-sent-requires : (t : ℕ) → collect-child-lts.Need-put-sent-requires (collect-child-calls t) (collect-child-at t) collect-child.Post
+collect-child-put-sent-requires t c κs = search needs
+
+collect-child-same-length : (t : ℕ) → collect-child-lts.Need-same-length (collect-child-calls t) (collect-child-at t) collect-child.Post
+collect-child-same-length t c =
+    c .before .before .put-sent .kept .1 .1 .1 .1 .0
+
+collect-child-returns : (t : ℕ) → collect-child-lts.Need-returns (collect-child-calls t) (collect-child-at t) collect-child.Post
+unfolding childOut atomicNode atomicAt nodeComponent
+collect-child-returns t c =
+    let a = c .before .before .before .before .before .before .before .before .before .before .before .before .before .before .args in
+    let f : getD (now (a .tables)) (kindsAt + a .y / 8) 0 ≡ c .before .before .before .before .before .before .before .word-at .result = sym (rw (c .before .before .before .before .before .before .before .before .size .ensures) at (c .before .before .before .before .before .before .before .word-at .ensures)) in
+    rw (eq-eqb _ _ (f ∙ c .before .before .before .before .before .before .if1 .taken), ← sent-by (phasesIn (now (a .phases))) (now (a .tables)) (now (a .marks)) (a .y)) (rw (c .before .before .before .before .before .key-at .ensures, c .before .before .before .before .before .before .before .before .size .ensures, c .before .before .before .before .port-of .ensures) at (c .before .before .put-sent .ensures))
+
+collect-child-collect-coupled-requires : (t : ℕ) → collect-child-lts.Need-collect-coupled-requires (collect-child-calls t) (collect-child-at t) collect-child.Post
+collect-child-collect-coupled-requires t c κs = search needs
+
+collect-child-same-length-2 : (t : ℕ) → collect-child-lts.Need-same-length-2 (collect-child-calls t) (collect-child-at t) collect-child.Post
+collect-child-same-length-2 t c =
+    c .before .before .collect-coupled .kept .1 .1 .1 .1 .1 .1 .1 .0
+
+collect-child-returns-2 : (t : ℕ) → collect-child-lts.Need-returns-2 (collect-child-calls t) (collect-child-at t) collect-child.Post
+unfolding childOut atomicNode atomicAt nodeComponent
+collect-child-returns-2 t c =
+    let a = c .before .before .before .before .before .before .before .before .before .before .before .before .args in
+    let f : getD (now (a .tables)) (kindsAt + a .y / 8) 0 ≡ c .before .before .before .before .before .word-at .result = sym (rw (c .before .before .before .before .before .before .size .ensures) at (c .before .before .before .before .before .word-at .ensures)) in
+    rw (ne-eqb _ _ (λ q. c .before .before .before .before .if1 .left (sym f ∙ q))) (c .before .before .collect-coupled .ensures)
+
+abbrev collect-coupled-Inv-loop : collect-coupled-lts.InvT-loop
+collect-coupled-Inv-loop phases tables marks reached depth own x buf₀ at next₀ left₀ link₀ buf next left link =
+    (left ≤ 1024) × (length buf ≡ length buf₀) ×
+    (puts own (joined (pulledChild (phasesIn phases) tables marks reached (depth - 1)) (rowsFrom tables left link)) (buf, next) ≡
+    puts own (pulledBelow (phasesIn phases) tables marks reached depth x) (buf₀, at))
+
+abbrev collect-coupled-μ-loop : collect-coupled-lts.MeasureT-loop
+collect-coupled-μ-loop phases tables marks reached depth own x buf₀ at next₀ left₀ link₀ buf next left link = left
+
+collect-coupled-returns : (t : ℕ) → collect-coupled-lts.Need-returns (collect-coupled-calls t) (collect-coupled-at t) collect-coupled.Post collect-coupled-Inv-loop collect-coupled-μ-loop
+unfolding coupledOut puts
+collect-coupled-returns t c =
+    rw (c .if1 .taken)
+
+collect-coupled-is-open-requires : (t : ℕ) → collect-coupled-lts.Need-is-open-requires (collect-coupled-calls t) (collect-coupled-at t) collect-coupled.Post collect-coupled-Inv-loop collect-coupled-μ-loop
+collect-coupled-is-open-requires t c κs = search needs
+
+collect-coupled-returns-2 : (t : ℕ) → collect-coupled-lts.Need-returns-2 (collect-coupled-calls t) (collect-coupled-at t) collect-coupled.Post collect-coupled-Inv-loop collect-coupled-μ-loop
+unfolding puts
+collect-coupled-returns-2 t c =
+    let a = c .before .before .before .before .before .before .before .before .args in
+    let s : isOpen [] (now (a .tables)) (now (a .marks)) (now (a .reached)) (a .x) ≡ false = sym (c .before .is-open .ensures) ∙ not-true _ (c .if2 .taken) in
+    rw (coupled-shut (phasesIn (now (a .phases))) (now (a .tables)) (now (a .marks)) (now (a .reached)) (a .depth) (a .x) s)
+
+collect-coupled-first-link-requires : (t : ℕ) → collect-coupled-lts.Need-first-link-requires (collect-coupled-calls t) (collect-coupled-at t) collect-coupled.Post collect-coupled-Inv-loop collect-coupled-μ-loop
+collect-coupled-first-link-requires t c κs = search needs
+
+collect-coupled-loop-holds : (t : ℕ) → collect-coupled-lts.Need-loop-holds (collect-coupled-calls t) (collect-coupled-at t) collect-coupled.Post collect-coupled-Inv-loop collect-coupled-μ-loop
+collect-coupled-loop-holds t c =
+    let a = c .before .before .before .before .before .before .before .before .before .args in
+    let s : isOpen [] (now (a .tables)) (now (a .marks)) (now (a .reached)) (a .x) ≡ true = sym (c .before .before .is-open .ensures) ∙ not-false _ (c .before .if2 .left) in
+    (omega arith, refl, rw (c .first-link .ensures) (ap (λ l. puts (a .own) l (now (a .buf), a .at)) (coupled-open (phasesIn (now (a .phases))) (now (a .tables)) (now (a .marks)) (now (a .reached)) (a .depth) (a .x) (omega arith) s)))
+
+collect-coupled-source-of-requires : (t : ℕ) → collect-coupled-lts.Need-source-of-requires (collect-coupled-calls t) (collect-coupled-at t) collect-coupled.Post collect-coupled-Inv-loop collect-coupled-μ-loop
+collect-coupled-source-of-requires t c κs = search needs
+
+collect-coupled-sub-collect-child : (t : ℕ) → collect-coupled-lts.Need-sub-collect-child (collect-coupled-calls t) (collect-coupled-at t) collect-coupled.Post collect-coupled-Inv-loop collect-coupled-μ-loop
+collect-coupled-sub-collect-child t c = search needs
+
+collect-coupled-collect-child-requires : (t : ℕ) → collect-coupled-lts.Need-collect-child-requires (collect-coupled-calls t) (collect-coupled-at t) collect-coupled.Post collect-coupled-Inv-loop collect-coupled-μ-loop
+collect-coupled-collect-child-requires t c κs = search needs
+
+collect-coupled-next-link-requires : (t : ℕ) → collect-coupled-lts.Need-next-link-requires (collect-coupled-calls t) (collect-coupled-at t) collect-coupled.Post collect-coupled-Inv-loop collect-coupled-μ-loop
+collect-coupled-next-link-requires t c κs = search needs
+
+collect-coupled-sub-left : (t : ℕ) → collect-coupled-lts.Need-sub-left (collect-coupled-calls t) (collect-coupled-at t) collect-coupled.Post collect-coupled-Inv-loop collect-coupled-μ-loop
+collect-coupled-sub-left t c =
+    omega (arith, both-left (c .before .before .before .before .before .before .before .loop .left) (c .before .before .before .before .before .before .before .loop .link) (c .before .before .before .before .before .before .loop-test .taken) .0)
+
+collect-coupled-loop-less : (t : ℕ) → collect-coupled-lts.Need-loop-less (collect-coupled-calls t) (collect-coupled-at t) collect-coupled.Post collect-coupled-Inv-loop collect-coupled-μ-loop
+collect-coupled-loop-less t c =
+    omega (arith, both-left (c .before .before .before .before .before .before .before .loop .left) (c .before .before .before .before .before .before .before .loop .link) (c .before .before .before .before .before .before .loop-test .taken) .0)
+
+collect-coupled-loop-again : (t : ℕ) → collect-coupled-lts.Need-loop-again (collect-coupled-calls t) (collect-coupled-at t) collect-coupled.Post collect-coupled-Inv-loop collect-coupled-μ-loop
+collect-coupled-loop-again t c =
+    let a = c .before .before .before .before .before .before .before .before .before .before .before .before .before .before .before .before .before .args in
+    let l = c .before .before .before .before .before .before .before .loop in
+    let m = c .before .before .before .collect-child in
+    let f = pulledChild (phasesIn (now (a .phases))) (now (a .tables)) (now (a .marks)) (now (a .reached)) (a .depth - 1) in
+    (omega arith, m .kept .1 .1 .1 .1 .1 .1 .1 .0 ∙ l .inv .1, rw (m .ensures, c .before .before .before .before .before .source-of .ensures, c .next-link .ensures) (chain-more f (now (a .tables)) (a .own) (l .left) (l .link) (l .buf, l .next) (c .before .before .before .before .before .before .loop-test .taken) ∙ l .inv .2))
+
+collect-coupled-same-length : (t : ℕ) → collect-coupled-lts.Need-same-length (collect-coupled-calls t) (collect-coupled-at t) collect-coupled.Post collect-coupled-Inv-loop collect-coupled-μ-loop
+collect-coupled-same-length t c =
+    c .before .loop .inv .1
+
+collect-coupled-returns-3 : (t : ℕ) → collect-coupled-lts.Need-returns-3 (collect-coupled-calls t) (collect-coupled-at t) collect-coupled.Post collect-coupled-Inv-loop collect-coupled-μ-loop
+collect-coupled-returns-3 t c =
+    let a = c .before .before .before .before .before .before .before .before .before .before .before .args in
+    let l = c .before .loop in
+    let f = pulledChild (phasesIn (now (a .phases))) (now (a .tables)) (now (a .marks)) (now (a .reached)) (a .depth - 1) in
+    sym (chain-end f (now (a .tables)) (a .own) (l .left) (l .link) (l .buf, l .next) (c .loop-test .left)) ∙ l .inv .2
+
+pub +collect-child+collect-coupled-spec : {M : Type 1} → statement M
++collect-child+collect-coupled-spec =
+    close μ-collect-child μ-collect-coupled (λ t. collect-child-lts.spec (
+      size-reads.Asked,
+      size-reads.Learnt,
+      word-at-reads.Asked,
+      word-at-reads.Learnt,
+      key-at-reads.Asked,
+      key-at-reads.Learnt,
+      port-of-reads.Asked,
+      port-of-reads.Learnt,
+      put-sent-reads.Asked,
+      put-sent-reads.Learnt,
+      collect-coupled-below t,
+      collect-coupled.Post,
+    )
+    (collect-child-at t)
+    collect-child.Post
+    (collect-child-size-requires t)
+    (collect-child-add-word-at t)
+    (collect-child-word-at-requires t)
+    (collect-child-key-at-requires t)
+    (collect-child-port-of-requires t)
+    (collect-child-put-sent-requires t)
+    (collect-child-same-length t)
+    (collect-child-returns t)
+    (collect-child-collect-coupled-requires t)
+    (collect-child-same-length-2 t)
+    (collect-child-returns-2 t))
+    λ t. collect-coupled-lts.spec (
+      is-open-reads.Asked,
+      is-open-reads.Learnt,
+      first-link-reads.Asked,
+      first-link-reads.Learnt,
+      source-of-reads.Asked,
+      source-of-reads.Learnt,
+      collect-child-below t,
+      collect-child.Post,
+      next-link-reads.Asked,
+      next-link-reads.Learnt,
+    )
+    (collect-coupled-at t)
+    collect-coupled.Post
+    collect-coupled-Inv-loop
+    collect-coupled-μ-loop
+    (collect-coupled-returns t)
+    (collect-coupled-is-open-requires t)
+    (collect-coupled-returns-2 t)
+    (collect-coupled-first-link-requires t)
+    (collect-coupled-loop-holds t)
+    (collect-coupled-source-of-requires t)
+    (collect-coupled-sub-collect-child t)
+    (collect-coupled-collect-child-requires t)
+    (collect-coupled-next-link-requires t)
+    (collect-coupled-sub-left t)
+    (collect-coupled-loop-less t)
+    (collect-coupled-loop-again t)
+    (collect-coupled-same-length t)
+    (collect-coupled-returns-3 t)

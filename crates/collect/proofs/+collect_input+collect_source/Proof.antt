@@ -1,0 +1,247 @@
+-- What is put so far and what the rest of the chain gives is all that arrives at the input; one coupling more is one call for its source, one
+-- level further up. The measures are twice the depth, and one more for the source.
+use borrow.Author.Needs.{needs}
+use native.Mathlib.Omega.{arith}
+use Prim.Native.Nat.{_≤_, _+_, _-_, _*_, ℕ, _<_}
+use mathlib.Core.Path.{_≡_, _∙_, refl, sym, ap}
+use mathlib.Core.List.{[]}
+use mathlib.Core.Bool.{true, false}
+use lib.ListN.{length}
+use denote.Ref.{now}
+use borrow.Author.Tests.{lt-ltb, le-ltb, not-true, not-false}
+use Rattle.pull_laws.specs.TableStep.{isOpen, pulledInto}
+use Rattle.pull_laws.specs.Tables.{isRootNode, isOutput}
+use Rattle.pull_laws.specs.Put.{puts}
+use Rattle.pull_laws.specs.Pull.{joined, sourceIn}
+use Rattle.model_records.specs.Values.{phasesIn}
+use Rattle.definition.specs.Engine.{toBag}
+use Rattle.collect.specs.Turns.{pulledFrom}
+use Rattle.collect.proofs.Laws.{rowsFrom, both-left, chain-more, chain-end, input-root, input-none, input-open, input-shut}
+use borrow.Fn.Kinds.{In}
+use borrow.Fn.PlainCycle.{Measures, is, falls, and}
+use Rattle.collect.proofs.collect_input.Reads as collect-input
+use Rattle.collect.proofs.collect_input.Kinds as collect-input-kinds
+use Rattle.collect.proofs.+collect_input+collect_source.Lts-collect_input as collect-input-lts
+use Rattle.collect.proofs.collect_source.Reads as collect-source
+use Rattle.collect.proofs.collect_source.Kinds as collect-source-kinds
+use Rattle.collect.proofs.+collect_input+collect_source.Lts-collect_source as collect-source-lts
+use Rattle.bag_keys.proofs.put_given.Reads as put-given-reads
+use Rattle.collect.proofs.collect_child.Reads as collect-child-reads
+use Rattle.collect.proofs.first_link.Reads as first-link-reads
+use Rattle.collect.proofs.is_open.Reads as is-open-reads
+use Rattle.collect.proofs.next_link.Reads as next-link-reads
+use Rattle.collect.proofs.port_of.Reads as port-of-reads
+use Rattle.collect.proofs.source_of.Reads as source-of-reads
+use Rattle.collect.proofs.+collect_input+collect_source.{statement}
+use Rattle.collect.proofs.+collect_input+collect_source.Tie.{close}
+
+abbrev μ-collect-input : Measures 6 collect-input-kinds.ps ℕ
+μ-collect-input κs a = 2 * a .1 .1 .1 .1 .1 .0
+
+abbrev μ-collect-source : Measures 6 collect-source-kinds.ps ℕ
+μ-collect-source κs a = 2 * a .1 .1 .1 .1 .1 .0 + 1
+
+abbrev collect-input-at : ℕ → In 6 collect-input-kinds.ps
+collect-input-at t =
+    and 6 collect-input-kinds.ps (is 6 collect-input-kinds.ps μ-collect-input t) collect-input.Pre
+
+abbrev collect-input-below : ℕ → In 6 collect-input-kinds.ps
+collect-input-below t =
+    and
+    6
+    collect-input-kinds.ps
+    (falls 6 collect-input-kinds.ps _<_ μ-collect-input t)
+    collect-input.Pre
+
+abbrev collect-source-at : ℕ → In 6 collect-source-kinds.ps
+collect-source-at t =
+    and
+    6
+    collect-source-kinds.ps
+    (is 6 collect-source-kinds.ps μ-collect-source t)
+    collect-source.Pre
+
+abbrev collect-source-below : ℕ → In 6 collect-source-kinds.ps
+collect-source-below t =
+    and
+    6
+    collect-source-kinds.ps
+    (falls 6 collect-source-kinds.ps _<_ μ-collect-source t)
+    collect-source.Pre
+
+abbrev collect-input-Inv-loop : collect-input-lts.InvT-loop
+collect-input-Inv-loop phases tables marks reached given depth own x buf₀ at next₀ left₀ link₀ buf next left link =
+    (left ≤ 1024) × (length buf ≡ length buf₀) ×
+    (puts own (joined (pulledFrom (phasesIn phases) tables marks reached (toBag given) (depth - 1)) (rowsFrom tables left link)) (buf, next) ≡
+    puts own (pulledInto (phasesIn phases) tables marks reached (toBag given) depth x) (buf₀, at))
+
+abbrev collect-input-μ-loop : collect-input-lts.MeasureT-loop
+collect-input-μ-loop phases tables marks reached given depth own x buf₀ at next₀ left₀ link₀ buf next left link = left
+
+abbrev collect-input-calls : ℕ → collect-input-lts.Claims
+collect-input-calls t = (port-of-reads.Asked, port-of-reads.Learnt, put-given-reads.Asked, put-given-reads.Learnt, is-open-reads.Asked, is-open-reads.Learnt, first-link-reads.Asked, first-link-reads.Learnt, source-of-reads.Asked, source-of-reads.Learnt, collect-source-below t, collect-source.Post, next-link-reads.Asked, next-link-reads.Learnt)
+
+abbrev collect-source-calls : ℕ → collect-source-lts.Claims
+collect-source-calls t = (collect-input-below t, collect-input.Post, collect-child-reads.Asked, collect-child-reads.Learnt)
+
+collect-input-port-of-requires : (t : ℕ) → collect-input-lts.Need-port-of-requires (collect-input-calls t) (collect-input-at t) collect-input.Post collect-input-Inv-loop collect-input-μ-loop
+collect-input-port-of-requires t c κs = search needs
+
+collect-input-put-given-requires : (t : ℕ) → collect-input-lts.Need-put-given-requires (collect-input-calls t) (collect-input-at t) collect-input.Post collect-input-Inv-loop collect-input-μ-loop
+collect-input-put-given-requires t c κs = search needs
+
+collect-input-same-length : (t : ℕ) → collect-input-lts.Need-same-length (collect-input-calls t) (collect-input-at t) collect-input.Post collect-input-Inv-loop collect-input-μ-loop
+collect-input-same-length t c =
+    c .before .before .put-given .kept .1 .1 .1 .0
+
+collect-input-returns : (t : ℕ) → collect-input-lts.Need-returns (collect-input-calls t) (collect-input-at t) collect-input.Post collect-input-Inv-loop collect-input-μ-loop
+collect-input-returns t c =
+    let a = c .before .before .before .before .before .before .before .before .before .before .before .before .args in
+    let r : isRootNode (a .x) ≡ true = unfold isRootNode in lt-ltb _ _ (c .before .before .before .before .before .if1 .taken) in
+    rw (input-root (phasesIn (now (a .phases))) (now (a .tables)) (now (a .marks)) (now (a .reached)) (toBag (now (a .given))) (a .depth) (a .x) r) (rw (c .before .before .before .before .port-of .ensures) at (c .before .before .put-given .ensures))
+
+collect-input-returns-2 : (t : ℕ) → collect-input-lts.Need-returns-2 (collect-input-calls t) (collect-input-at t) collect-input.Post collect-input-Inv-loop collect-input-μ-loop
+unfolding puts
+collect-input-returns-2 t c =
+    let a = c .before .before .before .before .before .before .before .before .args in
+    let r : isRootNode (a .x) ≡ false = unfold isRootNode in le-ltb _ _ (c .before .if1 .left) in
+    rw (c .if2 .taken, input-none (phasesIn (now (a .phases))) (now (a .tables)) (now (a .marks)) (now (a .reached)) (toBag (now (a .given))) (a .x) r)
+
+collect-input-is-open-requires : (t : ℕ) → collect-input-lts.Need-is-open-requires (collect-input-calls t) (collect-input-at t) collect-input.Post collect-input-Inv-loop collect-input-μ-loop
+collect-input-is-open-requires t c κs = search needs
+
+collect-input-returns-3 : (t : ℕ) → collect-input-lts.Need-returns-3 (collect-input-calls t) (collect-input-at t) collect-input.Post collect-input-Inv-loop collect-input-μ-loop
+unfolding puts
+collect-input-returns-3 t c =
+    let a = c .before .before .before .before .before .before .before .before .before .before .args in
+    let r : isRootNode (a .x) ≡ false = unfold isRootNode in le-ltb _ _ (c .before .before .before .if1 .left) in
+    let s : isOpen [] (now (a .tables)) (now (a .marks)) (now (a .reached)) (a .x) ≡ false = sym (c .before .is-open .ensures) ∙ not-true _ (c .if3 .taken) in
+    rw (input-shut (phasesIn (now (a .phases))) (now (a .tables)) (now (a .marks)) (now (a .reached)) (toBag (now (a .given))) (a .depth) (a .x) r s)
+
+collect-input-first-link-requires : (t : ℕ) → collect-input-lts.Need-first-link-requires (collect-input-calls t) (collect-input-at t) collect-input.Post collect-input-Inv-loop collect-input-μ-loop
+collect-input-first-link-requires t c κs = search needs
+
+collect-input-loop-holds : (t : ℕ) → collect-input-lts.Need-loop-holds (collect-input-calls t) (collect-input-at t) collect-input.Post collect-input-Inv-loop collect-input-μ-loop
+collect-input-loop-holds t c =
+    let a = c .before .before .before .before .before .before .before .before .before .before .before .args in
+    let r : isRootNode (a .x) ≡ false = unfold isRootNode in le-ltb _ _ (c .before .before .before .before .if1 .left) in
+    let s : isOpen [] (now (a .tables)) (now (a .marks)) (now (a .reached)) (a .x) ≡ true = sym (c .before .before .is-open .ensures) ∙ not-false _ (c .before .if3 .left) in
+    (omega arith, refl, rw (c .first-link .ensures) (ap (λ l. puts (a .own) l (now (a .buf), a .at)) (input-open (phasesIn (now (a .phases))) (now (a .tables)) (now (a .marks)) (now (a .reached)) (toBag (now (a .given))) (a .depth) (a .x) r (omega arith) s)))
+
+collect-input-source-of-requires : (t : ℕ) → collect-input-lts.Need-source-of-requires (collect-input-calls t) (collect-input-at t) collect-input.Post collect-input-Inv-loop collect-input-μ-loop
+collect-input-source-of-requires t c κs = search needs
+
+collect-input-sub-collect-source : (t : ℕ) → collect-input-lts.Need-sub-collect-source (collect-input-calls t) (collect-input-at t) collect-input.Post collect-input-Inv-loop collect-input-μ-loop
+collect-input-sub-collect-source t c = search needs
+
+collect-input-collect-source-requires : (t : ℕ) → collect-input-lts.Need-collect-source-requires (collect-input-calls t) (collect-input-at t) collect-input.Post collect-input-Inv-loop collect-input-μ-loop
+collect-input-collect-source-requires t c κs = search needs
+
+collect-input-next-link-requires : (t : ℕ) → collect-input-lts.Need-next-link-requires (collect-input-calls t) (collect-input-at t) collect-input.Post collect-input-Inv-loop collect-input-μ-loop
+collect-input-next-link-requires t c κs = search needs
+
+collect-input-sub-left : (t : ℕ) → collect-input-lts.Need-sub-left (collect-input-calls t) (collect-input-at t) collect-input.Post collect-input-Inv-loop collect-input-μ-loop
+collect-input-sub-left t c =
+    omega (arith, both-left (c .before .before .before .before .before .before .before .loop .left) (c .before .before .before .before .before .before .before .loop .link) (c .before .before .before .before .before .before .loop-test .taken) .0)
+
+collect-input-loop-less : (t : ℕ) → collect-input-lts.Need-loop-less (collect-input-calls t) (collect-input-at t) collect-input.Post collect-input-Inv-loop collect-input-μ-loop
+collect-input-loop-less t c =
+    omega (arith, both-left (c .before .before .before .before .before .before .before .loop .left) (c .before .before .before .before .before .before .before .loop .link) (c .before .before .before .before .before .before .loop-test .taken) .0)
+
+collect-input-loop-again : (t : ℕ) → collect-input-lts.Need-loop-again (collect-input-calls t) (collect-input-at t) collect-input.Post collect-input-Inv-loop collect-input-μ-loop
+collect-input-loop-again t c =
+    let a = c .before .before .before .before .before .before .before .before .before .before .before .before .before .before .before .before .before .before .before .args in
+    let l = c .before .before .before .before .before .before .before .loop in
+    let m = c .before .before .before .collect-source in
+    let f = pulledFrom (phasesIn (now (a .phases))) (now (a .tables)) (now (a .marks)) (now (a .reached)) (toBag (now (a .given))) (a .depth - 1) in
+    (omega arith, m .kept .1 .1 .1 .1 .1 .1 .1 .1 .0 ∙ l .inv .1, rw (m .ensures, c .before .before .before .before .before .source-of .ensures, c .next-link .ensures) (chain-more f (now (a .tables)) (a .own) (l .left) (l .link) (l .buf, l .next) (c .before .before .before .before .before .before .loop-test .taken) ∙ l .inv .2))
+
+collect-input-same-length-2 : (t : ℕ) → collect-input-lts.Need-same-length-2 (collect-input-calls t) (collect-input-at t) collect-input.Post collect-input-Inv-loop collect-input-μ-loop
+collect-input-same-length-2 t c =
+    c .before .loop .inv .1
+
+collect-input-returns-4 : (t : ℕ) → collect-input-lts.Need-returns-4 (collect-input-calls t) (collect-input-at t) collect-input.Post collect-input-Inv-loop collect-input-μ-loop
+collect-input-returns-4 t c =
+    let a = c .before .before .before .before .before .before .before .before .before .before .before .before .before .args in
+    let l = c .before .loop in
+    let f = pulledFrom (phasesIn (now (a .phases))) (now (a .tables)) (now (a .marks)) (now (a .reached)) (toBag (now (a .given))) (a .depth - 1) in
+    sym (chain-end f (now (a .tables)) (a .own) (l .left) (l .link) (l .buf, l .next) (c .loop-test .left)) ∙ l .inv .2
+
+collect-source-collect-input-requires : (t : ℕ) → collect-source-lts.Need-collect-input-requires (collect-source-calls t) (collect-source-at t) collect-source.Post
+collect-source-collect-input-requires t c κs = search needs
+
+collect-source-same-length : (t : ℕ) → collect-source-lts.Need-same-length (collect-source-calls t) (collect-source-at t) collect-source.Post
+collect-source-same-length t c =
+    c .before .before .collect-input .kept .1 .1 .1 .1 .1 .1 .1 .1 .0
+
+collect-source-returns : (t : ℕ) → collect-source-lts.Need-returns (collect-source-calls t) (collect-source-at t) collect-source.Post
+unfolding sourceIn isOutput
+collect-source-returns t c =
+    rw (lt-ltb _ _ (c .before .before .before .before .if1 .taken)) (c .before .before .collect-input .ensures)
+
+collect-source-collect-child-requires : (t : ℕ) → collect-source-lts.Need-collect-child-requires (collect-source-calls t) (collect-source-at t) collect-source.Post
+collect-source-collect-child-requires t c κs = search needs
+
+collect-source-same-length-2 : (t : ℕ) → collect-source-lts.Need-same-length-2 (collect-source-calls t) (collect-source-at t) collect-source.Post
+collect-source-same-length-2 t c =
+    c .before .before .collect-child .kept .1 .1 .1 .1 .1 .1 .1 .0
+
+collect-source-returns-2 : (t : ℕ) → collect-source-lts.Need-returns-2 (collect-source-calls t) (collect-source-at t) collect-source.Post
+unfolding sourceIn isOutput
+collect-source-returns-2 t c =
+    rw (le-ltb _ _ (c .before .before .before .before .if1 .left)) (c .before .before .collect-child .ensures)
+
+pub +collect-input+collect-source-spec : {M : Type 1} → statement M
++collect-input+collect-source-spec =
+    close μ-collect-input μ-collect-source (λ t. collect-input-lts.spec (
+      port-of-reads.Asked,
+      port-of-reads.Learnt,
+      put-given-reads.Asked,
+      put-given-reads.Learnt,
+      is-open-reads.Asked,
+      is-open-reads.Learnt,
+      first-link-reads.Asked,
+      first-link-reads.Learnt,
+      source-of-reads.Asked,
+      source-of-reads.Learnt,
+      collect-source-below t,
+      collect-source.Post,
+      next-link-reads.Asked,
+      next-link-reads.Learnt,
+    )
+    (collect-input-at t)
+    collect-input.Post
+    collect-input-Inv-loop
+    collect-input-μ-loop
+    (collect-input-port-of-requires t)
+    (collect-input-put-given-requires t)
+    (collect-input-same-length t)
+    (collect-input-returns t)
+    (collect-input-returns-2 t)
+    (collect-input-is-open-requires t)
+    (collect-input-returns-3 t)
+    (collect-input-first-link-requires t)
+    (collect-input-loop-holds t)
+    (collect-input-source-of-requires t)
+    (collect-input-sub-collect-source t)
+    (collect-input-collect-source-requires t)
+    (collect-input-next-link-requires t)
+    (collect-input-sub-left t)
+    (collect-input-loop-less t)
+    (collect-input-loop-again t)
+    (collect-input-same-length-2 t)
+    (collect-input-returns-4 t))
+    λ t. collect-source-lts.spec (
+      collect-input-below t,
+      collect-input.Post,
+      collect-child-reads.Asked,
+      collect-child-reads.Learnt,
+    )
+    (collect-source-at t)
+    collect-source.Post
+    (collect-source-collect-input-requires t)
+    (collect-source-same-length t)
+    (collect-source-returns t)
+    (collect-source-collect-child-requires t)
+    (collect-source-same-length-2 t)
+    (collect-source-returns-2 t)

@@ -1,0 +1,125 @@
+-- Laws of pulling, as the two recursions meet them: one coupling more of a chain, and a node that is open, shut, or the root's.
+-- Assumes nothing.
+use mathlib.Core.Path.{_≡_, refl, sym, _∙_}
+use mathlib.Core.List.{List, [], map}
+use mathlib.Core.Bool.{Bool, true, false, _&&_, true≢false}
+use Prim.Native.Nat.{ℕ, zero, suc, _+_, _-_, _≤_, _<_}
+use native.Mathlib.Omega.{arith}
+use lib.Dec.{ltb}
+use lib.ListN.{getD}
+use borrow.Author.Tests.{ltb-true, ltb-false, lt-ltb, ne-eqb, eq-eqb}
+use Rattle.definition.specs.Limits.{maxCouplings}
+use Rattle.definition.specs.Model.{Bag, Phase}
+use Rattle.pull_laws.specs.Pull.{joined, coupledOut, inputIn}
+use Rattle.pull_laws.specs.Put.{valuesOn, puts, putPorts}
+use Rattle.pull_laws.specs.Tables.{sourceAt, nextAt, firstAt, links, chainRows, nodeComponent, nodePort, isRootNode}
+use Rattle.pull_laws.specs.TableStep.{mayCome, isOpen, openRows, sentBy, pulledBelow, pulledInto, givenBy}
+use Rattle.bag_keys.specs.Sent.{sentOn}
+use Rattle.bag_keys.proofs.Laws.{puts-append, puts-none}
+use Rattle.collect.specs.Turns.{pulledChild, pulledFrom}
+
+-- ---- chains
+
+-- The nodes where the couplings begin that are left of a chain.
+abbrev pub rowsFrom : List ℕ → ℕ → ℕ → List ℕ
+rowsFrom t left link = map (λ j. getD t (sourceAt + j) 0) (links (λ j. getD t (nextAt + j) 0) left link)
+
+pub rows-first : (t : List ℕ) (x : ℕ) → chainRows t x ≡ rowsFrom t maxCouplings (getD t (firstAt + x) 0)
+unfolding chainRows
+rows-first t x = refl
+
+-- Both numbers of the loop's test.
+pub both-left : (a b : ℕ) → (ltb 0 a && ltb 0 b) ≡ true → (0 < a) × (0 < b)
+both-left a b h = go (ltb 0 a) refl (ltb 0 b) refl h
+  where
+    go : (x : Bool) → ltb 0 a ≡ x → (y : Bool) → ltb 0 b ≡ y → (x && y) ≡ true → (0 < a) × (0 < b)
+    go true e true f k = (ltb-true 0 a e, ltb-true 0 b f)
+    go true e false f k = absurd (true≢false (sym k))
+    go false e y f k = absurd (true≢false (sym k))
+
+-- one coupling more
+pub chain-more : (F : ℕ → List ℕ) (t : List ℕ) (port left link : ℕ) (st : List ℕ × ℕ) → (ltb 0 left && ltb 0 link) ≡ true
+    → puts port (joined F (rowsFrom t (left - 1) (getD t (nextAt + link) 0))) (puts port (F (getD t (sourceAt + link) 0)) st)
+    ≡ puts port (joined F (rowsFrom t left link)) st
+unfolding joined links
+chain-more F t port zero link st h = absurd (omega (arith, both-left 0 link h .0))
+chain-more F t port (suc n) link st h =
+    let e : suc n - 1 ≡ n = omega arith in
+    rw (e, ne-eqb link 0 (λ z. omega (arith, both-left (suc n) link h .1)), puts-append)
+
+pub chain-end : (F : ℕ → List ℕ) (t : List ℕ) (port left link : ℕ) (st : List ℕ × ℕ) → (ltb 0 left && ltb 0 link) ≡ false
+    → puts port (joined F (rowsFrom t left link)) st ≡ st
+unfolding joined links
+chain-end F t port zero link st h = puts-none port st
+chain-end F t port (suc n) link st h = go (ltb 0 link) refl h
+  where
+    go : (b : Bool) → ltb 0 link ≡ b → (ltb 0 (suc n) && b) ≡ false
+        → puts port (joined F (rowsFrom t (suc n) link)) st ≡ st
+    go true e k = absurd (true≢false (sym (rw (lt-ltb 0 (suc n) (omega arith))) ∙ k))
+    go false e k = rw (eq-eqb link 0 (omega (arith, ltb-false 0 link e))) (puts-none port st)
+
+-- ---- open and shut
+
+module _ (ps : List Phase) (t es fs : List ℕ) where
+  -- which nodes are open does not depend on the phases
+  open-any : (x : ℕ) → isOpen [] t es fs x ≡ isOpen ps t es fs x
+  unfolding isOpen mayCome
+  open-any x = refl
+
+  pub coupled-open : (d x : ℕ) → 0 < d → isOpen [] t es fs x ≡ true
+      → joined (pulledChild ps t es fs (d - 1)) (rowsFrom t maxCouplings (getD t (firstAt + x) 0)) ≡ pulledBelow ps t es fs d x
+  unfolding coupledOut openRows
+  coupled-open zero x h o = absurd (omega arith)
+  coupled-open (suc d) x h o =
+      let e : suc d - 1 ≡ d = omega arith in
+      rw (e, ← rows-first t x, sym (open-any x) ∙ o)
+
+  pub coupled-shut : (d x : ℕ) → isOpen [] t es fs x ≡ false → pulledBelow ps t es fs d x ≡ []
+  unfolding coupledOut openRows joined
+  coupled-shut zero x o = refl
+  coupled-shut (suc d) x o = rw (sym (open-any x) ∙ o)
+
+  pub coupled-none : (x : ℕ) → pulledBelow ps t es fs 0 x ≡ []
+  unfolding coupledOut
+  coupled-none x = refl
+
+  module _ (b : Bag) where
+    pub input-root : (d x : ℕ) → isRootNode x ≡ true → pulledInto ps t es fs b d x ≡ valuesOn (nodePort x) b
+    unfolding inputIn givenBy
+    input-root zero x r = rw r
+    input-root (suc d) x r = rw r
+
+    pub input-open : (d x : ℕ) → isRootNode x ≡ false → 0 < d → isOpen [] t es fs x ≡ true
+        → joined (pulledFrom ps t es fs b (d - 1)) (rowsFrom t maxCouplings (getD t (firstAt + x) 0)) ≡ pulledInto ps t es fs b d x
+    unfolding inputIn openRows
+    input-open zero x r h o = absurd (omega arith)
+    input-open (suc d) x r h o =
+        let e : suc d - 1 ≡ d = omega arith in
+        rw (r, e, ← rows-first t x, sym (open-any x) ∙ o)
+
+    pub input-shut : (d x : ℕ) → isRootNode x ≡ false → isOpen [] t es fs x ≡ false → pulledInto ps t es fs b d x ≡ []
+    unfolding inputIn openRows joined
+    input-shut zero x r o = rw r
+    input-shut (suc d) x r o = rw (r, sym (open-any x) ∙ o)
+
+    pub input-none : (x : ℕ) → isRootNode x ≡ false → pulledInto ps t es fs b 0 x ≡ []
+    unfolding inputIn
+    input-none x r = rw r
+
+-- ---- ports
+
+-- one port more
+pub ports-more : (values : ℕ → List ℕ) (n q : ℕ) (st : List ℕ × ℕ) → q < n
+    → putPorts values (n - (q + 1)) (q + 1) (puts q (values q) st) ≡ putPorts values (n - q) q st
+unfolding putPorts
+ports-more values n q st h = let e : n - q ≡ suc (n - (q + 1)) = omega arith in rw e
+
+pub ports-none : (values : ℕ → List ℕ) (n q : ℕ) (st : List ℕ × ℕ) → n ≤ q → putPorts values (n - q) q st ≡ st
+unfolding putPorts
+ports-none values n q st h = let e : n - q ≡ 0 = omega arith in rw e
+
+-- ---- what an atomic sends
+
+pub sent-by : (ps : List Phase) (t es : List ℕ) (y : ℕ) → sentOn ps (getD es (nodeComponent y) 0) (nodePort y) ≡ sentBy ps t es y
+unfolding sentOn sentBy
+sent-by ps t es y = refl

@@ -1,0 +1,20 @@
+-- The word in the node's row of the region.
+use borrow.Author.Needs.{needs}
+use Rattle.collect.proofs.first_link.Statement.{statement}
+use Rattle.collect.proofs.first_link.Tie as tie
+
+size-requires : tie.Need-size-requires
+size-requires c κs = search needs
+
+add-word-at : tie.Need-add-word-at
+add-word-at c = search needs
+
+word-at-requires : tie.Need-word-at-requires
+word-at-requires c κs = search needs
+
+returns : tie.Need-returns
+returns c =
+    rw (c .word-at .ensures, c .before .size .ensures)
+
+pub first-link-spec : {M : Type 1} → statement M
+first-link-spec = tie.close (tie.spec size-requires add-word-at word-at-requires returns)

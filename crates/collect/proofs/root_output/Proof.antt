@@ -1,0 +1,16 @@
+-- The node's number, as the definition has it.
+use borrow.Author.Needs.{needs}
+use Rattle.route_laws.specs.Nodes.{outputNode}
+use Rattle.collect.proofs.root_output.Statement.{statement}
+use Rattle.collect.proofs.root_output.Tie as tie
+
+add-result : tie.Need-add-result
+add-result c = search needs
+
+returns : tie.Need-returns
+unfolding outputNode
+returns c =
+    search needs
+
+pub root-output-spec : {M : Type 1} → statement M
+root-output-spec = tie.close (tie.spec add-result returns)

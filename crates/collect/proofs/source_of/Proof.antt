@@ -1,0 +1,24 @@
+-- The word in the link's row of the region.
+use borrow.Author.Needs.{needs}
+use Rattle.collect.proofs.source_of.Statement.{statement}
+use Rattle.collect.proofs.source_of.Tie as tie
+
+size16-requires : tie.Need-size16-requires
+size16-requires c κs = search needs
+
+add-word-at : tie.Need-add-word-at
+add-word-at c = search needs
+
+word-at-requires : tie.Need-word-at-requires
+word-at-requires c κs = search needs
+
+node-requires : tie.Need-node-requires
+node-requires c κs = search needs
+
+returns : tie.Need-returns
+returns c =
+    rw (c .node .ensures, c .before .word-at .ensures, c .before .before .size16 .ensures)
+
+pub source-of-spec : {M : Type 1} → statement M
+source-of-spec =
+    tie.close (tie.spec size16-requires add-word-at word-at-requires node-requires returns)

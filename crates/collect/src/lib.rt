@@ -1,0 +1,304 @@
+// One step's bags, pulled: what is collected at a port, through the couplings that end there. Output collection alternates between a
+// function for a coupled component and one for a child, input collection between a port and one that leads to it. Only open nodes are
+// entered: those that a source can reach at all, and that something may reach in this step.
+ghost use mathlib.Core.Path.{_≡_};
+ghost use mathlib.Core.List.{[]};
+ghost use Prim.Native.Nat.{_+_, _*_, _%_, _/_};
+ghost use Rattle.definition.specs.Limits.{maxAncestors, portCount};
+ghost use Rattle.definition.specs.Engine.{toBag};
+ghost use Rattle.model_records.specs.Values.{phasesIn};
+ghost use Rattle.pull_laws.specs.Put.{puts, putPorts};
+ghost use lib.ListN.{getD};
+ghost use Rattle.route_laws.specs.Nodes.{inputNode, outputNode};
+ghost use Rattle.pull_laws.specs.Tables.{firstAt, nextAt, sourceAt, nodePort};
+ghost use Rattle.pull_laws.specs.TableStep.{mayCome, isOpen, pulledBelow, pulledInto};
+ghost use Rattle.collect.specs.Turns.{pulledChild, pulledFrom};
+use bag_keys::key_at;
+use bag_keys::put_given;
+use bag_keys::put_sent;
+use limits::MAX_ANCESTORS;
+use limits::MAX_COUPLINGS;
+use limits::PORT_COUNT;
+use little_endian::size16;
+use table_words::FIRST_AT;
+use table_words::KINDS_AT;
+use table_words::LIVE_AT;
+use table_words::NEXT_AT;
+use table_words::SOURCE_AT;
+use table_words::word_at;
+
+const PORTS: u32 = 4;
+
+const PORT_NODES: u32 = 8;
+
+fn size(x: u32) -> usize
+    ensures { λ r. ⌜ r ≡ x ⌝ }
+{
+    x as usize
+}
+
+fn node(x: u16) -> u32
+    ensures { λ r. ⌜ r ≡ x ⌝ }
+{
+    x as u32
+}
+
+fn port_of(x: u32) -> u8
+    ensures { λ r. ⌜ r ≡ nodePort x ⌝ }
+{
+    (x % PORTS) as u8
+}
+
+// The link of the first coupling that ends at node x; the one after a link; and the node where a link's coupling begins.
+pub fn first_link(tables: &[u16], x: u32) -> u16
+    ensures { λ r. ⌜ r ≡ getD (now (tables .entry)) (firstAt + x) 0 ⌝ }
+{
+    word_at(tables, FIRST_AT + size(x))
+}
+
+pub fn next_link(tables: &[u16], link: u16) -> u16
+    ensures { λ r. ⌜ r ≡ getD (now (tables .entry)) (nextAt + link) 0 ⌝ }
+{
+    word_at(tables, NEXT_AT + size16(link))
+}
+
+pub fn source_of(tables: &[u16], link: u16) -> u32
+    ensures { λ r. ⌜ r ≡ getD (now (tables .entry)) (sourceAt + link) 0 ⌝ }
+{
+    node(word_at(tables, SOURCE_AT + size16(link)))
+}
+
+// Something may come from node y in this step.
+pub fn may_come(marks: &[u32], reached: &[u32], y: u32) -> bool
+    ensures { λ r. ⌜ r ≡ mayCome [] [] (now (marks .entry)) (now (reached .entry)) y ⌝ }
+{
+    let c = size(y / PORT_NODES);
+    if y % PORT_NODES < PORTS {
+        key_at(reached, c) != 0
+    } else {
+        key_at(marks, c) != 0
+    }
+}
+
+fn is_open(tables: &[u16], marks: &[u32], reached: &[u32], x: u32) -> bool
+    ensures { λ r. ⌜ r ≡ isOpen [] (now (tables .entry)) (now (marks .entry)) (now (reached .entry)) x ⌝ }
+{
+    (word_at(tables, LIVE_AT + size(x)) != 0) & may_come(marks, reached, x)
+}
+
+// What the coupled component of output node x puts out there, at most `depth` levels down.
+fn collect_coupled(
+    phases: &[u8],
+    tables: &[u16],
+    marks: &[u32],
+    reached: &[u32],
+    depth: usize,
+    own: u8,
+    x: u32,
+    buf: &mut [u32],
+    at: usize,
+) -> usize
+    ensures { λ r. ⌜ (now (buf .exit), r) ≡ puts own (pulledBelow (phasesIn (now (phases .entry))) (now (tables .entry)) (now (marks .entry)) (now (reached .entry)) depth x) (now (buf .entry), at) ⌝ }
+{
+    if depth == 0 {
+        return at;
+    }
+    if !is_open(tables, marks, reached, x) {
+        return at;
+    }
+    let mut next = at;
+    let mut left = MAX_COUPLINGS;
+    let mut link = first_link(tables, x);
+    while (0 < left) & (0 < link) {
+        let y = source_of(tables, link);
+        next = collect_child(phases, tables, marks, reached, depth - 1, own, y, buf, next);
+        link = next_link(tables, link);
+        left = left - 1;
+    }
+    next
+}
+
+// What the child of output node y puts out there.
+fn collect_child(
+    phases: &[u8],
+    tables: &[u16],
+    marks: &[u32],
+    reached: &[u32],
+    depth: usize,
+    own: u8,
+    y: u32,
+    buf: &mut [u32],
+    at: usize,
+) -> usize
+    ensures { λ r. ⌜ (now (buf .exit), r) ≡ puts own (pulledChild (phasesIn (now (phases .entry))) (now (tables .entry)) (now (marks .entry)) (now (reached .entry)) depth y) (now (buf .entry), at) ⌝ }
+{
+    let c = size(y / PORT_NODES);
+    if word_at(tables, KINDS_AT + c) == 1 {
+        return put_sent(phases, key_at(marks, c), port_of(y), own, buf, at);
+    }
+    collect_coupled(phases, tables, marks, reached, depth, own, y, buf, at)
+}
+
+// What arrives at input node x, at most `depth` levels up.
+fn collect_input(
+    phases: &[u8],
+    tables: &[u16],
+    marks: &[u32],
+    reached: &[u32],
+    given: &[u8],
+    depth: usize,
+    own: u8,
+    x: u32,
+    buf: &mut [u32],
+    at: usize,
+) -> usize
+    ensures { λ r. ⌜ (now (buf .exit), r) ≡ puts own (pulledInto (phasesIn (now (phases .entry))) (now (tables .entry)) (now (marks .entry)) (now (reached .entry)) (toBag (now (given .entry))) depth x) (now (buf .entry), at) ⌝ }
+{
+    if x < PORT_NODES {
+        return put_given(given, port_of(x), own, buf, at);
+    }
+    if depth == 0 {
+        return at;
+    }
+    if !is_open(tables, marks, reached, x) {
+        return at;
+    }
+    let mut next = at;
+    let mut left = MAX_COUPLINGS;
+    let mut link = first_link(tables, x);
+    while (0 < left) & (0 < link) {
+        let y = source_of(tables, link);
+        next = collect_source(
+            phases,
+            tables,
+            marks,
+            reached,
+            given,
+            depth - 1,
+            own,
+            y,
+            buf,
+            next,
+        );
+        link = next_link(tables, link);
+        left = left - 1;
+    }
+    next
+}
+
+// What comes from node y, which leads to an input node: a sibling's output, or the parent's input.
+fn collect_source(
+    phases: &[u8],
+    tables: &[u16],
+    marks: &[u32],
+    reached: &[u32],
+    given: &[u8],
+    depth: usize,
+    own: u8,
+    y: u32,
+    buf: &mut [u32],
+    at: usize,
+) -> usize
+    ensures { λ r. ⌜ (now (buf .exit), r) ≡ puts own (pulledFrom (phasesIn (now (phases .entry))) (now (tables .entry)) (now (marks .entry)) (now (reached .entry)) (toBag (now (given .entry))) depth y) (now (buf .entry), at) ⌝ }
+{
+    if y % PORT_NODES < PORTS {
+        return collect_input(
+            phases,
+            tables,
+            marks,
+            reached,
+            given,
+            depth,
+            own,
+            y,
+            buf,
+            at,
+        );
+    }
+    collect_child(
+        phases,
+        tables,
+        marks,
+        reached,
+        MAX_ANCESTORS,
+        own,
+        y,
+        buf,
+        at,
+    )
+}
+
+pub fn input_node(c: u16, q: u8) -> u32
+    ensures { λ r. ⌜ r ≡ inputNode c q ⌝ }
+{
+    PORT_NODES * node(c) + q as u32
+}
+
+fn root_output(q: u8) -> u32
+    ensures { λ r. ⌜ r ≡ outputNode 0 q ⌝ }
+{
+    PORTS + q as u32
+}
+
+// The bag of component c, port by port.
+pub fn collect_bag(
+    phases: &[u8],
+    tables: &[u16],
+    marks: &[u32],
+    reached: &[u32],
+    given: &[u8],
+    c: u16,
+    buf: &mut [u32],
+) -> usize
+    ensures { λ r. ⌜ (now (buf .exit), r) ≡ putPorts (λ q. pulledInto (phasesIn (now (phases .entry))) (now (tables .entry)) (now (marks .entry)) (now (reached .entry)) (toBag (now (given .entry))) maxAncestors (inputNode c q)) portCount 0 (now (buf .entry), 0) ⌝ }
+{
+    let mut next: usize = 0;
+    let mut q: u8 = 0;
+    while q < PORT_COUNT {
+        let x = input_node(c, q);
+        next = collect_input(
+            phases,
+            tables,
+            marks,
+            reached,
+            given,
+            MAX_ANCESTORS,
+            q,
+            x,
+            buf,
+            next,
+        );
+        q = q + 1;
+    }
+    next
+}
+
+// The root's output bag, port by port.
+pub fn collect_root(
+    phases: &[u8],
+    tables: &[u16],
+    marks: &[u32],
+    reached: &[u32],
+    buf: &mut [u32],
+) -> usize
+    ensures { λ r. ⌜ (now (buf .exit), r) ≡ putPorts (λ q. pulledBelow (phasesIn (now (phases .entry))) (now (tables .entry)) (now (marks .entry)) (now (reached .entry)) maxAncestors (outputNode 0 q)) portCount 0 (now (buf .entry), 0) ⌝ }
+{
+    let mut next: usize = 0;
+    let mut q: u8 = 0;
+    while q < PORT_COUNT {
+        let x = root_output(q);
+        next = collect_coupled(
+            phases,
+            tables,
+            marks,
+            reached,
+            MAX_ANCESTORS,
+            q,
+            x,
+            buf,
+            next,
+        );
+        q = q + 1;
+    }
+    next
+}

@@ -1,0 +1,83 @@
+-- Some source of the chain that is left, since none was found before.
+use borrow.Author.Needs.{needs}
+use native.Mathlib.Omega.{arith}
+use Prim.Native.Nat.{_≤_, _+_}
+use mathlib.Core.Path.{_≡_, _∙_, sym}
+use mathlib.Core.List.{[]}
+use lib.ListN.{getD}
+use denote.Ref.{now}
+use Rattle.pull_laws.specs.Tables.{sourceAt, chainRows}
+use Rattle.pull_laws.specs.TableStep.{anyOf, mayCome}
+use Rattle.collect.proofs.Laws.{rowsFrom, rows-first, both-left}
+use Rattle.marks.proofs.Laws.{any-here, any-later, any-end}
+use Rattle.marks.proofs.any_source.Statement.{statement}
+use Rattle.marks.proofs.any_source.Tie as tie
+
+abbrev Inv-loop : tie.InvT-loop
+Inv-loop tables marks reached x left₀ link₀ left link = (left ≤ 1024) × (anyOf (mayCome [] tables marks reached) (rowsFrom tables left link) ≡ anyOf (mayCome [] tables marks reached) (chainRows tables x))
+
+abbrev μ-loop : tie.MeasureT-loop
+μ-loop tables marks reached x left₀ link₀ left link = left
+
+first-link-requires : tie.Need-first-link-requires Inv-loop μ-loop
+first-link-requires c κs = search needs
+
+loop-holds : tie.Need-loop-holds Inv-loop μ-loop
+loop-holds c =
+    (omega arith, rw (c .first-link .ensures, rows-first))
+
+source-of-requires : tie.Need-source-of-requires Inv-loop μ-loop
+source-of-requires c κs = search needs
+
+may-come-requires : tie.Need-may-come-requires Inv-loop μ-loop
+may-come-requires c κs = search needs
+
+returns : tie.Need-returns Inv-loop μ-loop
+returns c =
+    let a = c .before .before .before .before .before .before .before .before .before .args in
+    let l = c .before .before .before .before .loop in
+    let e : mayCome [] (now (a .tables)) (now (a .marks)) (now (a .reached)) (getD (now (a .tables)) (sourceAt + l .link) 0) ≡ c .before .may-come .result =
+    unfold mayCome in sym (rw (c .before .before .source-of .ensures) at (c .before .may-come .ensures)) in
+    any-here (mayCome [] (now (a .tables)) (now (a .marks)) (now (a .reached))) (now (a .tables)) (l .left) (l .link) (c .before .before .before .loop-test .taken) (e ∙ c .if1 .taken) ∙ l .inv .1
+
+next-link-requires : tie.Need-next-link-requires Inv-loop μ-loop
+next-link-requires c κs = search needs
+
+sub-left : tie.Need-sub-left Inv-loop μ-loop
+sub-left c =
+    omega (arith, both-left (c .before .before .before .before .before .loop .left) (c .before .before .before .before .before .loop .link) (c .before .before .before .before .loop-test .taken) .0)
+
+loop-less : tie.Need-loop-less Inv-loop μ-loop
+loop-less c =
+    omega (arith, both-left (c .before .before .before .before .before .loop .left) (c .before .before .before .before .before .loop .link) (c .before .before .before .before .loop-test .taken) .0)
+
+loop-again : tie.Need-loop-again Inv-loop μ-loop
+loop-again c =
+    let a = c .before .before .before .before .before .before .before .before .before .before .args in
+    let l = c .before .before .before .before .before .loop in
+    let e : mayCome [] (now (a .tables)) (now (a .marks)) (now (a .reached)) (getD (now (a .tables)) (sourceAt + l .link) 0) ≡ c .before .before .may-come .result =
+    unfold mayCome in sym (rw (c .before .before .before .source-of .ensures) at (c .before .before .may-come .ensures)) in
+    (omega arith, rw (c .next-link .ensures) (any-later (mayCome [] (now (a .tables)) (now (a .marks)) (now (a .reached))) (now (a .tables)) (l .left) (l .link) (c .before .before .before .before .loop-test .taken) (e ∙ c .before .if1 .left)) ∙ l .inv .1)
+
+returns-2 : tie.Need-returns-2 Inv-loop μ-loop
+returns-2 c =
+    let a = c .before .before .before .before .before .before .args in
+    let l = c .before .loop in
+    any-end (mayCome [] (now (a .tables)) (now (a .marks)) (now (a .reached))) (now (a .tables)) (l .left) (l .link) (c .loop-test .left) ∙ l .inv .1
+
+pub any-source-spec : {M : Type 1} → statement M
+any-source-spec =
+    tie.close
+    (tie.spec
+    Inv-loop
+    μ-loop
+    first-link-requires
+    loop-holds
+    source-of-requires
+    may-come-requires
+    returns
+    next-link-requires
+    sub-left
+    loop-less
+    loop-again
+    returns-2)

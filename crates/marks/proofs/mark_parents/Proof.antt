@@ -1,0 +1,73 @@
+-- From the last component down to the first: the components that are left, over the marks so far, are all.
+use borrow.Author.Needs.{needs}
+use native.Mathlib.Omega.{arith}
+use Prim.Native.Nat.{_-_}
+use mathlib.Core.Path.{_≡_, _∙_, refl}
+use mathlib.Core.Logic.{⊎-elim}
+use mathlib.Core.List.{[]}
+use lib.ListN.{length, getD}
+use denote.Ref.{now}
+use Rattle.pull_laws.specs.TableStep.{raised}
+use Rattle.pull_laws.specs.Tables.{countAt}
+use Rattle.marks.proofs.Laws.{raised-more, raised-none}
+use Rattle.marks.proofs.mark_parents.Statement.{statement}
+use Rattle.marks.proofs.mark_parents.Tie as tie
+
+abbrev Inv-loop : tie.InvT-loop
+Inv-loop tables marks₀ count c₀ marks c = (length marks ≡ length marks₀) × (raised [] tables c marks ≡ raised [] tables (getD tables countAt 0 - 1) marks₀)
+
+abbrev μ-loop : tie.MeasureT-loop
+μ-loop tables marks₀ count c₀ marks c = c
+
+word-at-requires : tie.Need-word-at-requires Inv-loop μ-loop
+word-at-requires c κs = search needs
+
+sub-c : tie.Need-sub-c Inv-loop μ-loop
+sub-c c = search needs
+
+loop-holds : tie.Need-loop-holds Inv-loop μ-loop
+loop-holds c =
+    let a = c .before .before .before .before .args in
+    let e : c .if1 .c ≡ c .before .word-at .result - 1 = ⊎-elim (λ w. omega arith) (λ w. omega arith) (c .if1 .came) in
+    (refl, rw (e, c .before .word-at .ensures))
+
+mark-parent-requires : tie.Need-mark-parent-requires Inv-loop μ-loop
+mark-parent-requires c κs = search needs
+
+sub-c-2 : tie.Need-sub-c-2 Inv-loop μ-loop
+sub-c-2 c = search needs
+
+loop-less : tie.Need-loop-less Inv-loop μ-loop
+loop-less c = search needs
+
+loop-again : tie.Need-loop-again Inv-loop μ-loop
+loop-again c =
+    let a = c .before .before .before .before .before .before .before .before .before .before .before .args in
+    let l = c .before .before .before .before .before .before .loop in
+    (c .before .before .before .mark-parent .kept .1 .1 .0 ∙ l .inv .0, rw (c .before .before .before .mark-parent .ensures) (raised-more (now (a .tables)) (l .c) (l .marks) (omega arith)) ∙ l .inv .1)
+
+same-length : tie.Need-same-length Inv-loop μ-loop
+same-length c =
+    c .before .loop .inv .0
+
+returns : tie.Need-returns Inv-loop μ-loop
+returns c =
+    let a = c .before .before .before .before .before .before .args in
+    let l = c .before .loop in
+    raised-none (now (a .tables)) (l .c) (l .marks) (omega arith) ∙ l .inv .1
+
+pub mark-parents-spec : {M : Type 1} → statement M
+mark-parents-spec =
+    tie.close
+    (tie.spec
+    Inv-loop
+    μ-loop
+    word-at-requires
+    sub-c
+    loop-holds
+    mark-parent-requires
+    sub-c-2
+    loop-less
+    loop-again
+    same-length
+    returns)

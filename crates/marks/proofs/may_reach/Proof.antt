@@ -1,0 +1,70 @@
+-- Some port of those that are left, since none was found before.
+use borrow.Author.Needs.{needs}
+use native.Mathlib.Omega.{arith}
+use Prim.Native.Nat.{_≤_, _-_}
+use mathlib.Core.Path.{_≡_, _∙_, refl, sym}
+use mathlib.Core.List.{[]}
+use denote.Ref.{now}
+use Rattle.pull_laws.specs.TableStep.{anyOf, mayCome, mayReach}
+use Rattle.pull_laws.specs.Tables.{chainRows}
+use Rattle.route_laws.specs.Nodes.{inputNode}
+use Rattle.marks.proofs.Laws.{reach-here, reach-later, reach-none}
+use Rattle.marks.proofs.may_reach.Statement.{statement}
+use Rattle.marks.proofs.may_reach.Tie as tie
+
+abbrev Inv-loop : tie.InvT-loop
+Inv-loop tables marks reached c q₀ q = (q ≤ 4) × (mayReach [] tables marks reached c (4 - q) q ≡ mayReach [] tables marks reached c 4 0)
+
+abbrev μ-loop : tie.MeasureT-loop
+μ-loop tables marks reached c q₀ q = 4 - q
+
+loop-holds : tie.Need-loop-holds Inv-loop μ-loop
+loop-holds c =
+    (omega arith, refl)
+
+input-node-requires : tie.Need-input-node-requires Inv-loop μ-loop
+input-node-requires c κs = search needs
+
+any-source-requires : tie.Need-any-source-requires Inv-loop μ-loop
+any-source-requires c κs = search needs
+
+returns : tie.Need-returns Inv-loop μ-loop
+returns c =
+    let a = c .before .before .before .before .before .before .before .before .args in
+    let l = c .before .before .before .before .loop in
+    let e : anyOf (mayCome [] (now (a .tables)) (now (a .marks)) (now (a .reached))) (chainRows (now (a .tables)) (inputNode (a .c) (l .q))) ≡ c .before .any-source .result = sym (rw (c .before .before .input-node .ensures) at (c .before .any-source .ensures)) in
+    reach-here (now (a .tables)) (now (a .marks)) (now (a .reached)) (a .c) 4 (l .q) (omega arith) (e ∙ c .if1 .taken) ∙ l .inv .1
+
+add-q : tie.Need-add-q Inv-loop μ-loop
+add-q c = search needs
+
+loop-less : tie.Need-loop-less Inv-loop μ-loop
+loop-less c = search needs
+
+loop-again : tie.Need-loop-again Inv-loop μ-loop
+loop-again c =
+    let a = c .before .before .before .before .before .before .before .before .args in
+    let l = c .before .before .before .before .loop in
+    let e : anyOf (mayCome [] (now (a .tables)) (now (a .marks)) (now (a .reached))) (chainRows (now (a .tables)) (inputNode (a .c) (l .q))) ≡ c .before .any-source .result = sym (rw (c .before .before .input-node .ensures) at (c .before .any-source .ensures)) in
+    (omega arith, reach-later (now (a .tables)) (now (a .marks)) (now (a .reached)) (a .c) 4 (l .q) (omega arith) (e ∙ c .if1 .left) ∙ l .inv .1)
+
+returns-2 : tie.Need-returns-2 Inv-loop μ-loop
+returns-2 c =
+    let a = c .before .before .before .before .before .args in
+    let l = c .before .loop in
+    reach-none (now (a .tables)) (now (a .marks)) (now (a .reached)) (a .c) 4 (l .q) (omega arith) ∙ l .inv .1
+
+pub may-reach-spec : {M : Type 1} → statement M
+may-reach-spec =
+    tie.close
+    (tie.spec
+    Inv-loop
+    μ-loop
+    loop-holds
+    input-node-requires
+    any-source-requires
+    returns
+    add-q
+    loop-less
+    loop-again
+    returns-2)

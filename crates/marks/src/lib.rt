@@ -1,0 +1,177 @@
+// What a step reads before any transition: the mark of each component, which is 0 where nothing below it is due, and an atomic's phase
+// record's number and 1 where it is due; and for each component whether something may reach its inputs.
+ghost use mathlib.Core.Path.{_≡_};
+ghost use mathlib.Core.List.{[]};
+ghost use mathlib.Core.Bool.{cond};
+ghost use Prim.Native.Nat.{_+_, _-_, suc};
+ghost use lib.ListN.{getD, set};
+ghost use Rattle.definition.specs.Lists.{isEmpty};
+ghost use Rattle.definition.specs.Limits.{portCount};
+ghost use Rattle.definition.specs.Engine.{toBag};
+ghost use Rattle.model_records.specs.Values.{phasesIn};
+ghost use Rattle.pull_laws.specs.Tables.{countAt, parentsAt, chainRows};
+ghost use Rattle.pull_laws.specs.TableStep.{anyOf, isUp, recordOf, markOf, marked, raised, mayCome, mayReach, reachedFrom};
+use bag_keys::MESSAGE_SIZE;
+use bag_keys::key_at;
+use clock::Moment;
+use collect::first_link;
+use collect::input_node;
+use collect::may_come;
+use collect::next_link;
+use collect::source_of;
+use dues::row_word;
+use limits::MAX_COUPLINGS;
+use limits::PORT_COUNT;
+use little_endian::size16;
+use run_state::State;
+use table_words::COUNT_AT;
+use table_words::NUMBERS_AT;
+use table_words::PARENTS_AT;
+use table_words::PHASES_AT;
+use table_words::word_at;
+
+fn wide(x: u8) -> u32
+    ensures { λ r. ⌜ r ≡ x ⌝ }
+{
+    x as u32
+}
+
+fn wide16(x: u16) -> u32
+    ensures { λ r. ⌜ r ≡ x ⌝ }
+{
+    x as u32
+}
+
+fn flag(up: bool) -> u32
+    ensures { λ r. ⌜ r ≡ cond up 1 0 ⌝ }
+{
+    if up { 1 } else { 0 }
+}
+
+// ---- marks
+
+// The mark of component c that is due in phase p.
+fn mark_for(tables: &[u16], c: u16, p: u8) -> u32
+    ensures { λ r. ⌜ r ≡ suc (recordOf [] (now (tables .entry)) c p) ⌝ }
+{
+    wide16(row_word(tables, PHASES_AT, c)) + wide(p) + 1
+}
+
+// The mark of the atomic at position i.
+fn mark_of(phases: &[u8], tables: &[u16], st: State, at: Moment, i: u16) -> u32
+    ensures { λ r. ⌜ r ≡ markOf (phasesIn (now (phases .entry))) (now (tables .entry)) (at .0) st i ⌝ }
+{
+    if dues::is_now(dues::due_at(phases, tables, st, i), at) {
+        mark_for(
+            tables,
+            row_word(tables, NUMBERS_AT, i),
+            st.phase_of(size16(i)),
+        )
+    } else {
+        0
+    }
+}
+
+// A component's mark or flag; nothing where there is no such component.
+fn put_mark(marks: &mut [u32], c: u16, mark: u32)
+    ensures { λ _. ⌜ now (marks .exit) ≡ set (now (marks .entry)) c mark ⌝ }
+{
+    let at = size16(c);
+    if at < marks.len() {
+        marks[at] = mark;
+    }
+}
+
+fn mark_atomics(phases: &[u8], tables: &[u16], n: u8, st: State, at: Moment, marks: &mut [u32])
+    ensures { λ _. ⌜ now (marks .exit) ≡ marked (phasesIn (now (phases .entry))) (now (tables .entry)) (at .0) st n 0 (now (marks .entry)) ⌝ }
+{
+    let mut i: u8 = 0;
+    while i < n {
+        let mark = mark_of(phases, tables, st, at, i as u16);
+        put_mark(marks, row_word(tables, NUMBERS_AT, i as u16), mark);
+        i = i + 1;
+    }
+}
+
+// The parent of component c is marked where c is.
+fn mark_parent(tables: &[u16], c: u16, marks: &mut [u32])
+    ensures { λ _. ⌜ now (marks .exit) ≡ cond (isUp (now (marks .entry)) c) (set (now (marks .entry)) (getD (now (tables .entry)) (parentsAt + c) 0) 1) (now (marks .entry)) ⌝ }
+{
+    if key_at(marks, size16(c)) != 0 {
+        put_mark(marks, row_word(tables, PARENTS_AT, c), 1);
+    }
+}
+
+fn mark_parents(tables: &[u16], marks: &mut [u32])
+    ensures { λ _. ⌜ now (marks .exit) ≡ raised [] (now (tables .entry)) (getD (now (tables .entry)) countAt 0 - 1) (now (marks .entry)) ⌝ }
+{
+    let count = word_at(tables, COUNT_AT);
+    let mut c: u16 = 0;
+    if 0 < count {
+        c = count - 1;
+    }
+    while 0 < c {
+        mark_parent(tables, c, marks);
+        c = c - 1;
+    }
+}
+
+// ---- what may be reached
+
+fn any_source(tables: &[u16], marks: &[u32], reached: &[u32], x: u32) -> bool
+    ensures { λ r. ⌜ r ≡ anyOf (mayCome [] (now (tables .entry)) (now (marks .entry)) (now (reached .entry))) (chainRows (now (tables .entry)) x) ⌝ }
+{
+    let mut left = MAX_COUPLINGS;
+    let mut link = first_link(tables, x);
+    while (0 < left) & (0 < link) {
+        if may_come(marks, reached, source_of(tables, link)) {
+            return true;
+        }
+        link = next_link(tables, link);
+        left = left - 1;
+    }
+    false
+}
+
+fn may_reach(tables: &[u16], marks: &[u32], reached: &[u32], c: u16) -> bool
+    ensures { λ r. ⌜ r ≡ mayReach [] (now (tables .entry)) (now (marks .entry)) (now (reached .entry)) c portCount 0 ⌝ }
+{
+    let mut q: u8 = 0;
+    while q < PORT_COUNT {
+        if any_source(tables, marks, reached, input_node(c, q)) {
+            return true;
+        }
+        q = q + 1;
+    }
+    false
+}
+
+fn flag_components(tables: &[u16], marks: &[u32], reached: &mut [u32])
+    ensures { λ _. ⌜ now (reached .exit) ≡ reachedFrom [] (now (tables .entry)) (now (marks .entry)) (getD (now (tables .entry)) countAt 0 - 1) 1 (now (reached .entry)) ⌝ }
+{
+    let count = word_at(tables, COUNT_AT);
+    let mut c: u16 = 1;
+    while c < count {
+        let up = flag(may_reach(tables, marks, reached, c));
+        put_mark(reached, c, up);
+        c = c + 1;
+    }
+}
+
+// ---- both, over zeros
+
+// The marks of n atomics and of the components above them.
+pub fn mark(phases: &[u8], tables: &[u16], n: u8, st: State, at: Moment, marks: &mut [u32])
+    ensures { λ _. ⌜ now (marks .exit) ≡ raised (phasesIn (now (phases .entry))) (now (tables .entry)) (getD (now (tables .entry)) countAt 0 - 1) (marked (phasesIn (now (phases .entry))) (now (tables .entry)) (at .0) st n 0 (now (marks .entry))) ⌝ }
+{
+    mark_atomics(phases, tables, n, st, at, marks);
+    mark_parents(tables, marks);
+}
+
+// The flags, where the root's says that something is given.
+pub fn reach(tables: &[u16], marks: &[u32], given: &[u8], reached: &mut [u32])
+    ensures { λ _. ⌜ now (reached .exit) ≡ reachedFrom [] (now (tables .entry)) (now (marks .entry)) (getD (now (tables .entry)) countAt 0 - 1) 1 (set (now (reached .entry)) 0 (cond (isEmpty (toBag (now (given .entry)))) 0 1)) ⌝ }
+{
+    put_mark(reached, 0, flag(MESSAGE_SIZE <= given.len()));
+    flag_components(tables, marks, reached);
+}

@@ -1,0 +1,92 @@
+-- What the buffers hold after a bag was pulled and after it was sorted; one atomic more. Assumes nothing.
+use mathlib.Core.Path.{_≡_, refl, sym, ap, _∙_, subst}
+use mathlib.Core.List.{List, [], _++_, map}
+use Prim.Native.Nat.{ℕ, suc, _+_, _-_, _≤_, _<_}
+use native.Mathlib.Omega.{arith}
+use lib.Dec.{leb}
+use lib.ListN.{length, take, drop, getD, set, replicate, length-map}
+use lib.Seq.{take-at, take-all, length-take-le}
+use mathlib.Core.Bool.{cond}
+use Rattle.definition.specs.Lists.{isEmpty, sortBy}
+use Rattle.definition.specs.Limits.{maxComponents, maxAncestors, portCount}
+use Rattle.definition.specs.Model.{Bag, Phase, Rule, messageLe}
+use Rattle.run_state.specs.declared.State.{State}
+use Rattle.sort.specs.Keys as S
+use Rattle.sort.proofs.Keys.{sort-messages}
+use Rattle.sort.proofs.Merging.{length-sort}
+use Rattle.route_laws.specs.Nodes.{inputNode, outputNode}
+use Rattle.pull_laws.specs.Put.{messageOf, putPorts, keysOf}
+use Rattle.definition.specs.Step.{Stepped}
+use Rattle.pull_laws.specs.Tables.{numbersAt, countAt}
+use Rattle.pull_laws.specs.TableStep.{isUp, marked, raised, marks, reachedFrom, reached, pulledInto, pulledBelow, keysInto, rootKeys, changedBy, changedFrom, tableStep}
+use Rattle.marks.proofs.Laws.{flags-any}
+use Rattle.pull_laws.proofs.Putting.{Front, bag-front}
+
+module _ (ps : List Phase) (t es fs : List ℕ) where
+  -- an atomic's bag in a buffer
+  pub into-held : (x : Bag) (c : ℕ) (b d : List ℕ) (k : ℕ) → (d, k) ≡ putPorts (λ q. pulledInto ps t es fs x maxAncestors (inputNode c q)) portCount 0 (b, 0)
+      → Front (length b) (d, k) (keysInto ps t es fs x c)
+  unfolding keysInto
+  into-held x c b d k e =
+      let f : ℕ → List ℕ = λ q. pulledInto ps t es fs x maxAncestors (inputNode c q) in
+      subst (λ (st : List ℕ × ℕ). Front (length b) st (keysOf f portCount 0)) (sym e) (bag-front f portCount 0 b)
+
+  -- the root's output bag in a buffer
+  pub root-held : (b d : List ℕ) (k : ℕ) → (d, k) ≡ putPorts (λ q. pulledBelow ps t es fs maxAncestors (outputNode 0 q)) portCount 0 (b, 0)
+      → Front (length b) (d, k) (rootKeys ps t es fs)
+  unfolding rootKeys
+  root-held b d k e =
+      let f : ℕ → List ℕ = λ q. pulledBelow ps t es fs maxAncestors (outputNode 0 q) in
+      subst (λ (st : List ℕ × ℕ). Front (length b) st (keysOf f portCount 0)) (sym e) (bag-front f portCount 0 b)
+
+-- The front of a buffer, sorted.
+same-messages : (l : List ℕ) → map S.messageOf l ≡ map messageOf l
+unfolding S.messageOf messageOf
+same-messages l = refl
+
+pub sorted-front : (n : ℕ) (b d : List ℕ) → n ≤ length b → d ≡ sortBy leb (take n b) ++ drop n b
+    → map messageOf (take n d) ≡ sortBy messageLe (map messageOf (take n b))
+sorted-front n b d h e =
+    ap (λ l. map messageOf (take n l)) e
+    ∙ ap (map messageOf) (take-at (sortBy leb (take n b)) (drop n b) n (length-sort (take n b) ∙ length-take-le n b h))
+    ∙ sym (same-messages (sortBy leb (take n b))) ∙ sort-messages (take n b) ∙ ap (sortBy messageLe) (same-messages (take n b))
+
+-- one atomic more
+module _ (ps : List Phase) (t : List ℕ) (rs : List Rule) (es fs : List ℕ) (room now : ℕ) (x : Bag) (n i : ℕ) (st : State) where
+  pub changed-more : i < n
+      → changedFrom ps t rs es fs room now x (n - (i + 1)) (i + 1)
+      (changedBy ps t rs now st i (getD t (numbersAt + i) 0) (isUp es (getD t (numbersAt + i) 0)) (map messageOf (take room (keysInto ps t es fs x (getD t (numbersAt + i) 0)))))
+      ≡ changedFrom ps t rs es fs room now x (n - i) i st
+  unfolding changedFrom
+  changed-more h = let e : n - i ≡ suc (n - (i + 1)) = omega arith in rw e
+
+  pub changed-none : n ≤ i → st ≡ changedFrom ps t rs es fs room now x (n - i) i st
+  unfolding changedFrom
+  changed-none h = let e : n - i ≡ 0 = omega arith in rw e
+
+-- ---- the whole step, where the marks and flags are those that the code filled in over zeros
+
+module _ (ps : List Phase) (t : List ℕ) (rs : List Rule) (n room now : ℕ) (x : Bag) (st : State) (es fs : List ℕ)
+    (e : es ≡ raised ps t (getD t countAt 0 - 1) (marked ps t now st n 0 (replicate maxComponents 0)))
+    (f : fs ≡ reachedFrom [] t es (getD t countAt 0 - 1) 1 (set (replicate maxComponents 0) 0 (cond (isEmpty x) 0 1))) where
+  marks-are : marks ps t n now st ≡ es
+  unfolding marks
+  marks-are = sym e
+
+  flags-are : reached ps t es x ≡ fs
+  unfolding reached
+  flags-are = sym (f ∙ flags-any ps t es (getD t countAt 0 - 1) 1 (set (replicate maxComponents 0) 0 (cond (isEmpty x) 0 1)))
+
+  build : List ℕ → List ℕ → Stepped State
+  build es fs = record { out = map messageOf (rootKeys ps t es fs); state = changedFrom ps t rs es fs room now x n 0 st }
+
+  pub step-is : tableStep ps t rs n room now x st ≡ record { out = map messageOf (rootKeys ps t es fs); state = changedFrom ps t rs es fs room now x n 0 st }
+  unfolding tableStep build
+  step-is = ap (λ l. build l (reached ps t l x)) marks-are ∙ ap (build es) flags-are
+
+-- a bag that has room stands whole
+pub whole-bag : (room : ℕ) (ks : List ℕ) → length (map messageOf ks) ≤ room → take room ks ≡ ks
+whole-bag room ks h = take-all room ks (rw (length-map ks messageOf) at h)
+
+pub count-bag : (ks : List ℕ) → length ks ≡ length (map messageOf ks)
+count-bag ks = sym (length-map ks messageOf)

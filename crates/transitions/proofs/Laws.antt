@@ -1,0 +1,42 @@
+-- The four cases of a transition, by whether the atomic is due and whether its bag is empty. Assumes nothing.
+use mathlib.Core.Path.{_≡_, refl}
+use mathlib.Core.List.{List, [], _∷_, map}
+use mathlib.Core.Bool.{true, false}
+use Prim.Native.Nat.{ℕ, _-_}
+use native.Mathlib.Omega.{arith}
+use lib.ListN.{length, getD}
+use Rattle.definition.specs.Model.{Bag, Phase, Rule}
+use Rattle.run_state.specs.declared.State.{State}
+use Rattle.run_state.specs.Held.{changedAt}
+use Rattle.pull_laws.specs.Put.{messageOf}
+use Rattle.pull_laws.specs.TableStep.{phaseIn, decidedIn, confluentIn, changedBy}
+
+module _ (ps : List Phase) (t : List ℕ) (rs : List Rule) (now : ℕ) (st : State) (i c : ℕ) where
+  -- which rule decides does not depend on the phases
+  pub decided-any : (p e : ℕ) (x : Bag) → decidedIn [] t rs c p e x ≡ decidedIn ps t rs c p e x
+  unfolding decidedIn
+  decided-any p e x = refl
+
+  pub internal-case : (l : List ℕ) → length l ≡ 0
+      → changedAt st i (phaseIn ps t c (getD (st .phase) i 0) .next) now ≡ changedBy ps t rs now st i c true (map messageOf l)
+  unfolding changedBy
+  internal-case [] e = refl
+  internal-case (k ∷ l) e = absurd (omega arith)
+
+  pub still-case : (l : List ℕ) → length l ≡ 0 → st ≡ changedBy ps t rs now st i c false (map messageOf l)
+  unfolding changedBy
+  still-case [] e = refl
+  still-case (k ∷ l) e = absurd (omega arith)
+
+  pub confluent-case : (l : List ℕ) → (length l ≡ 0 → ⊥)
+      → changedAt st i (confluentIn ps t rs c (getD (st .phase) i 0) (map messageOf l)) now ≡ changedBy ps t rs now st i c true (map messageOf l)
+  unfolding changedBy
+  confluent-case [] e = absurd (e refl)
+  confluent-case (k ∷ l) e = refl
+
+  pub external-case : (l : List ℕ) → (length l ≡ 0 → ⊥)
+      → changedAt st i (decidedIn ps t rs c (getD (st .phase) i 0) (now - getD (st .last) i 0) (map messageOf l)) now
+      ≡ changedBy ps t rs now st i c false (map messageOf l)
+  unfolding changedBy
+  external-case [] e = absurd (e refl)
+  external-case (k ∷ l) e = refl

@@ -1,0 +1,110 @@
+// The transitions of an atomic: internal, external, confluent in both orders, or none. The elapsed time is the atomic's own.
+ghost use mathlib.Core.Path.{_≡_};
+ghost use mathlib.Core.List.{[], map};
+ghost use Prim.Native.Nat.{_<_};
+ghost use Rattle.definition.specs.Limits.{maxComponents};
+ghost use Rattle.definition.specs.Atomic.{ledTo};
+ghost use Rattle.model_records.specs.Values.{phasesIn, rulesIn};
+ghost use Rattle.deciding.specs.Search.{foundOf};
+ghost use Rattle.pull_laws.specs.Put.{messageOf};
+ghost use Rattle.pull_laws.specs.TableStep.{phaseIn, decidedIn, confluentIn, changedBy};
+use clock::Moment;
+use clock::Stay;
+use deciding::Found;
+use dues::phase_in;
+use dues::row_word;
+use little_endian::size;
+use little_endian::size16;
+use run_state::State;
+use table_words::ORDERS_AT;
+use table_words::RULES_FROM_AT;
+use table_words::RULES_TO_AT;
+
+fn wide(x: u32) -> u64
+    ensures { λ r. ⌜ r ≡ x ⌝ }
+{
+    x as u64
+}
+
+// The next phase of phase p.
+fn next_of(phases: &[u8], tables: &[u16], c: u16, p: u8) -> u8
+    ensures { λ r. ⌜ r ≡ phaseIn (phasesIn (now (phases .entry))) (now (tables .entry)) c p .next ⌝ }
+{
+    let phase = phase_in(phases, tables, c, p);
+    phase.next
+}
+
+fn advance_of(phases: &[u8], tables: &[u16], c: u16, p: u8) -> Stay
+    ensures { λ r. ⌜ r .0 ≡ phaseIn (phasesIn (now (phases .entry))) (now (tables .entry)) c p .advance ⌝ }
+{
+    let phase = phase_in(phases, tables, c, p);
+    Stay(wide(phase.advance))
+}
+
+// Where the rule that was found leads; without one the phase stays.
+fn led_to(rules: &[u8], p: u8, found: Found) -> u8
+    ensures { λ r. ⌜ r ≡ ledTo (rulesIn (now (rules .entry))) p (foundOf found) ⌝ }
+{
+    let Found::At(i) = found else {
+        return p;
+    };
+    let rule = model_records::rule_at(rules, size16(i));
+    rule.next
+}
+
+// The external transition of component c in phase p.
+fn decided(rules: &[u8], tables: &[u16], c: u16, p: u8, elapsed: Stay, bag: &[u32]) -> u8
+    ensures { λ r. ⌜ r ≡ decidedIn [] (now (tables .entry)) (rulesIn (now (rules .entry))) c p (elapsed .0) (map messageOf (now (bag .entry))) ⌝ }
+{
+    let first = row_word(tables, RULES_FROM_AT, c);
+    let end = row_word(tables, RULES_TO_AT, c);
+    led_to(
+        rules,
+        p,
+        deciding::deciding(rules, first, end, c, p, elapsed, bag),
+    )
+}
+
+// "order 0 takes the next phase, then the external transition with elapsed time 0; order 1 the external one with elapsed time equal to the
+// advance, then the next phase of where it led"
+fn confluent(phases: &[u8], rules: &[u8], tables: &[u16], c: u16, p: u8, bag: &[u32]) -> u8
+    ensures { λ r. ⌜ r ≡ confluentIn (phasesIn (now (phases .entry))) (now (tables .entry)) (rulesIn (now (rules .entry))) c p (map messageOf (now (bag .entry))) ⌝ }
+{
+    if row_word(tables, ORDERS_AT, c) == 0 {
+        let next = next_of(phases, tables, c, p);
+        return decided(rules, tables, c, next, Stay(0), bag);
+    }
+    let advance = advance_of(phases, tables, c, p);
+    let led = decided(rules, tables, c, p, advance, bag);
+    next_of(phases, tables, c, led)
+}
+
+// The atomic c at position i, due or not, with its bag.
+pub fn transition(
+    phases: &[u8],
+    rules: &[u8],
+    tables: &[u16],
+    st: State,
+    at: Moment,
+    i: u8,
+    c: u16,
+    due: bool,
+    bag: &[u32],
+) -> State
+    requires { ⌜ i < maxComponents ⌝ }
+    ensures { λ r. ⌜ r ≡ changedBy (phasesIn (now (phases .entry))) (now (tables .entry)) (rulesIn (now (rules .entry))) (at .0) st i c due (map messageOf (now (bag .entry))) ⌝ }
+{
+    let position = size(i);
+    let p = st.phase_of(position);
+    if bag.len() == 0 {
+        if due {
+            return st.with(position, next_of(phases, tables, c, p), at);
+        }
+        return st;
+    }
+    if due {
+        return st.with(position, confluent(phases, rules, tables, c, p, bag), at);
+    }
+    let elapsed = at.since(st.last_of(position));
+    st.with(position, decided(rules, tables, c, p, elapsed, bag), at)
+}
