@@ -1,0 +1,50 @@
+-- The whole outcome of a call from where its instants end: the numbers, the run stored, and the records at the front of the trace.
+-- Assumes nothing.
+use mathlib.Core.Path.{_≡_, refl, _∙_, sym, ap}
+use mathlib.Core.List.{List, [], _++_}
+use Prim.Native.Nat.{ℕ, suc, _+_, _*_, _≤_}
+use native.Mathlib.Omega.{arith}
+use lib.ListN.{length, take, drop, take-append-drop}
+use lib.Seq.{length-take-le}
+use Rattle.definition.specs.Bytes.{Bytes, Result, ok, stored}
+use Rattle.definition.specs.SavedRun.{runBytes}
+use Rattle.definition.specs.Model.{Bag}
+use Rattle.definition.specs.Step.{Simulator}
+use Rattle.definition.specs.Advance.{Progress, Ended, ended, advancing, advanceFrom}
+use Rattle.definition.specs.Engine.{Advanced, advanced}
+use Rattle.run_state.specs.declared.State.{State}
+use Rattle.saved_run.specs.Runs.{runIn}
+use Rattle.attempt.specs.Progress.{progressOf, Beyond}
+use Rattle.attempt.specs.declared.Going.{Going}
+use Rattle.attempt.specs.declared.Ending.{Ending}
+use Rattle.advance.specs.Ends.{endedOf, savedEnd, outcomeOf}
+
+-- The trace with its records in front.
+trace-stored : (used : ℕ) (trace₀ trace : Bytes) → Beyond trace₀ trace used → stored (take used trace) trace₀ ≡ trace
+unfolding stored
+trace-stored used trace₀ trace b =
+    let l : length (take used trace) ≡ used = length-take-le used trace (omega (arith, b .0, b .1)) in
+    rw l (ap (λ r. take used trace ++ r) (sym (b .2)) ∙ take-append-drop used trace)
+
+fields : (n : ℕ) (run₀ trace₀ trace : Bytes) (e : Ending) → Beyond trace₀ trace (e .going .used)
+    → advanced run₀ trace₀ (ok (savedEnd n (endedOf trace e)))
+    ≡ outcomeOf (stored (runBytes (runIn (e .going .opening .0) n (e .going .state))) run₀) trace
+    (record { number = e .number; instants = e .going .instants; steps = e .going .steps; used = e .going .used })
+unfolding advanced savedEnd ended progressOf runIn
+fields n run₀ trace₀ trace e b =
+    let l : length (take (e .going .used) trace) ≡ e .going .used = length-take-le (e .going .used) trace (omega (arith, b .0, b .1)) in
+    rw (trace-stored (e .going .used) trace₀ trace b, l)
+
+-- The outcome of a call that ends at a.
+pub outcome : (n : ℕ) (run₀ run trace₀ trace : Bytes) (e : Ending) (a : Ended State) → endedOf trace e ≡ a → Beyond trace₀ trace (e .going .used)
+    → run ≡ stored (runBytes (runIn (e .going .opening .0) n (e .going .state))) run₀
+    → outcomeOf run trace (record { number = e .number; instants = e .going .instants; steps = e .going .steps; used = e .going .used })
+    ≡ advanced run₀ trace₀ (ok (savedEnd n a))
+outcome n run₀ run trace₀ trace e a q b r =
+    rw r (sym (ap (λ z. advanced run₀ trace₀ (ok (savedEnd n z))) (sym q) ∙ fields n run₀ trace₀ trace e b))
+
+-- A call begins with nothing done.
+pub begins : (k : Simulator State) (room t : ℕ) (x : Bag) (trace : Bytes) (g : Going) → g .instants ≡ 0 → g .steps ≡ 0 → g .used ≡ 0
+    → advancing k (suc t) room t x (progressOf trace g) ≡ advanceFrom k (g .opening .0) (g .state) room t x
+unfolding advanceFrom progressOf
+begins k room t x trace g i s u = rw (i, s, u)

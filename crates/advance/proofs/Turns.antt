@@ -1,0 +1,193 @@
+-- One turn of advance, by the moment that is next and by what the tried instant gave: it goes on, it stops, or it was the last. Over
+-- anything that takes steps. Assumes nothing.
+use mathlib.Core.Path.{_≡_, refl, _∙_, sym, ap, ap₂, subst}
+use mathlib.Core.List.{List, []}
+use mathlib.Core.Bool.{Bool, true, false, cond}
+use Prim.Native.Nat.{ℕ, zero, suc, _+_, _-_, _≤_, _<_}
+use native.Mathlib.Omega.{arith}
+use lib.ListN.{length, drop}
+use lib.Dec.{ltb, eqb}
+use lib.Seq.{drop-drop}
+use borrow.Author.Tests.{ltb-true, eq-eqb, ne-eqb, eqb-false}
+use Rattle.definition.specs.Bytes.{Bytes, Result, ok, refused}
+use Rattle.definition.specs.Model.{Bag}
+use Rattle.definition.specs.Devs.{Time, finite, never}
+use Rattle.definition.specs.Step.{Simulator}
+use Rattle.definition.specs.Instant.{Instant, instant}
+use Rattle.definition.specs.Advance.{Progress, Ended, ended, tried, continued, succeeded, isBefore, moment, advancing}
+use Rattle.run_state.specs.declared.State.{State}
+use Rattle.attempt.specs.Progress.{progressOf, triedOf, Beyond, Attempted}
+use Rattle.attempt.specs.declared.Going.{Going}
+use Rattle.attempt.specs.declared.Ending.{Ending}
+use Rattle.advance.specs.Ends.{endedOf, finishedOf}
+
+-- ---- the next moment
+
+abbrev pub nextOf : Time → ℕ → ℕ
+nextOf u t = cond (isBefore u t) (moment u) t
+
+pub not-before : (u : Time) (t v : ℕ) → v ≡ nextOf u t → t ≤ v → isBefore u t ≡ false
+unfolding isBefore moment
+not-before (finite a) t v e h = go (ltb a t) refl e
+  where
+    go : (b : Bool) → ltb a t ≡ b → v ≡ cond b a t → b ≡ false
+    go true f e = absurd (omega (arith, ltb-true a t f))
+    go false f e = refl
+not-before never t v e h = refl
+
+pub is-before : (u : Time) (t v : ℕ) → v ≡ nextOf u t → v < t → (isBefore u t ≡ true) × (moment u ≡ v)
+unfolding isBefore moment
+is-before (finite a) t v e h = go (ltb a t) refl e
+  where
+    go : (b : Bool) → ltb a t ≡ b → v ≡ cond b a t → (b ≡ true) × (a ≡ v)
+    go true f e = (refl, sym e)
+    go false f e = absurd (omega arith)
+is-before never t v e h = absurd (omega arith)
+
+-- ---- one turn of the definition
+
+module _ {S : Type 0} (k : Simulator S) (room t : ℕ) (x : Bag) where
+  last-turn : (m : ℕ) (p : Progress S) → isBefore (k .next (p .state)) t ≡ false
+      → advancing k (suc m) room t x p ≡ continued (succeeded t) p (tried room t p (instant k t x (p .state)))
+  unfolding advancing
+  last-turn m p e = rw e
+
+  more-turn : (m : ℕ) (p : Progress S) → isBefore (k .next (p .state)) t ≡ true
+      → advancing k (suc m) room t x p
+      ≡ continued (λ q. advancing k m room t x q) p (tried room (moment (k .next (p .state))) p (instant k (moment (k .next (p .state))) [] (p .state)))
+  unfolding advancing
+  more-turn m p e = rw e
+
+  pub no-turn : (m : ℕ) (p : Progress S) → m ≡ 0 → advancing k m room t x p ≡ ended 0 p
+  unfolding advancing
+  no-turn m p e = rw e
+
+goes-ok : {S : Type 0} (on : Progress S → Ended S) (p q : Progress S) → continued on p (ok q) ≡ on q
+unfolding continued
+goes-ok on p q = refl
+
+goes-no : {S : Type 0} (on : Progress S → Ended S) (p : Progress S) (m : ℕ) → continued on p (refused m) ≡ ended m p
+unfolding continued
+goes-no on p m = refl
+
+-- ---- one turn of the code
+
+abbrev reopened : ℕ → Going → Ending
+reopened t g = record { number = 0; going = record { opening = record { 0 = suc t }; instants = g .instants; steps = g .steps; used = g .used; state = g .state } }
+
+succeeded-as : (t : ℕ) (trace : Bytes) (g : Going) → succeeded t (progressOf trace g) ≡ endedOf trace (reopened t g)
+unfolding succeeded progressOf
+succeeded-as t trace g = refl
+
+finished-ok : (t : ℕ) (e : Ending) → eqb (e .number) 0 ≡ true → finishedOf t e ≡ reopened t (e .going)
+unfolding finishedOf
+finished-ok t e q = rw q
+
+finished-no : (t : ℕ) (e : Ending) → eqb (e .number) 0 ≡ false → finishedOf t e ≡ e
+unfolding finishedOf
+finished-no t e q = rw q
+
+tried-no : (trace : Bytes) (e : Ending) → eqb (e .number) 0 ≡ false → triedOf trace e ≡ refused (e .number)
+tried-no trace e q = rw q
+
+tried-ok : (trace : Bytes) (e : Ending) → eqb (e .number) 0 ≡ true → triedOf trace e ≡ ok (progressOf trace (e .going))
+tried-ok trace e q = rw q
+
+state-in : (trace : Bytes) (g : Going) → progressOf trace g .state ≡ g .state
+unfolding progressOf
+state-in trace g = refl
+
+-- An undone instant leaves the progress as it was.
+left-as : (now : ℕ) (g : Going) (trace trace′ : Bytes) (i : Instant State) (e : Ending) → Attempted now g trace trace′ i e → (e .number ≡ 0 → ⊥)
+    → progressOf trace g ≡ progressOf trace′ (e .going)
+left-as now g trace trace′ i e a z = let u = a .undone z in ap₂ progressOf (sym (u .1)) (sym (u .0))
+
+module _ (k : Simulator State) (t : ℕ) (x : Bag) (g : Going) (trace trace′ : Bytes) (e : Ending) (m : ℕ) where
+  abbrev p : Progress State
+  p = progressOf trace g
+
+  -- The last turn: t with the bag.
+  pub turn-last : Attempted t g trace trace′ (instant k t x (g .state)) e → isBefore (k .next (g .state)) t ≡ false
+      → advancing k (suc m) (length trace) t x p ≡ endedOf trace′ (finishedOf t e)
+  turn-last a b =
+      last-turn k (length trace) t x m p (subst (λ (s : State). isBefore (k .next s) t ≡ false) (sym (state-in trace g)) b)
+      ∙ ap (λ (s : State). continued (succeeded t) p (tried (length trace) t p (instant k t x s))) (state-in trace g)
+      ∙ ap (continued (succeeded t) p) (sym (a .same)) ∙ go (eqb (e .number) 0) refl
+    where
+      go : (b : Bool) → eqb (e .number) 0 ≡ b → continued (succeeded t) p (triedOf trace′ e) ≡ endedOf trace′ (finishedOf t e)
+      go true q =
+          ap (continued (succeeded t) p) (tried-ok trace′ e q) ∙ goes-ok (succeeded t) p (progressOf trace′ (e .going))
+          ∙ succeeded-as t trace′ (e .going) ∙ ap (endedOf trace′) (sym (finished-ok t e q))
+      go false q =
+          ap (continued (succeeded t) p) (tried-no trace′ e q) ∙ goes-no (succeeded t) p (e .number)
+          ∙ ap (ended (e .number)) (left-as t g trace trace′ (instant k t x (g .state)) e a (eqb-false (e .number) 0 q)) ∙ ap (endedOf trace′) (sym (finished-no t e q))
+
+  -- An instant before t, with no bag.
+  module _ (u : ℕ) (y : Bag) (none : y ≡ []) (a : Attempted u g trace trace′ (instant k u y (g .state)) e)
+      (b : (isBefore (k .next (g .state)) t ≡ true) × (moment (k .next (g .state)) ≡ u)) where
+    abbrev on : Progress State → Ended State
+    on q = advancing k m (length trace) t x q
+
+    turn : advancing k (suc m) (length trace) t x p ≡ continued on p (triedOf trace′ e)
+    turn =
+        more-turn k (length trace) t x m p (subst (λ (s : State). isBefore (k .next s) t ≡ true) (sym (state-in trace g)) (b .0))
+        ∙ ap (λ (s : State). continued on p (tried (length trace) (moment (k .next s)) p (instant k (moment (k .next s)) [] s))) (state-in trace g)
+        ∙ ap₂ (λ (w : ℕ) (z : Bag). continued on p (tried (length trace) w p (instant k w z (g .state)))) (b .1) (sym none)
+        ∙ ap (continued on p) (sym (a .same))
+
+    -- It stands, and the call goes on.
+    pub turn-more : e .number ≡ 0 → advancing k (suc m) (length trace) t x p ≡ advancing k m (length trace) t x (progressOf trace′ (e .going))
+    turn-more z = turn ∙ ap (continued on p) (tried-ok trace′ e (eq-eqb (e .number) 0 z)) ∙ goes-ok on p (progressOf trace′ (e .going))
+
+    -- It is undone, and the call ends.
+    pub turn-stop : (e .number ≡ 0 → ⊥) → advancing k (suc m) (length trace) t x p ≡ endedOf trace′ e
+    turn-stop z =
+        turn ∙ ap (continued on p) (tried-no trace′ e (ne-eqb (e .number) 0 z)) ∙ goes-no on p (e .number)
+        ∙ ap (ended (e .number)) (left-as u g trace trace′ (instant k u y (g .state)) e a z)
+
+-- ---- the trace through two changes
+
+pub beyond-on : (trace₀ trace trace′ : Bytes) (u v : ℕ) → u ≤ v → Beyond trace₀ trace u → Beyond trace trace′ v → Beyond trace₀ trace′ v
+beyond-on trace₀ trace trace′ u v l a b =
+    let e : u + (v - u) ≡ v = omega arith in
+    let d : drop v trace ≡ drop v trace₀
+    = subst (λ (k : ℕ). drop k trace ≡ drop k trace₀) e (sym (drop-drop (v - u) u trace) ∙ ap (drop (v - u)) (a .2) ∙ drop-drop (v - u) u trace₀) in
+    (omega (arith, a .1, b .0), b .1 ∙ a .1, b .2 ∙ d)
+
+pub used-as : (t : ℕ) (e : Ending) → finishedOf t e .going .used ≡ e .going .used
+used-as t e = go (eqb (e .number) 0) refl
+  where
+    go : (b : Bool) → eqb (e .number) 0 ≡ b → finishedOf t e .going .used ≡ e .going .used
+    go true q = rw (finished-ok t e q)
+    go false q = rw (finished-no t e q)
+
+-- ---- a turn inside the loop: `whole` is what the call gives, and the turns left give it from here
+
+module _ (k : Simulator State) (t : ℕ) (x : Bag) (whole : Ended State) (trace₀ trace : Bytes) (g : Going) (left : ℕ) (h : 0 < left)
+    (from-here : advancing k left (length trace₀) t x (progressOf trace g) ≡ whole) (b : Beyond trace₀ trace (g .used)) where
+  here : advancing k (suc (left - 1)) (length trace) t x (progressOf trace g) ≡ whole
+  here =
+      let q : suc (left - 1) ≡ left = omega arith in
+      ap₂ (λ (m room : ℕ). advancing k m room t x (progressOf trace g)) q (b .1) ∙ from-here
+
+  module _ (trace′ : Bytes) (e : Ending) (v : ℕ) (next : v ≡ nextOf (k .next (g .state)) t) where
+    pub ends-last : Attempted t g trace trace′ (instant k t x (g .state)) e → t ≤ v → (f : Ending) → f ≡ finishedOf t e
+        → (endedOf trace′ f ≡ whole) × Beyond trace₀ trace′ (f .going .used)
+    ends-last a l f w =
+        let s = turn-last k t x g trace trace′ e (left - 1) a (not-before (k .next (g .state)) t v next l) in
+        let d = beyond-on trace₀ trace trace′ (g .used) (e .going .used) (a .more) b (a .beyond) in
+        (ap (endedOf trace′) w ∙ sym s ∙ here, subst (Beyond trace₀ trace′) (sym (ap (λ (z : Ending). z .going .used) w ∙ used-as t e)) d)
+
+    module _ (y : Bag) (none : y ≡ []) (a : Attempted v g trace trace′ (instant k v y (g .state)) e) (l : v < t) where
+      pub ends-stop : (e .number ≡ 0 → ⊥) → (endedOf trace′ e ≡ whole) × Beyond trace₀ trace′ (e .going .used)
+      ends-stop z = (
+        sym (turn-stop k t x g trace trace′ e (left - 1) v y none a (is-before (k .next (g .state)) t v next l) z) ∙ here,
+        beyond-on trace₀ trace trace′ (g .used) (e .going .used) (a .more) b (a .beyond),
+      )
+
+      pub goes-on : e .number ≡ 0 → Beyond trace₀ trace′ (e .going .used) × (advancing k (left - 1) (length trace₀) t x (progressOf trace′ (e .going)) ≡ whole)
+      goes-on z = (
+        beyond-on trace₀ trace trace′ (g .used) (e .going .used) (a .more) b (a .beyond),
+        ap (λ (room : ℕ). advancing k (left - 1) room t x (progressOf trace′ (e .going))) (sym (b .1))
+            ∙ sym (turn-more k t x g trace trace′ e (left - 1) v y none a (is-before (k .next (g .state)) t v next l) z) ∙ here,
+      )

@@ -1,0 +1,32 @@
+-- The two cases of `finishedOf`.
+use borrow.Author.Needs.{needs}
+use native.Mathlib.Omega.{arith}
+use mathlib.Core.Path.{_≡_}
+use Prim.Native.Nat.{suc, _+_}
+use borrow.Author.Tests.{eq-eqb, ne-eqb}
+use Rattle.advance.specs.Ends.{finishedOf}
+use Rattle.advance.proofs.finish.Statement.{statement}
+use Rattle.advance.proofs.finish.Tie as tie
+use Rattle.advance.proofs.finish.Reads as reads
+use Rattle.advance.proofs.finish.Lts as lts
+
+-- src/lib.rt:45:9
+returns : tie.Need-returns
+unfolding finishedOf
+returns c =
+    rw (ne-eqb (c .before .before .args .e .number) 0 (c .if1 .taken))
+
+-- src/lib.rt:47:26
+add-t6 : tie.Need-add-t6
+add-t6 c = search needs
+
+-- src/lib.rt:40:1
+returns-2 : tie.Need-returns-2
+unfolding finishedOf
+returns-2 c =
+    let a = c .before .before .before .before .args in
+    let o : a .t .0 + 1 ≡ suc (a .t .0) = omega arith in
+    rw (eq-eqb (a .e .number) 0 (c .before .before .if1 .left), o)
+
+pub finish-spec : {M : Type 1} → statement M
+finish-spec = tie.close (tie.spec returns add-t6 returns-2)

@@ -1,0 +1,79 @@
+-- A refused model gives its number (`model-refused`); an accepted one is advanced.
+use borrow.Author.Needs.{needs}
+use native.Mathlib.Omega.{arith}
+use mathlib.Core.Path.{_∙_, ap, sym}
+use Rattle.model.specs.Checked.{checkedAs}
+use Rattle.advance_call.proofs.Checks.{model-refused}
+use Rattle.advance_call.proofs.advance.Statement.{statement}
+use Rattle.advance_call.proofs.advance.Tie as tie
+use Rattle.advance_call.proofs.advance.Reads as reads
+use Rattle.advance_call.proofs.advance.Lts as lts
+use Rattle.advance_call.proofs.advance_accepted.Reads as advance-accepted-reads
+use Rattle.advance_call.proofs.refused.Reads as refused-reads
+use Rattle.advance_call.proofs.wide16.Reads as wide16-reads
+use Rattle.model.proofs.checked_number.Reads as checked-number-reads
+use Rattle.route_count.proofs.check.Reads as check-reads
+
+-- src/lib.rt:138:9
+check-requires : tie.Need-check-requires
+check-requires c κs = search needs
+
+-- src/lib.rt:139:27
+enum-known-checked : tie.Need-enum-known-checked
+enum-known-checked c = search needs
+
+-- src/lib.rt:140:31
+enum-told : tie.Need-enum-told
+enum-told c = search needs
+
+-- src/lib.rt:140:31
+checked-number-requires : tie.Need-checked-number-requires
+checked-number-requires c κs = search needs
+
+-- src/lib.rt:140:24
+wide16-requires : tie.Need-wide16-requires
+wide16-requires c κs = search needs
+
+-- src/lib.rt:140:9
+refused-requires : tie.Need-refused-requires
+refused-requires c κs = search needs
+
+-- src/lib.rt:140:9
+returns : tie.Need-returns
+returns c =
+    let a = c .before .before .before .before .before .before .before .before .before .before .args in
+    let told = sym (ap (checkedAs (a .file .now)) (c .before .before .before .enum-told .given .1)) ∙ c .before .before .before .before .before .check .ensures in
+    rw (c .refused .ensures, c .before .wide16 .ensures, c .before .before .checked-number .ensures, c .before .before .before .enum-told .given .1) (model-refused (a .file .now) (a .run .now) (a .t) (a .bag .now) (a .trace .now) _ told)
+
+-- src/lib.rt:142:5
+advance-accepted-requires : tie.Need-advance-accepted-requires
+advance-accepted-requires c κs =
+    sym (ap (checkedAs (c .before .before .before .before .before .before .before .before .before .before .args .file .now)) (c .before .before .before .checked .given .1)) ∙ c .before .before .before .before .before .check .ensures
+
+-- src/lib.rt:135:1
+same-length : tie.Need-same-length
+same-length c = search needs
+
+-- src/lib.rt:135:1
+same-length-2 : tie.Need-same-length-2
+same-length-2 c = search needs
+
+-- src/lib.rt:135:1
+returns-2 : tie.Need-returns-2
+returns-2 c = search needs
+
+pub advance-spec : {M : Type 1} → statement M
+advance-spec =
+    tie.close
+    (tie.spec
+    check-requires
+    enum-known-checked
+    enum-told
+    checked-number-requires
+    wide16-requires
+    refused-requires
+    returns
+    advance-accepted-requires
+    same-length
+    same-length-2
+    returns-2)

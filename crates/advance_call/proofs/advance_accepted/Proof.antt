@@ -1,0 +1,174 @@
+-- Each check that fails gives its number in the order of the table (Checks); what passes them all is let in.
+use borrow.Author.Needs.{needs}
+use native.Mathlib.Omega.{arith}
+use mathlib.Core.Path.{_∙_, ap, ap₂, sym}
+use lib.ListN.{length}
+use Rattle.definition.specs.Bytes.{Bytes}
+use Rattle.definition.specs.Model.{atomics}
+use Rattle.definition.specs.SavedRun.{fits}
+use Rattle.model.specs.Checked.{modelOf}
+use Rattle.model_records.specs.Values.{componentsIn}
+use Rattle.saved_run.specs.Runs.{bare}
+use Rattle.run_calls.proofs.Starts.{few-components}
+use Rattle.reading.proofs.Whole.{not-true, not-false}
+use Rattle.reading.proofs.Answering.{fits-file, count-file}
+use Rattle.advance_call.proofs.Checks.{run-unfit, too-early, too-late, bag-unfit, let-in}
+use Rattle.advance_call.proofs.Whole.{opens-after, opens-by}
+use Rattle.advance_call.proofs.advance_accepted.Statement.{statement}
+use Rattle.advance_call.proofs.advance_accepted.Tie as tie
+use Rattle.advance_call.proofs.advance_accepted.Reads as reads
+use Rattle.advance_call.proofs.advance_accepted.Lts as lts
+use Rattle.advance_call.proofs.advance_let_in.Reads as advance-let-in-reads
+use Rattle.advance_call.proofs.refused.Reads as refused-reads
+use Rattle.given_bag.proofs.bag_fits.Reads as bag-fits-reads
+use Rattle.model.proofs.components_of.Reads as components-of-reads
+use Rattle.model.proofs.phases_of.Reads as phases-of-reads
+use Rattle.saved_run.proofs.atomic_count.Reads as atomic-count-reads
+use Rattle.saved_run.proofs.fits.Reads as fits-reads
+use Rattle.saved_run.proofs.opening_of.Reads as opening-of-reads
+
+-- src/lib.rt:110:9
+components-of-requires : tie.Need-components-of-requires
+components-of-requires c κs = search needs
+
+-- src/lib.rt:111:37
+phases-of-requires : tie.Need-phases-of-requires
+phases-of-requires c κs = search needs
+
+-- src/lib.rt:111:9
+fits-requires : tie.Need-fits-requires
+fits-requires c κs =
+    let a = c .before .before .before .before .before .before .before .args in
+    rw (c .before .before .components-of .ensures) (few-components (a .file .now) (a .n) (λ i. c .before .before .before .before .before .before .shared-slice-known .given i .fits) (c .before .before .before .before .before .before .before .pre))
+
+-- src/lib.rt:112:9
+refused-requires : tie.Need-refused-requires
+refused-requires c κs = search needs
+
+-- src/lib.rt:112:9
+same-length : tie.Need-same-length
+same-length c = search needs
+
+-- src/lib.rt:112:9
+returns : tie.Need-returns
+returns c =
+    let a = c .before .before .before .before .before .before .before .before .before .before .args in
+    let m = modelOf (a .file .now) (a .n) in
+    let f = c .before .before .fits2 .ensures ∙ ap₂ (λ (x y : Bytes). fits (bare x y) (a .run .now)) (c .before .before .before .before .before .components-of .ensures) (c .before .before .before .before .phases-of .ensures) ∙ fits-file (a .file .now) (a .run .now) (a .n) in
+    rw (c .refused .ensures) (run-unfit (a .file .now) (a .run .now) (a .t) (a .bag .now) (a .trace .now) m (c .before .before .before .before .before .before .before .before .before .before .pre) (sym f ∙ not-true (c .before .before .fits2 .result) (c .before .if1 .taken)))
+
+-- src/lib.rt:114:9
+opening-of-requires : tie.Need-opening-of-requires
+opening-of-requires c κs = search needs
+
+-- src/lib.rt:116:9
+refused-requires-2 : tie.Need-refused-requires-2
+refused-requires-2 c κs = search needs
+
+-- src/lib.rt:116:9
+same-length-2 : tie.Need-same-length-2
+same-length-2 c = search needs
+
+-- src/lib.rt:116:9
+returns-2 : tie.Need-returns-2
+returns-2 c =
+    let a = c .before .before .before .before .before .before .before .before .before .before .before .before .before .before .args in
+    let m = modelOf (a .file .now) (a .n) in
+    let f = c .before .before .before .before .before .before .fits2 .ensures ∙ ap₂ (λ (x y : Bytes). fits (bare x y) (a .run .now)) (c .before .before .before .before .before .before .before .before .before .components-of .ensures) (c .before .before .before .before .before .before .before .before .phases-of .ensures) ∙ fits-file (a .file .now) (a .run .now) (a .n) in
+    let g = sym f ∙ not-false (c .before .before .before .before .before .before .fits2 .result) (c .before .before .before .before .before .if1 .left) in
+    rw (c .refused2 .ensures) (too-early (a .file .now) (a .run .now) (a .t) (a .bag .now) (a .trace .now) m (c .before .before .before .before .before .before .before .before .before .before .before .before .before .before .pre) g (opens-after (a .file .now) (a .n) (a .run .now) (a .t) _ (c .before .before .before .opening-of .ensures) (c .before .if2 .taken)))
+
+-- src/lib.rt:119:9
+refused-requires-3 : tie.Need-refused-requires-3
+refused-requires-3 c κs = search needs
+
+-- src/lib.rt:119:9
+same-length-3 : tie.Need-same-length-3
+same-length-3 c = search needs
+
+-- src/lib.rt:119:9
+returns-3 : tie.Need-returns-3
+returns-3 c =
+    let a = c .before .before .before .before .before .before .before .before .before .before .before .before .before .before .before .args in
+    let m = modelOf (a .file .now) (a .n) in
+    let f = c .before .before .before .before .before .before .before .fits2 .ensures ∙ ap₂ (λ (x y : Bytes). fits (bare x y) (a .run .now)) (c .before .before .before .before .before .before .before .before .before .before .components-of .ensures) (c .before .before .before .before .before .before .before .before .before .phases-of .ensures) ∙ fits-file (a .file .now) (a .run .now) (a .n) in
+    let g = sym f ∙ not-false (c .before .before .before .before .before .before .before .fits2 .result) (c .before .before .before .before .before .before .if1 .left) in
+    rw (c .refused3 .ensures) (too-late (a .file .now) (a .run .now) (a .t) (a .bag .now) (a .trace .now) m (c .before .before .before .before .before .before .before .before .before .before .before .before .before .before .before .pre) g (c .before .if3 .taken))
+
+-- src/lib.rt:121:9
+bag-fits-requires : tie.Need-bag-fits-requires
+bag-fits-requires c κs = search needs
+
+-- src/lib.rt:122:9
+refused-requires-4 : tie.Need-refused-requires-4
+refused-requires-4 c κs = search needs
+
+-- src/lib.rt:122:9
+same-length-4 : tie.Need-same-length-4
+same-length-4 c = search needs
+
+-- src/lib.rt:122:9
+returns-4 : tie.Need-returns-4
+returns-4 c =
+    let a = c .before .before .before .before .before .before .before .before .before .before .before .before .before .before .before .before .before .args in
+    let m = modelOf (a .file .now) (a .n) in
+    let f = c .before .before .before .before .before .before .before .before .before .fits2 .ensures ∙ ap₂ (λ (x y : Bytes). fits (bare x y) (a .run .now)) (c .before .before .before .before .before .before .before .before .before .before .before .before .components-of .ensures) (c .before .before .before .before .before .before .before .before .before .before .before .phases-of .ensures) ∙ fits-file (a .file .now) (a .run .now) (a .n) in
+    let g = sym f ∙ not-false (c .before .before .before .before .before .before .before .before .before .fits2 .result) (c .before .before .before .before .before .before .before .before .if1 .left) in
+    let o = opens-by (a .file .now) (a .n) (a .run .now) (a .t) _ (c .before .before .before .before .before .before .opening-of .ensures) (c .before .before .before .before .if2 .left) in
+    rw (c .refused4 .ensures) (bag-unfit (a .file .now) (a .run .now) (a .t) (a .bag .now) (a .trace .now) m (c .before .before .before .before .before .before .before .before .before .before .before .before .before .before .before .before .before .pre) g o (c .before .before .before .if3 .left) (sym (c .before .before .bag-fits .ensures) ∙ not-true (c .before .before .bag-fits .result) (c .before .if4 .taken)))
+
+-- src/lib.rt:128:9
+atomic-count-requires : tie.Need-atomic-count-requires
+atomic-count-requires c κs = search needs
+
+-- src/lib.rt:124:5
+advance-let-in-requires : tie.Need-advance-let-in-requires
+advance-let-in-requires c κs =
+    let a = c .before .before .before .before .before .before .before .before .before .before .before .before .before .before .before .before .before .before .before .args in
+    let m = modelOf (a .file .now) (a .n) in
+    let f = c .before .before .before .before .before .before .before .before .before .before .before .fits2 .ensures ∙ ap₂ (λ (x y : Bytes). fits (bare x y) (a .run .now)) (c .before .before .before .before .before .before .before .before .before .before .before .before .before .before .components-of .ensures) (c .before .before .before .before .before .before .before .before .before .before .before .before .before .phases-of .ensures) ∙ fits-file (a .file .now) (a .run .now) (a .n) in
+    let g = sym f ∙ not-false (c .before .before .before .before .before .before .before .before .before .before .before .fits2 .result) (c .before .before .before .before .before .before .before .before .before .before .if1 .left) in
+    let o = opens-by (a .file .now) (a .n) (a .run .now) (a .t) _ (c .before .before .before .before .before .before .before .before .opening-of .ensures) (c .before .before .before .before .before .before .if2 .left) in (
+      c .before .before .before .before .before .before .before .before .before .before .before .before .before .before .before .before .before .before .before .pre,
+      let-in (a .file .now) (a .run .now) (a .t) (a .bag .now) (a .trace .now) m (c .before .before .before .before .before .before .before .before .before .before .before .before .before .before .before .before .before .before .before .pre) g o (c .before .before .before .before .before .if3 .left) (sym (c .before .before .before .before .bag-fits .ensures) ∙ not-false (c .before .before .before .before .bag-fits .result) (c .before .before .before .if4 .left)),
+      c .before .atomic-count .ensures ∙ ap (λ (s : Bytes). length (atomics (componentsIn s))) (c .before .before .before .before .before .before .before .before .before .before .before .before .before .before .components-of .ensures) ∙ count-file (a .file .now) (a .n),
+    )
+
+-- src/lib.rt:99:1
+same-length-5 : tie.Need-same-length-5
+same-length-5 c = search needs
+
+-- src/lib.rt:99:1
+same-length-6 : tie.Need-same-length-6
+same-length-6 c = search needs
+
+-- src/lib.rt:99:1
+returns-5 : tie.Need-returns-5
+returns-5 c = search needs
+
+pub advance-accepted-spec : {M : Type 1} → statement M
+advance-accepted-spec =
+    tie.close
+    (tie.spec
+    components-of-requires
+    phases-of-requires
+    fits-requires
+    refused-requires
+    same-length
+    returns
+    opening-of-requires
+    refused-requires-2
+    same-length-2
+    returns-2
+    refused-requires-3
+    same-length-3
+    returns-3
+    bag-fits-requires
+    refused-requires-4
+    same-length-4
+    returns-4
+    atomic-count-requires
+    advance-let-in-requires
+    same-length-5
+    same-length-6
+    returns-5)

@@ -1,0 +1,24 @@
+-- The three tests of `bagFits`, the last by `ports_fit`.
+use borrow.Author.Needs.{needs}
+use Rattle.definition.specs.Engine.{bagFits}
+use Rattle.given_bag.proofs.bag_fits.Statement.{statement}
+use Rattle.given_bag.proofs.bag_fits.Tie as tie
+use Rattle.given_bag.proofs.bag_fits.Reads as reads
+use Rattle.given_bag.proofs.bag_fits.Lts as lts
+use Rattle.given_bag.proofs.ports_fit.Reads as ports-fit-reads
+
+-- src/lib.rt:34:43
+mul-result : tie.Need-mul-result
+mul-result c = search needs
+
+-- src/lib.rt:34:71
+ports-fit-requires : tie.Need-ports-fit-requires
+ports-fit-requires c κs = search needs
+
+-- src/lib.rt:30:1
+returns : tie.Need-returns
+unfolding bagFits
+returns c = rw (c .ports-fit .ensures)
+
+pub bag-fits-spec : {M : Type 1} → statement M
+bag-fits-spec = tie.close (tie.spec mul-result ports-fit-requires returns)

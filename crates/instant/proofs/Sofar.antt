@@ -1,0 +1,213 @@
+-- What the loop over an instant's steps holds: the bags of the steps taken, in front of what is left, are the whole instant; while no bag
+-- was over the limit, their records are counted, and stand in the buffer while they fit there. Assumes nothing.
+use mathlib.Core.Path.{_≡_, refl, _∙_, sym, ap, ap₂, subst}
+use mathlib.Core.List.{List, [], _∷_, _++_, map}
+use mathlib.Core.Bool.{Bool, true, false, _&&_, _||_, not, cond}
+use Prim.Native.Nat.{ℕ, zero, suc, _+_, _-_, _≤_, _<_, min}
+use native.Mathlib.Omega.{arith}
+use lib.ListN.{length, length-append, length-map, length-take, take}
+use lib.Dec.{ltb, leb}
+use lib.Seq.{sets}
+use borrow.Author.Tests.{ltb-true, ltb-false, le-ltb, lt-ltb, le-leb, leb-true, leb-false}
+use Rattle.definition.specs.Lists.{concat, all, sortBy}
+use Rattle.definition.specs.Bytes.{Bytes}
+use Rattle.definition.specs.Limits.{maxSteps, maxRootBag}
+use Rattle.definition.specs.Model.{Bag, messageLe}
+use Rattle.definition.specs.Step.{Stepped, Simulator}
+use Rattle.definition.specs.Instant.{Instant, done, jammed, stepped, goesOn, stepsAt, instant, over, traceBytes, recordsFrom, records}
+use Rattle.definition.specs.Engine.{toBag}
+use Rattle.laws.proofs.Sorting.{clash}
+use Rattle.run_state.specs.declared.State.{State}
+use Rattle.pull_laws.specs.Put.{messageOf}
+use Rattle.trace_records.specs.Written.{stepBytes, stepSize, stepPut}
+use Rattle.trace_records.proofs.Records.{length-step}
+use Rattle.store_laws.proofs.Stores.{sets-append}
+use Rattle.instant.specs.Sim.{Lent}
+use Rattle.instant.specs.Verdicts.{ranOf, Recorded, Judged}
+use Rattle.instant.specs.declared.Verdict.the-variants as VV
+use Rattle.instant.proofs.Steps.{bag-none, length-sort, records-snoc}
+
+-- ---- the bags of the steps taken so far, in front of what is left
+
+module _ {S : Type 0} where
+  unfoldable pub after : List Bag → Instant S → Instant S
+  after [] i = i
+  after (x ∷ xs) i = stepped x (after xs i)
+
+  after-snoc : (xs : List Bag) (x : Bag) (i : Instant S) → after (xs ++ (x ∷ [])) i ≡ after xs (stepped x i)
+  unfolding after
+  after-snoc [] x i = refl
+  after-snoc (y ∷ xs) x i = ap (stepped y) (after-snoc xs x i)
+
+  after-done : (xs : List Bag) (s : S) → after xs (done [] s) ≡ done xs s
+  unfolding after stepped
+  after-done [] s = refl
+  after-done (x ∷ xs) s = rw (after-done xs s)
+
+  after-jammed : (xs : List Bag) → after xs jammed ≡ jammed
+  unfolding after stepped
+  after-jammed [] = refl
+  after-jammed (x ∷ xs) = rw (after-jammed xs)
+
+over-snoc : (xs : List Bag) (x : Bag) → over (xs ++ (x ∷ [])) ≡ (over xs || ltb maxRootBag (length x))
+unfolding over all
+over-snoc [] x = go (leb (length x) maxRootBag) refl
+  where
+    go : (b : Bool) → leb (length x) maxRootBag ≡ b → not (leb (length x) maxRootBag && true) ≡ ltb maxRootBag (length x)
+    go true e = rw e (sym (le-ltb maxRootBag (length x) (leb-true _ _ e)))
+    go false e = rw e (sym (lt-ltb maxRootBag (length x) (leb-false _ _ e)))
+over-snoc (y ∷ xs) x = go (leb (length y) maxRootBag) (over-snoc xs x)
+  where
+    go : (b : Bool) → not (all (λ z. leb (length z) maxRootBag) (xs ++ (x ∷ []))) ≡ (not (all (λ z. leb (length z) maxRootBag) xs) || ltb maxRootBag (length x))
+        → not (b && all (λ z. leb (length z) maxRootBag) (xs ++ (x ∷ []))) ≡ (not (b && all (λ z. leb (length z) maxRootBag) xs) || ltb maxRootBag (length x))
+    go true e = e
+    go false e = refl
+
+-- ---- what the loop holds
+
+pub record Sofar {S : Type 0} (whole rest : Instant S) (now from : ℕ) (out₀ out : Bytes) (k used : ℕ) (flag : Bool) : Type 0 where
+  pub bags : List Bag
+  pub count : k ≡ length bags
+  pub split : whole ≡ after bags rest
+  pub overs : flag ≡ over bags
+  pub sized : flag ≡ false → used ≡ from + length (records now bags)
+  pub put : flag ≡ false → used ≤ length out₀ → out ≡ sets out₀ from (records now bags)
+
+pub sofar-none : {S : Type 0} (i : Instant S) (now from : ℕ) (out : Bytes) → Sofar i i now from out out 0 from false
+unfolding after over all records recordsFrom traceBytes concat
+sofar-none i now from out = record { bags = []; count = refl; split = refl; overs = refl; sized = λ h. omega arith; put = λ h l. refl }
+
+-- What the code has of a step: the state, how many messages it put out up to one past the limit, and their keys where they are in bounds.
+abbrev pub Gives : {S : Type 0} → Stepped S → S → ℕ → List ℕ → Type 0
+Gives r s count keys =
+    (s ≡ r .state) × (count ≡ min (suc maxRootBag) (length (r .out)))
+    × (count ≤ maxRootBag → map messageOf (take count keys) ≡ sortBy messageLe (r .out))
+
+-- A buffer for the root's keys that has room for one more than the largest bag shows a larger one.
+pub gives-root : {S : Type 0} (r : Stepped S) (s : S) (count room : ℕ) (keys : List ℕ) → room ≡ suc maxRootBag
+    → (s ≡ r .state) × (count ≡ min room (length (r .out))) × (length (r .out) ≤ room → map messageOf (take count keys) ≡ sortBy messageLe (r .out)) → Gives r s count keys
+gives-root r s count room keys e h = (h .0, omega (arith, e, h .1), λ l. h .2 (omega (arith, e, h .1)))
+
+-- The keys of a bag that is in bounds stand in the buffer.
+pub keys-hold : (count : ℕ) (ks : List ℕ) (x : Bag) → count ≡ min (suc maxRootBag) (length x)
+    → (count ≤ maxRootBag → map messageOf (take count ks) ≡ sortBy messageLe x) → count ≤ maxRootBag → count ≤ length ks
+keys-hold count ks x e f h =
+    let l : length (take count ks) ≡ length x = sym (length-map (take count ks) messageOf) ∙ ap length (f h) ∙ length-sort x in
+    omega (arith, length-take count ks)
+
+or-false : (a b : Bool) → (a || b) ≡ false → (a ≡ false) × (b ≡ false)
+or-false false b e = (refl, e)
+or-false true b e = absurd (let z : _≡_ {A = ℕ} 0 1 = cc in omega arith)
+
+put-when : (now k count used : ℕ) (ks out : List ℕ) → count ≤ maxRootBag → used + stepSize count ≤ length out
+    → stepPut now k ks count used out ≡ sets out used (stepBytes now k (take count ks))
+unfolding stepPut
+put-when now k count used ks out h l = rw (le-leb count maxRootBag h, le-leb (used + stepSize count) (length out) l)
+
+-- One step more.
+module _ {S : Type 0} (whole rest : Instant S) (now from : ℕ) (out₀ out out′ : Bytes) (k used used′ : ℕ) (flag : Bool) (x : Bag) (ks : List ℕ) (count : ℕ)
+    (lo : length out ≡ length out₀) (ec : count ≡ min (suc maxRootBag) (length x)) (em : count ≤ maxRootBag → map messageOf (take count ks) ≡ sortBy messageLe x)
+    (eu : used′ ≡ used + stepSize count) (eo : out′ ≡ stepPut now k ks count used out) (s : Sofar whole (stepped x rest) now from out₀ out k used flag) where
+  abbrev xs : List Bag
+  xs = s .bags ++ (x ∷ [])
+
+  abbrev new : Bytes
+  new = stepBytes now k (take count ks)
+
+  same-test : ltb maxRootBag count ≡ ltb maxRootBag (length x)
+  same-test = go (ltb maxRootBag (length x)) refl
+    where
+      go : (b : Bool) → ltb maxRootBag (length x) ≡ b → ltb maxRootBag count ≡ ltb maxRootBag (length x)
+      go true e = rw e (lt-ltb maxRootBag count (omega (arith, ltb-true maxRootBag (length x) e)))
+      go false e = rw e (le-ltb maxRootBag count (omega (arith, ltb-false maxRootBag (length x) e)))
+
+  module _ (h : (flag || ltb maxRootBag count) ≡ false) where
+    before : flag ≡ false
+    before = or-false flag (ltb maxRootBag count) h .0
+
+    bounded : count ≤ maxRootBag
+    bounded = ltb-false maxRootBag count (or-false flag (ltb maxRootBag count) h .1)
+
+    on : records now xs ≡ records now (s .bags) ++ new
+    on = records-snoc now (s .bags) x (take count ks) (em bounded) ∙ rw (← s .count)
+
+    size : length new ≡ stepSize count
+    size = length-step now k count ks (keys-hold count ks x ec em bounded)
+
+    sized-more : used′ ≡ from + length (records now xs)
+    sized-more = rw on (omega (arith, eu, length-append (records now (s .bags)) new, size, s .sized before))
+
+    put-more : used′ ≤ length out₀ → out′ ≡ sets out₀ from (records now xs)
+    put-more l =
+        let u : used ≤ length out₀ = omega (arith, eu) in
+        let f : out ≡ sets out₀ from (records now (s .bags)) = s .put before u in
+        eo ∙ put-when now k count used ks out bounded (omega (arith, eu, lo)) ∙ ap₂ (λ (b : Bytes) (n : ℕ). sets b n new) f (s .sized before)
+        ∙ sym (sets-append (records now (s .bags)) new out₀ from) ∙ ap (sets out₀ from) (sym on)
+
+  pub sofar-more : Sofar whole rest now from out₀ out′ (k + 1) used′ (flag || ltb maxRootBag count)
+  sofar-more = record {
+    bags = xs;
+    count = omega (arith, s .count, length-append (s .bags) (x ∷ []));
+    split = s .split ∙ sym (after-snoc (s .bags) x rest);
+    overs = ap₂ _||_ (s .overs) same-test ∙ sym (over-snoc (s .bags) x);
+    sized = sized-more;
+    put = put-more;
+  }
+
+-- ---- the loop's ways on
+
+module _ {S : Type 0} (k : Simulator S) (now : ℕ) (x : Bag) (s : S) where
+  pub rest-all : instant k now x s ≡ stepsAt k (maxSteps - 0) now x s
+  unfolding instant
+  rest-all = refl
+
+  pub rest-stops : (m : ℕ) → goesOn k now x s ≡ false → stepsAt k m now x s ≡ done [] s
+  unfolding stepsAt
+  rest-stops zero e = rw e
+  rest-stops (suc m) e = rw e
+
+  pub rest-jams : (n : ℕ) → goesOn k now x s ≡ true → n ≡ maxSteps → stepsAt k (maxSteps - n) now x s ≡ jammed
+  unfolding stepsAt
+  rest-jams n e h = let z : maxSteps - n ≡ 0 = omega arith in rw (z, e)
+
+  one-step : (m : ℕ) → goesOn k now x s ≡ true → stepsAt k (suc m) now x s ≡ stepped (k .step now x s .out) (stepsAt k m now [] (k .step now x s .state))
+  unfolding stepsAt
+  one-step m e = rw e
+
+  pub rest-more : (n : ℕ) (s′ : S) (b : Bytes) → goesOn k now x s ≡ true → n < maxSteps → s′ ≡ k .step now x s .state
+      → stepsAt k (maxSteps - n) now x s ≡ stepped (k .step now x s .out) (stepsAt k (maxSteps - (n + 1)) now (toBag (take 0 b)) s′)
+  rest-more n s′ b e h f =
+      let z : maxSteps - n ≡ suc (maxSteps - (n + 1)) = omega arith in
+      rw (z, bag-none b, f) (one-step (maxSteps - (n + 1)) e)
+
+-- ---- the verdicts
+
+module _ {whole rest : Instant State} {now from : ℕ} {out₀ out : Bytes} {k used : ℕ} {flag : Bool} (sofar : Sofar whole rest now from out₀ out k used flag) (st : State) where
+  pub judged-jams : rest ≡ jammed → Judged now from st out₀ out whole (record { verdict = VV.Jammed; steps = 0; used = from; state = st })
+  unfolding ranOf
+  judged-jams e =
+      subst (λ (i : Instant State). Judged now from st out₀ out i (record { verdict = VV.Jammed; steps = 0; used = from; state = st }))
+      (sym (sofar .split ∙ ap (after (sofar .bags)) e ∙ after-jammed (sofar .bags))) (refl, omega arith, tt)
+
+  ends : (s : State) → rest ≡ done [] s → done (sofar .bags) s ≡ whole
+  ends s e = sym (sofar .split ∙ ap (after (sofar .bags)) e ∙ after-done (sofar .bags) s)
+
+  pub judged-over : (s : State) → rest ≡ done [] s → flag ≡ true
+      → Judged now from st out₀ out whole (record { verdict = VV.Over; steps = 0; used = from; state = st })
+  unfolding ranOf
+  judged-over s e f =
+      let o : over (sofar .bags) ≡ true = sym (sofar .overs) ∙ f in
+      subst (λ (i : Instant State). Judged now from st out₀ out i (record { verdict = VV.Over; steps = 0; used = from; state = st })) (ends s e)
+      (rw o, omega arith, λ h. absurd (clash o h))
+
+  pub judged-stands : (s : State) → rest ≡ done [] s → flag ≡ false → k ≤ maxSteps
+      → Judged now from st out₀ out whole (record { verdict = VV.Stands; steps = k; used = used; state = s })
+  unfolding ranOf
+  judged-stands s e f most =
+      let o : over (sofar .bags) ≡ false = sym (sofar .overs) ∙ f in
+      subst (λ (i : Instant State). Judged now from st out₀ out i (record { verdict = VV.Stands; steps = k; used = used; state = s })) (ends s e)
+      (rw (o, sofar .count, sofar .sized f), most, λ h l. sofar .put f (rw (sofar .sized f) l))
+
+-- Buffers of the same lengths are lent as well.
+pub lent-kept : {n w w₀ k k₀ : ℕ} → w ≡ w₀ → k ≡ k₀ → Lent n w₀ k₀ → Lent n w k
+lent-kept e f h = rw (e, f) h

@@ -1,0 +1,2 @@
+pub mod Sim
+pub mod Verdicts
