@@ -1,0 +1,127 @@
+-- The probe's records and marks as the code stores them. Assumes nothing.
+use mathlib.Core.Path.{_≡_, refl, sym, ap, ap₂, _∙_}
+use Prim.Native.Nat.{ℕ, zero, suc, _+_, _*_, _-_, _/_, _≤_, _<_}
+use mathlib.Core.List.{List, [], _++_, map, append-nil, map-map}
+use native.Mathlib.Omega.{arith}
+use lib.ListN.{length, getD, drop, set, length-map, drop-of-length-le}
+use lib.Seq.{sets, sets-eq}
+use Rattle.definition.specs.Lists.{concat, upFrom}
+use Rattle.definition.specs.Bytes.{Bytes, bytesOf, chunks, number, le}
+use Rattle.definition.specs.Limits.{maxComponents, phaseSize}
+use Rattle.definition.specs.Model.{noPhase, slots}
+use Rattle.definition.specs.Records.{messageAt, messageBytes, toPhase, phaseBytes}
+use Rattle.laws.proofs.Lists.{getD-map}
+use Rattle.byte_laws.specs.Parts.{recordsIn}
+use Rattle.model_records.specs.Values.{phasesIn}
+use Rattle.model_laws.proofs.Codec.{length-bytes, rows-length, rows-back}
+use Rattle.store_laws.proofs.Stores.{sets-append}
+use Rattle.pull_laws.specs.Tables.{outputNode}
+use Rattle.pull_laws.proofs.Positions.{getD-up}
+use Rattle.flat_writer.proofs.Pieces.{records-more, records-none, length-phase}
+use Rattle.flat_probe.specs.Probe.{ownPort, probeOf, probes, probeMarks}
+
+pub length-up : (k n : ℕ) → length (upFrom k n) ≡ n
+unfolding upFrom
+length-up k zero = refl
+length-up k (suc n) = ap suc (length-up (suc k) n)
+
+pub slot-puts : (c q at : ℕ) (b : Bytes) → sets (sets b at (bytesOf 1 q)) (at + 1) (bytesOf 2 (8 * c + (4 + q))) ≡ sets b at (messageBytes (ownPort c q))
+unfolding messageBytes ownPort outputNode
+slot-puts c q at b =
+    ap (λ k. sets (sets b at (bytesOf 1 q)) (at + k) (bytesOf 2 (8 * c + (4 + q)))) (sym (length-bytes 1 q)) ∙ sym (sets-append (bytesOf 1 q) (bytesOf 2 (8 * c + (4 + q))) b at)
+
+message-length : (c q : ℕ) → length (messageBytes (ownPort c q)) ≡ 3
+unfolding messageBytes ownPort bytesOf
+message-length c q = refl
+
+-- two pieces, the second at a known place
+pair : (x y b : Bytes) (at n j : ℕ) → length x ≡ n → at + n ≡ j → sets (sets b at x) j y ≡ sets b at (x ++ y)
+pair x y b at n j l e = ap (λ k. sets (sets b at x) k y) (sym e ∙ ap (λ k. at + k) (sym l)) ∙ sym (sets-append x y b at)
+
+pub probe-puts : (c at : ℕ) (b : Bytes)
+    → sets (sets (sets (sets (sets (sets b at (bytesOf 5 0)) (at + 5) (bytesOf 1 4)) (at + 6) (messageBytes (ownPort c 0))) (at + 9) (messageBytes (ownPort c 1))) (at + 12) (messageBytes (ownPort c 2))) (at + 15) (messageBytes (ownPort c 3))
+    ≡ sets b at (phaseBytes (probeOf c))
+probe-puts c at b =
+    let x = bytesOf 5 0 in
+    let y = bytesOf 1 4 in
+    let m : ℕ → Bytes = λ q. messageBytes (ownPort c q) in
+    pair (m 2) (m 3) _ (at + 12) 3 (at + 15) (message-length c 2) (omega arith)
+    ∙ pair (m 1) (m 2 ++ m 3) _ (at + 9) 3 (at + 12) (message-length c 1) (omega arith)
+    ∙ pair (m 0) (m 1 ++ (m 2 ++ m 3)) _ (at + 6) 3 (at + 9) (message-length c 0) (omega arith)
+    ∙ pair y (m 0 ++ (m 1 ++ (m 2 ++ m 3))) _ (at + 5) 1 (at + 6) (length-bytes 1 4) (omega arith)
+    ∙ pair x (y ++ (m 0 ++ (m 1 ++ (m 2 ++ m 3)))) b at 5 (at + 5) (length-bytes 5 0) (omega arith)
+    ∙ ap (sets b at) parts
+  where
+    parts : bytesOf 5 0 ++ (bytesOf 1 4 ++ (messageBytes (ownPort c 0) ++ (messageBytes (ownPort c 1) ++ (messageBytes (ownPort c 2) ++ messageBytes (ownPort c 3))))) ≡ phaseBytes (probeOf c)
+    parts = unfold phaseBytes probeOf slots messageBytes ownPort bytesOf concat in refl
+
+-- ---- all of them
+
+probes-length : length probes ≡ maxComponents
+unfolding probes
+probes-length = length-map (upFrom 0 maxComponents) probeOf ∙ length-up 0 maxComponents
+
+probe-at : (c : ℕ) → c < maxComponents → getD probes c noPhase ≡ probeOf c
+unfolding probes
+probe-at c l = getD-map probeOf (upFrom 0 maxComponents) c 0 noPhase (omega (arith, length-up 0 maxComponents)) ∙ ap probeOf (getD-up 0 maxComponents c l ∙ omega arith)
+
+-- the records from component c on
+unfoldable pub probesFrom : ℕ → Bytes
+probesFrom c = concat (map phaseBytes (drop c probes))
+
+pub probes-more : (c : ℕ) (b : Bytes) → c < maxComponents → sets (sets b (18 * c) (phaseBytes (probeOf c))) (18 * (c + 1)) (probesFrom (c + 1)) ≡ sets b (18 * c) (probesFrom c)
+unfolding probesFrom
+probes-more c b l =
+    let z : 0 + 18 * c ≡ 18 * c = omega arith in
+    let y : 0 + 18 * (c + 1) ≡ 18 * (c + 1) = omega arith in
+    ap₂ (λ i k. sets (sets b i (phaseBytes k)) (18 * (c + 1)) (concat (map phaseBytes (drop (c + 1) probes)))) (sym z) (sym (probe-at c l))
+    ∙ ap (λ j. sets (sets b (0 + 18 * c) (phaseBytes (getD probes c noPhase))) j (concat (map phaseBytes (drop (c + 1) probes)))) (sym y)
+    ∙ records-more 18 phaseBytes length-phase probes c 0 noPhase b (omega (arith, probes-length))
+    ∙ ap (λ i. sets b i (concat (map phaseBytes (drop c probes)))) z
+
+pub probes-none : (c : ℕ) (b : Bytes) → maxComponents ≤ c → sets b (18 * c) (probesFrom c) ≡ b
+unfolding probesFrom
+probes-none c b l = records-none 18 phaseBytes length-phase probes c (18 * c) b (omega (arith, probes-length))
+
+-- read back
+probes-held : map (λ k. toPhase (phaseBytes k)) probes ≡ probes
+unfolding probes probeOf ownPort outputNode upFrom toPhase phaseBytes slots messageAt messageBytes number le bytesOf concat
+probes-held = refl
+
+pub probes-back : (b : Bytes) → length b ≡ maxComponents * phaseSize → phasesIn (sets b 0 (probesFrom 0)) ≡ probes
+unfolding phasesIn recordsIn probesFrom
+probes-back b l =
+    let x = concat (map phaseBytes probes) in
+    let k : length x ≡ maxComponents * phaseSize = rows-length phaseSize phaseBytes length-phase probes ∙ ap (λ n. n * phaseSize) probes-length in
+    let e : sets b 0 x ≡ x ++ [] = sets-eq x b 0 (omega arith) ∙ ap (λ r. x ++ r) (drop-of-length-le b {i = 0 + length x} (omega arith)) in
+    let n : length (x ++ []) / phaseSize ≡ length probes = ap (λ y. length y / phaseSize) (append-nil x) ∙ ap (λ n. n / phaseSize) k ∙ sym probes-length in
+    ap (λ y. map toPhase (chunks (length y / phaseSize) phaseSize y)) e
+    ∙ ap (λ n. map toPhase (chunks n phaseSize (x ++ []))) n
+    ∙ ap (map toPhase) (rows-back phaseSize phaseBytes length-phase probes []) ∙ map-map toPhase phaseBytes probes ∙ probes-held
+
+-- ---- marks
+
+unfoldable pub marksFrom : ℕ → List ℕ
+marksFrom c = upFrom (c + 1) (maxComponents - c)
+
+pub marks-more : (c : ℕ) (b : List ℕ) → c < maxComponents → sets (set b c (c + 1)) (c + 1) (marksFrom (c + 1)) ≡ sets b c (marksFrom c)
+unfolding marksFrom
+marks-more c b l = sym (ap (λ k. sets b c (upFrom (c + 1) k)) e ∙ one)
+  where
+    e : maxComponents - c ≡ suc (maxComponents - (c + 1))
+    e = omega arith
+
+    one : sets b c (upFrom (c + 1) (suc (maxComponents - (c + 1)))) ≡ sets (set b c (c + 1)) (c + 1) (upFrom (c + 1 + 1) (maxComponents - (c + 1)))
+    one =
+        unfold upFrom in
+        (ap₂ (λ i j. sets (set b c (c + 1)) i (upFrom j (maxComponents - (c + 1)))) (let f : suc c ≡ c + 1 = omega arith in f) (let f : suc (c + 1) ≡ c + 1 + 1 = omega arith in f))
+
+pub marks-none : (c : ℕ) (b : List ℕ) → maxComponents ≤ c → sets b c (marksFrom c) ≡ b
+unfolding marksFrom
+marks-none c b l = ap (λ k. sets b c (upFrom (c + 1) k)) (let e : maxComponents - c ≡ 0 = omega arith in e) ∙ (unfold upFrom in refl)
+
+pub marks-all : (b : List ℕ) → length b ≡ maxComponents → sets b 0 (marksFrom 0) ≡ probeMarks
+unfolding marksFrom probeMarks
+marks-all b l =
+    let x = upFrom 1 maxComponents in
+    sets-eq x b 0 (omega (arith, length-up 1 maxComponents)) ∙ ap (λ r. x ++ r) (drop-of-length-le b {i = 0 + length x} (omega (arith, length-up 1 maxComponents))) ∙ append-nil x

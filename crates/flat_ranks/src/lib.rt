@@ -1,0 +1,26 @@
+// The number of a component in the flat form, looked up in the tables of a call.
+ghost use mathlib.Core.Path.{_≡_};
+ghost use Rattle.flat_ranks.specs.Ranks.{rankOf};
+use table_words::POSITIONS_AT;
+use table_words::word_at;
+
+fn wide(x: u16) -> u32
+    ensures { λ r. ⌜ r ≡ x ⌝ }
+{
+    x as u32
+}
+
+fn size(x: u32) -> usize
+    ensures { λ r. ⌜ r ≡ x ⌝ }
+{
+    x as usize
+}
+
+pub fn rank_of(tables: &[u16], c: u32) -> u32
+    ensures { λ r. ⌜ r ≡ rankOf (now (tables .entry)) c ⌝ }
+{
+    if c == 0 {
+        return 0;
+    }
+    wide(word_at(tables, POSITIONS_AT + size(c))) + 1
+}

@@ -1,0 +1,81 @@
+-- What stands, with the rows of the ends that are left, is all rows (`So`): kept by one end more (`so-more`), and at the end nothing is left (`so-ends`).
+use borrow.Author.Needs.{needs}
+use native.Mathlib.Omega.{arith}
+use Rattle.flat_rows.proofs.Collected.{So, so-begins, root-room, so-room, so-more, so-ends}
+use Rattle.model_records.specs.Values.{phasesIn}
+use Rattle.definition.specs.Engine.{toBag}
+use lib.ListN.{length}
+use Prim.Native.Nat.{_-_, _≤_}
+use mathlib.Core.Path.{_≡_, refl, _∙_}
+use denote.Ref.{now}
+use Rattle.flat_rows.proofs.add_all.Statement.{statement}
+use Rattle.flat_rows.proofs.add_all.Tie as tie
+use Rattle.flat_rows.proofs.add_all.Reads as reads
+use Rattle.flat_rows.proofs.add_all.Lts as lts
+use Rattle.flat_rows.proofs.add_atomic.Reads as add-atomic-reads
+use Rattle.flat_rows.proofs.add_root.Reads as add-root-reads
+
+abbrev Inv-loop : tie.InvT-loop
+Inv-loop phases tables marks given n keys₀ rows₀ at₀ i₀ keys rows at i = (i ≤ n) × (length keys ≡ length keys₀) × (length rows ≡ length rows₀) × So (phasesIn phases) tables marks (toBag given) n i at rows
+
+abbrev μ-loop : tie.MeasureT-loop
+μ-loop phases tables marks given n keys₀ rows₀ at₀ i₀ keys rows at i = n - i
+
+-- src/lib.rt:116:9
+add-root-requires : tie.Need-add-root-requires Inv-loop μ-loop
+add-root-requires c κs =
+    let a = c .before .before .before .before .before .before .before .before .args in let k = root-room (phasesIn (now (a .phases))) (now (a .tables)) (now (a .marks)) (toBag (now (a .given))) (a .n) in (omega (arith, k, c .before .before .before .before .before .before .before .before .pre .0), omega (arith, k, c .before .before .before .before .before .before .before .before .pre .1))
+
+-- src/lib.rt:118:5
+loop-holds : tie.Need-loop-holds Inv-loop μ-loop
+loop-holds c =
+    let a = c .before .before .before .before .before .before .before .before .before .before .before .before .before .args in (omega arith, refl, refl, rw (c .before .before .before .before .add-root .ensures .0, c .before .before .before .before .add-root .ensures .1) (so-begins (phasesIn (now (a .phases))) (now (a .tables)) (now (a .marks)) (toBag (now (a .given))) (a .n) (now (a .rows)) (c .before .before .before .before .before .before .before .before .before .before .before .before .before .pre .1)))
+
+-- src/lib.rt:119:9
+add-atomic-requires : tie.Need-add-atomic-requires Inv-loop μ-loop
+add-atomic-requires c κs =
+    let a = c .before .before .before .before .before .before .before .before .before .before .before .before .before .before .before .before .before .args in let l = c .before .before .before .loop in let k = so-room (phasesIn (now (a .phases))) (now (a .tables)) (now (a .marks)) (toBag (now (a .given))) (a .n) (l .i) (l .at) (l .rows) (c .before .before .loop-test .taken) (l .inv .3) in (omega (arith, k, c .before .before .before .before .before .before .before .before .before .before .before .before .before .before .before .before .before .pre .0, l .inv .1, c .before .before .before .before .before .before .before .before .add-root .kept .1 .1 .1 .0), omega (arith, k, c .before .before .before .before .before .before .before .before .before .before .before .before .before .before .before .before .before .pre .1, l .inv .2, c .before .before .before .before .before .before .before .before .add-root .kept .1 .1 .1 .1 .0))
+
+-- src/lib.rt:120:13
+add-i : tie.Need-add-i Inv-loop μ-loop
+add-i c = search needs
+
+-- src/lib.rt:118:5
+loop-less : tie.Need-loop-less Inv-loop μ-loop
+loop-less c = search needs
+
+-- src/lib.rt:118:5
+loop-again : tie.Need-loop-again Inv-loop μ-loop
+loop-again c =
+    let a = c .before .before .before .before .before .before .before .before .before .before .before .before .before .before .before .before .before .before .before .before .before .before .args in let l = c .before .before .before .before .before .before .before .before .loop in (omega arith, c .before .before .before .before .add-atomic .kept .1 .1 .1 .1 .1 .0 ∙ l .inv .1, c .before .before .before .before .add-atomic .kept .1 .1 .1 .1 .1 .1 .0 ∙ l .inv .2, rw (c .before .before .before .before .add-atomic .ensures .0, c .before .before .before .before .add-atomic .ensures .1) (so-more (phasesIn (now (a .phases))) (now (a .tables)) (now (a .marks)) (toBag (now (a .given))) (a .n) (l .i) (l .at) (l .rows) (c .before .before .before .before .before .before .before .loop-test .taken) (omega (arith, c .before .before .before .before .before .before .before .before .before .before .before .before .before .before .before .before .before .before .before .before .before .before .pre .1, l .inv .2, c .before .before .before .before .before .before .before .before .before .before .before .before .before .add-root .kept .1 .1 .1 .1 .0)) (l .inv .3)))
+
+-- src/lib.rt:102:1
+same-length : tie.Need-same-length Inv-loop μ-loop
+same-length c =
+    c .before .loop .inv .1 ∙ c .before .before .before .before .before .before .add-root .kept .1 .1 .1 .0
+
+-- src/lib.rt:102:1
+same-length-2 : tie.Need-same-length-2 Inv-loop μ-loop
+same-length-2 c =
+    c .before .loop .inv .2 ∙ c .before .before .before .before .before .before .add-root .kept .1 .1 .1 .1 .0
+
+-- src/lib.rt:102:1
+returns : tie.Need-returns Inv-loop μ-loop
+returns c =
+    let a = c .before .before .before .before .before .before .before .before .before .before .before .before .before .before .before .args in let l = c .before .loop in so-ends (phasesIn (now (a .phases))) (now (a .tables)) (now (a .marks)) (toBag (now (a .given))) (a .n) (l .i) (l .at) (l .rows) (c .loop-test .left) (l .inv .3)
+
+pub add-all-spec : {M : Type 1} → statement M
+add-all-spec =
+    tie.close
+    (tie.spec
+    Inv-loop
+    μ-loop
+    add-root-requires
+    loop-holds
+    add-atomic-requires
+    add-i
+    loop-less
+    loop-again
+    same-length
+    same-length-2
+    returns)

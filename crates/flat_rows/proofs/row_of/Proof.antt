@@ -1,0 +1,27 @@
+-- The value's component by its rank, its port, the end and the message's port: the row, field by field.
+use borrow.Author.Needs.{needs}
+use Rattle.flat_rows.specs.Rows.{rowOf}
+use Rattle.pull_laws.specs.Tables.{nodeComponent, nodePort}
+use Rattle.flat_rows.proofs.row_of.Statement.{statement}
+use Rattle.flat_rows.proofs.row_of.Tie as tie
+use Rattle.flat_rows.proofs.row_of.Reads as reads
+use Rattle.flat_rows.proofs.row_of.Lts as lts
+use Rattle.flat_ranks.proofs.rank_of.Reads as rank-of-reads
+use Rattle.flat_rows.proofs.row_number.Reads as row-number-reads
+
+-- src/lib.rt:45:9
+rank-of-requires : tie.Need-rank-of-requires
+rank-of-requires c κs = search needs
+
+-- src/lib.rt:46:5
+row-number-requires : tie.Need-row-number-requires
+row-number-requires c κs = search needs
+
+-- src/lib.rt:41:1
+returns : tie.Need-returns
+unfolding rowOf nodeComponent nodePort
+returns c =
+    rw (c .row-number .ensures, c .before .rank-of .ensures)
+
+pub row-of-spec : {M : Type 1} → statement M
+row-of-spec = tie.close (tie.spec rank-of-requires row-number-requires returns)

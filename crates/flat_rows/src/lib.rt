@@ -1,0 +1,144 @@
+// The rows of the flat form: one probing step, its bags collected at every end as in any other step, each message made a row, and the rows
+// sorted. So a route is walked once, and ways that lead nowhere are not entered.
+ghost use mathlib.Core.Path.{_≡_};
+ghost use mathlib.Core.List.{map};
+ghost use Prim.Native.Nat.{_+_, _≤_};
+ghost use lib.Dec.{leb};
+ghost use lib.ListN.{length, take};
+ghost use lib.Seq.{sets};
+ghost use Rattle.definition.specs.Lists.{sortBy};
+ghost use Rattle.definition.specs.Engine.{toBag};
+ghost use Rattle.model_records.specs.Values.{phasesIn};
+ghost use Rattle.pull_laws.specs.TableStep.{rootKeys};
+ghost use Rattle.flat_rows.specs.Rows.{rowNumber, rowOf, rowsAtPosition, rowsOf, probeRows};
+use collect::collect_bag;
+use collect::collect_root;
+use flat_probe::put_marks;
+use flat_probe::put_probes;
+use flat_ranks::rank_of;
+use limits::MAX_COMPONENTS;
+use limits::PHASE_SIZE;
+use little_endian::size;
+use table_words::NUMBERS_AT;
+use table_words::word_at;
+
+const PROBE_BYTES: usize = MAX_COMPONENTS * PHASE_SIZE;
+
+fn wide(x: u8) -> u32
+    ensures { λ r. ⌜ r ≡ x ⌝ }
+{
+    x as u32
+}
+
+// A row of four bytes as one number, the first byte highest.
+fn row_number(source: u32, from: u32, target: u32, to: u32) -> u32
+    ensures { λ r. ⌜ r ≡ rowNumber source from target to ⌝ }
+{
+    source % 256 * 16777216 + from % 256 * 65536 + target % 256 * 256 + to % 256
+}
+
+// The row of a message that came to an end.
+fn row_of(tables: &[u16], end: u32, key: u32) -> u32
+    ensures { λ r. ⌜ r ≡ rowOf (now (tables .entry)) end key ⌝ }
+{
+    let node = key % 65536;
+    let rank = rank_of(tables, node / 8);
+    row_number(rank, node % 4, end, key / 65536)
+}
+
+// The rows of the messages of one end, and where the next ones go.
+fn put_rows(
+    tables: &[u16],
+    end: u32,
+    keys: &[u32],
+    count: usize,
+    rows: &mut [u32],
+    at: usize,
+) -> usize
+    requires { ⌜ (count ≤ length (now keys)) × (at + count ≤ length (now rows)) ⌝ }
+    ensures { λ r. ⌜ (r ≡ at + count) × (now (rows .exit) ≡ sets (now (rows .entry)) at (map (rowOf (now (tables .entry)) end) (take count (now (keys .entry))))) ⌝ }
+{
+    let mut i: usize = 0;
+    while i < count {
+        rows[at + i] = row_of(tables, end, keys[i]);
+        i = i + 1;
+    }
+    at + count
+}
+
+// The rows that end at the root.
+fn add_root(
+    phases: &[u8],
+    tables: &[u16],
+    marks: &[u32],
+    keys: &mut [u32],
+    rows: &mut [u32],
+) -> usize
+    requires { ⌜ (length (rootKeys (phasesIn (now phases)) (now tables) (now marks) (now marks)) ≤ length (now keys))
+        × (length (rootKeys (phasesIn (now phases)) (now tables) (now marks) (now marks)) ≤ length (now rows)) ⌝ }
+    ensures { λ r. ⌜ (r ≡ length (rootKeys (phasesIn (now (phases .entry))) (now (tables .entry)) (now (marks .entry)) (now (marks .entry))))
+        × (now (rows .exit) ≡ sets (now (rows .entry)) 0 (map (rowOf (now (tables .entry)) 0) (rootKeys (phasesIn (now (phases .entry))) (now (tables .entry)) (now (marks .entry)) (now (marks .entry))))) ⌝ }
+{
+    let count = collect_root(phases, tables, marks, marks, keys);
+    put_rows(tables, 0, keys, count, rows, 0)
+}
+
+// The rows that end at the atomic at position i.
+fn add_atomic(
+    phases: &[u8],
+    tables: &[u16],
+    marks: &[u32],
+    given: &[u8],
+    i: u8,
+    keys: &mut [u32],
+    rows: &mut [u32],
+    at: usize,
+) -> usize
+    requires { ⌜ (length (rowsAtPosition (phasesIn (now phases)) (now tables) (now marks) (toBag (now given)) i) ≤ length (now keys))
+        × (at + length (rowsAtPosition (phasesIn (now phases)) (now tables) (now marks) (toBag (now given)) i) ≤ length (now rows)) ⌝ }
+    ensures { λ r. ⌜ (r ≡ at + length (rowsAtPosition (phasesIn (now (phases .entry))) (now (tables .entry)) (now (marks .entry)) (toBag (now (given .entry))) i))
+        × (now (rows .exit) ≡ sets (now (rows .entry)) at (rowsAtPosition (phasesIn (now (phases .entry))) (now (tables .entry)) (now (marks .entry)) (toBag (now (given .entry))) i)) ⌝ }
+{
+    let c = word_at(tables, NUMBERS_AT + size(i));
+    let count = collect_bag(phases, tables, marks, marks, given, c, keys);
+    put_rows(tables, wide(i) + 1, keys, count, rows, at)
+}
+
+// The rows of all ends.
+fn add_all(
+    phases: &[u8],
+    tables: &[u16],
+    marks: &[u32],
+    given: &[u8],
+    n: u8,
+    keys: &mut [u32],
+    rows: &mut [u32],
+) -> usize
+    requires { ⌜ (length (rowsOf (phasesIn (now phases)) (now tables) (now marks) (toBag (now given)) n) ≤ length (now keys))
+        × (length (rowsOf (phasesIn (now phases)) (now tables) (now marks) (toBag (now given)) n) ≤ length (now rows)) ⌝ }
+    ensures { λ r. ⌜ (r ≡ length (rowsOf (phasesIn (now (phases .entry))) (now (tables .entry)) (now (marks .entry)) (toBag (now (given .entry))) n))
+        × (take r (now (rows .exit)) ≡ rowsOf (phasesIn (now (phases .entry))) (now (tables .entry)) (now (marks .entry)) (toBag (now (given .entry))) n) ⌝ }
+{
+    let mut at = add_root(phases, tables, marks, keys, rows);
+    let mut i: u8 = 0;
+    while i < n {
+        at = add_atomic(phases, tables, marks, given, i, keys, rows, at);
+        i = i + 1;
+    }
+    at
+}
+
+// The rows of the flat form of a model with n atomics, sorted, at the front of `rows`; what the scratch holds afterwards is left open.
+pub fn flat_rows(tables: &[u16], n: u8, rows: &mut [u32], scratch: &mut [u32]) -> usize
+    requires { ⌜ (length (probeRows (now tables) n) ≤ length (now rows)) × (length (probeRows (now tables) n) ≤ length (now scratch)) ⌝ }
+    ensures { λ r. ⌜ (r ≡ length (probeRows (now (tables .entry)) n)) × (take r (now (rows .exit)) ≡ sortBy leb (probeRows (now (tables .entry)) n)) ⌝ }
+{
+    let mut phases: [u8; PROBE_BYTES] = [0; PROBE_BYTES];
+    put_probes(&mut phases);
+    let mut marks: [u32; MAX_COMPONENTS] = [0; MAX_COMPONENTS];
+    put_marks(&mut marks);
+    let given: [u8; 12] = [0, 0, 0, 1, 1, 0, 2, 2, 0, 3, 3, 0];
+    let count = add_all(&phases, tables, &marks, &given, n, scratch, rows);
+    sort::sort(rows, count, scratch);
+    count
+}

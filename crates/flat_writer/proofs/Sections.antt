@@ -1,0 +1,259 @@
+-- The sections of the flat form, as the code stores them: a count, then records one after the other. Assumes nothing.
+use mathlib.Core.Path.{_≡_, refl, sym, ap, ap₂, _∙_}
+use Prim.Native.Nat.{ℕ, zero, suc, _+_, _*_, _/_, _%_, _≤_, _<_}
+use mathlib.Core.List.{List, [], _∷_, _++_, map, append-assoc}
+use native.Mathlib.Omega.{arith}
+use native.Mathlib.Nat.{add-zero, le-refl}
+use lib.ListN.{length, getD, take, drop, set, length-map, length-append, length-take, length-drop}
+use lib.Seq.{sets, slice, take-all, getD-take, length-take-le}
+use Rattle.definition.specs.Lists.{concat, upFrom}
+use Rattle.definition.specs.Bytes.{Bytes, AllBytes, number, bytesOf, stored, row}
+use Rattle.definition.specs.Limits.{ruleSize, phaseSize}
+use Rattle.definition.specs.Model.{Component, Phase, Rule, noComponent, noRule, componentAt}
+use Rattle.definition.specs.Records.{componentBytes, toPhase, phaseBytes, toRule, ruleBytes, couplingBytes}
+use Rattle.definition.specs.File.{sectionBytes, modelBytes}
+use Rattle.laws.proofs.Lists.{getD-map}
+use Rattle.byte_laws.specs.Parts.{recordsIn}
+use Rattle.byte_laws.proofs.Records.{length-records, record-in}
+use Rattle.model_records.specs.Values.{phasesIn, rulesIn}
+use Rattle.model_laws.proofs.Codec.{length-bytes, rows-length}
+use Rattle.pull_laws.specs.Tables.{numbersAt}
+use Rattle.pull_laws.proofs.Positions.{getD-up}
+use Rattle.store_laws.proofs.Stores.{sets-append, sets-front}
+use Rattle.flat_ranks.specs.Ranks.{rankOf}
+use Rattle.sort.specs.Keys.{couplingOf}
+use Rattle.flat_writer.specs.Written.{numbersIn, underRoot, atomicsBy, componentsBy, ruleBy, flatBy}
+use Rattle.flat_writer.proofs.Pieces.{records-more, records-none, phases-copied, rule-copied, length-component, length-phase, length-rule, length-coupling}
+
+-- a whole slice, copied
+pub copy-start : (s d : Bytes) (at : ℕ) → sets d (at + 0) (slice 0 (length s) s) ≡ sets d at s
+copy-start s d at = ap₂ (sets d) (add-zero at) (take-all (length s) s (le-refl (length s)))
+
+-- ---- single records
+
+byte-byte : (n : ℕ) → n % 256 % 256 ≡ n % 256
+byte-byte n = omega arith
+
+pub row-puts : (k at : ℕ) (b : Bytes)
+    → set (set (set (set b at (k / 16777216 % 256)) (at + 1) (k / 65536 % 256)) (at + 2) (k / 256 % 256)) (at + 3) (k % 256) ≡ sets b at (couplingBytes (couplingOf k))
+unfolding couplingBytes couplingOf concat bytesOf
+row-puts k at b =
+    let e : at + 1 ≡ suc at = omega arith in
+    let f : at + 2 ≡ suc (suc at) = omega arith in
+    let g : at + 3 ≡ suc (suc (suc at)) = omega arith in
+    rw (e, f, g, byte-byte (k / 65536), byte-byte (k / 256), byte-byte k)
+
+pub atomic-puts : (k : Component) (at : ℕ) (b : Bytes) → k .phases < 256 → k .initial < 256 → k .order < 256
+    → set (set (set (set (set b at 1) (at + 1) 0) (at + 2) (k .phases)) (at + 3) (k .initial)) (at + 4) (k .order) ≡ sets b at (componentBytes (underRoot k))
+unfolding componentBytes underRoot concat bytesOf
+atomic-puts k at b x y z =
+    let e : at + 1 ≡ suc at = omega arith in
+    let f : at + 2 ≡ suc (suc at) = omega arith in
+    let g : at + 3 ≡ suc (suc (suc at)) = omega arith in
+    let h : at + 4 ≡ suc (suc (suc (suc at))) = omega arith in
+    let u : k .phases % 256 ≡ k .phases = omega arith in
+    let v : k .initial % 256 ≡ k .initial = omega arith in
+    let w : k .order % 256 ≡ k .order = omega arith in
+    rw (e, f, g, h, u, v, w)
+
+-- ---- lists of records
+
+module _ (cs : List Component) (t : List ℕ) (n : ℕ) where
+  length-up : (k n : ℕ) → length (upFrom k n) ≡ n
+  unfolding upFrom
+  length-up k zero = refl
+  length-up k (suc n) = ap suc (length-up (suc k) n)
+
+  length-numbers : length (numbersIn t n) ≡ n
+  unfolding numbersIn
+  length-numbers = length-map (upFrom 0 n) _ ∙ length-up 0 n
+
+  pub length-atomics : length (atomicsBy cs t n) ≡ n
+  unfolding atomicsBy
+  length-atomics = length-map (numbersIn t n) _ ∙ length-numbers
+
+  atomic-at : (i : ℕ) → i < n → getD (atomicsBy cs t n) i noComponent ≡ underRoot (componentAt cs (getD t (numbersAt + i) 0))
+  unfolding atomicsBy numbersIn
+  atomic-at i l =
+      getD-map (λ c. underRoot (componentAt cs c)) (numbersIn t n) i 0 noComponent (omega (arith, length-numbers))
+      ∙ ap (λ c. underRoot (componentAt cs c))
+      (getD-map (λ i. getD t (numbersAt + i) 0) (upFrom 0 n) i 0 0 (omega (arith, length-up 0 n)) ∙ ap (λ i. getD t (numbersAt + i) 0) (getD-up 0 n i l ∙ omega arith))
+
+  pub atomics-more : (i : ℕ) (b : Bytes) → i < n
+      → sets (sets b (7 + 5 * i) (componentBytes (underRoot (componentAt cs (getD t (numbersAt + i) 0))))) (7 + 5 * (i + 1)) (concat (map componentBytes (drop (i + 1) (atomicsBy cs t n))))
+      ≡ sets b (7 + 5 * i) (concat (map componentBytes (drop i (atomicsBy cs t n))))
+  atomics-more i b l =
+      ap (λ k. sets (sets b (7 + 5 * i) (componentBytes k)) (7 + 5 * (i + 1)) (concat (map componentBytes (drop (i + 1) (atomicsBy cs t n))))) (sym (atomic-at i l))
+      ∙ records-more 5 componentBytes length-component (atomicsBy cs t n) i 7 noComponent b (omega (arith, length-atomics))
+
+  pub atomics-none : (i : ℕ) (b : Bytes) → n ≤ i → sets b (7 + 5 * i) (concat (map componentBytes (drop i (atomicsBy cs t n)))) ≡ b
+  atomics-none i b l = records-none 5 componentBytes length-component (atomicsBy cs t n) i (7 + 5 * i) b (omega (arith, length-atomics))
+
+  -- count, root and atomics
+  pub components-puts : (b : Bytes) → sets (sets (sets b 0 (bytesOf 2 (n + 1))) 2 (bytesOf 5 0)) 7 (concat (map componentBytes (atomicsBy cs t n))) ≡ sets b 0 (sectionBytes componentBytes (componentsBy cs t n))
+  components-puts b =
+      let k : n + 1 ≡ length (componentsBy cs t n) = count in
+      ap (λ k. sets (sets (sets b 0 (bytesOf 2 k)) 2 (bytesOf 5 0)) 7 (concat (map componentBytes (atomicsBy cs t n)))) k
+      ∙ ap (λ r. sets (sets (sets b 0 (bytesOf 2 (length (componentsBy cs t n)))) 2 r) 7 (concat (map componentBytes (atomicsBy cs t n)))) root-bytes
+      ∙ pieces (bytesOf 2 (length (componentsBy cs t n))) (componentBytes noComponent) (concat (map componentBytes (atomicsBy cs t n))) (length-bytes 2 _) (length-component noComponent)
+      ∙ (unfold sectionBytes componentsBy concat in refl)
+    where
+      count : n + 1 ≡ length (componentsBy cs t n)
+      count = unfold componentsBy in (let l = length-atomics in omega arith)
+
+      root-bytes : bytesOf 5 0 ≡ componentBytes noComponent
+      root-bytes = unfold componentBytes noComponent concat bytesOf in refl
+
+      pieces : (x y z : Bytes) → length x ≡ 2 → length y ≡ 5 → sets (sets (sets b 0 x) 2 y) 7 z ≡ sets b 0 (x ++ (y ++ z))
+      pieces x y z p q =
+          sym (sets-append x (y ++ z) b 0 ∙ sets-append y z (sets b 0 x) (0 + length x) ∙ ap₂ (λ i j. sets (sets (sets b 0 x) i y) j z) (omega arith) (omega arith))
+
+-- a count and what follows it
+pub section-puts : {A : Type 0} (bytes : A → Bytes) (xs : List A) (n at : ℕ) (b : Bytes) → n ≡ length xs
+    → sets (sets b at (bytesOf 2 n)) (at + 2) (concat (map bytes xs)) ≡ sets b at (sectionBytes bytes xs)
+unfolding sectionBytes
+section-puts bytes xs n at b e =
+    ap (λ n. sets (sets b at (bytesOf 2 n)) (at + 2) (concat (map bytes xs))) e
+    ∙ ap (λ k. sets (sets b at (bytesOf 2 (length xs))) (at + k) (concat (map bytes xs))) (sym (length-bytes 2 (length xs)))
+    ∙ sym (sets-append (bytesOf 2 (length xs)) (concat (map bytes xs)) b at)
+
+-- phases, copied
+pub phase-puts : (s : Bytes) (at : ℕ) (b : Bytes) → AllBytes s
+    → sets (sets b at (bytesOf 2 (length (phasesIn s)))) (at + 2) (take (18 * length (phasesIn s)) s) ≡ sets b at (sectionBytes phaseBytes (phasesIn s))
+unfolding phasesIn recordsIn
+phase-puts s at b h =
+    let n = length s / 18 in
+    let l : n * phaseSize ≤ length s = omega arith in
+    let e : 18 * length (recordsIn phaseSize toPhase s) ≡ n * phaseSize = ap (λ k. 18 * k) (length-records phaseSize toPhase s) ∙ omega arith in
+    ap (λ k. sets (sets b at (bytesOf 2 (length (recordsIn phaseSize toPhase s)))) (at + 2) (take k s)) e
+    ∙ ap (sets (sets b at (bytesOf 2 (length (recordsIn phaseSize toPhase s)))) (at + 2)) (sym (phases-copied n l h))
+    ∙ section-puts phaseBytes (recordsIn phaseSize toPhase s) (length (recordsIn phaseSize toPhase s)) at b refl
+
+-- rules
+module _ (s : Bytes) (t : List ℕ) where
+  pub length-rules : length (rulesIn s) ≡ length s / 18
+  unfolding rulesIn
+  length-rules = length-records ruleSize toRule s
+
+  pub rules-more : (i at : ℕ) (b : Bytes) → i < length (rulesIn s)
+      → sets (sets b (at + 18 * i) (ruleBytes (ruleBy t (toRule (take 18 (drop (18 * i) s)))))) (at + 18 * (i + 1)) (concat (map ruleBytes (drop (i + 1) (map (ruleBy t) (rulesIn s)))))
+      ≡ sets b (at + 18 * i) (concat (map ruleBytes (drop i (map (ruleBy t) (rulesIn s)))))
+  rules-more i at b l =
+      let xs = map (ruleBy t) (rulesIn s) in
+      let m : i < length xs = omega (arith, length-map (rulesIn s) (ruleBy t)) in
+      ap (λ k. sets (sets b (at + 18 * i) (ruleBytes k)) (at + 18 * (i + 1)) (concat (map ruleBytes (drop (i + 1) xs)))) (sym (here ∙ ap (ruleBy t) there))
+      ∙ records-more 18 ruleBytes length-rule xs i at (ruleBy t noRule) b m
+    where
+      here : getD (map (ruleBy t) (rulesIn s)) i (ruleBy t noRule) ≡ ruleBy t (getD (rulesIn s) i noRule)
+      here = getD-map (ruleBy t) (rulesIn s) i noRule (ruleBy t noRule) l
+
+      there : getD (rulesIn s) i noRule ≡ toRule (take 18 (drop (18 * i) s))
+      there = unfold rulesIn row in (record-in ruleSize toRule s i noRule (omega (arith, length-rules)))
+
+  pub rules-none : (i at : ℕ) (b : Bytes) → length (rulesIn s) ≤ i → sets b at (concat (map ruleBytes (drop i (map (ruleBy t) (rulesIn s))))) ≡ b
+  rules-none i at b l = records-none 18 ruleBytes length-rule (map (ruleBy t) (rulesIn s)) i at b (omega (arith, length-map (rulesIn s) (ruleBy t)))
+
+-- rows
+module _ (rows : List ℕ) (n : ℕ) (few : n ≤ length rows) where
+  pub length-rows : length (map couplingOf (take n rows)) ≡ n
+  length-rows = length-map (take n rows) couplingOf ∙ length-take-le n rows few
+
+  pub rows-more : (i at : ℕ) (b : Bytes) → i < n
+      → sets (sets b (at + 4 * i) (couplingBytes (couplingOf (getD rows i 0)))) (at + 4 * (i + 1)) (concat (map couplingBytes (drop (i + 1) (map couplingOf (take n rows)))))
+      ≡ sets b (at + 4 * i) (concat (map couplingBytes (drop i (map couplingOf (take n rows)))))
+  rows-more i at b l =
+      let xs = map couplingOf (take n rows) in
+      let e : getD xs i (couplingOf 0) ≡ couplingOf (getD rows i 0)
+      = getD-map couplingOf (take n rows) i 0 (couplingOf 0) (omega (arith, length-take-le n rows few)) ∙ ap couplingOf (getD-take n rows i 0 l) in
+      ap (λ k. sets (sets b (at + 4 * i) (couplingBytes k)) (at + 4 * (i + 1)) (concat (map couplingBytes (drop (i + 1) xs)))) (sym e)
+      ∙ records-more 4 couplingBytes length-coupling xs i at (couplingOf 0) b (omega (arith, length-rows))
+
+  pub rows-none : (i at : ℕ) (b : Bytes) → n ≤ i → sets b at (concat (map couplingBytes (drop i (map couplingOf (take n rows))))) ≡ b
+  rows-none i at b l = records-none 4 couplingBytes length-coupling (map couplingOf (take n rows)) i at b (omega (arith, length-rows))
+
+-- a rule from its row
+pub rule-row : (s : Bytes) (i : ℕ) → i < length (rulesIn s) → length (take 18 (drop (18 * i) s)) ≡ ruleSize
+rule-row s i l = length-take 18 (drop (18 * i) s) ∙ omega (arith, length-drop (18 * i) s, length-rules s [])
+
+pub rule-puts : (t : List ℕ) (r : Bytes) (at : ℕ) (b : Bytes) → length r ≡ ruleSize → AllBytes r
+    → sets (sets b at (bytesOf 1 (rankOf t (number 1 0 r)))) (at + 1) (take 17 (drop 1 r)) ≡ sets b at (ruleBytes (ruleBy t (toRule r)))
+rule-puts t r at b l h =
+    let x = bytesOf 1 (rankOf t (number 1 0 r)) in
+    ap (λ k. sets (sets b at x) (at + k) (take 17 (drop 1 r))) (sym (length-bytes 1 (rankOf t (number 1 0 r))))
+    ∙ sym (sets-append x (take 17 (drop 1 r)) b at) ∙ ap (sets b at) (sym (rule-copied t l h))
+
+-- ---- the whole
+
+section-length : {A : Type 0} (size : ℕ) (bytes : A → Bytes) → ((x : A) → length (bytes x) ≡ size) → (xs : List A) → length (sectionBytes bytes xs) ≡ 2 + length xs * size
+unfolding sectionBytes
+section-length size bytes sized xs =
+    length-append (bytesOf 2 (length xs)) (concat (map bytes xs)) ∙ ap₂ _+_ (length-bytes 2 (length xs)) (rows-length size bytes sized xs)
+
+module _ (cs : List Component) (ps : List Phase) (rs : List Rule) (t : List ℕ) (n : ℕ) (rows : List ℕ) where
+  first : Bytes
+  first = sectionBytes componentBytes (componentsBy cs t n)
+
+  second : Bytes
+  second = sectionBytes phaseBytes ps
+
+  third : Bytes
+  third = sectionBytes ruleBytes (map (ruleBy t) rs)
+
+  fourth : Bytes
+  fourth = sectionBytes couplingBytes (map couplingOf rows)
+
+  whole : modelBytes (flatBy cs ps rs t n rows) ≡ first ++ (second ++ (third ++ fourth))
+  whole = parts ∙ append-assoc (first ++ second) third fourth ∙ append-assoc first second (third ++ fourth)
+    where
+      parts : modelBytes (flatBy cs ps rs t n rows) ≡ first ++ second ++ third ++ fourth
+      parts = unfold modelBytes flatBy first second third fourth in refl
+
+  first-length : length first ≡ 7 + 5 * n
+  unfolding first componentsBy
+  first-length = section-length 5 componentBytes length-component (noComponent ∷ atomicsBy cs t n) ∙ omega (arith, length-atomics cs t n)
+
+  second-length : length second ≡ 2 + 18 * length ps
+  unfolding second
+  second-length = section-length 18 phaseBytes length-phase ps ∙ omega arith
+
+  third-length : length third ≡ 2 + 18 * length rs
+  unfolding third
+  third-length = section-length 18 ruleBytes length-rule (map (ruleBy t) rs) ∙ omega (arith, length-map rs (ruleBy t))
+
+  fourth-length : length fourth ≡ 2 + 4 * length rows
+  unfolding fourth
+  fourth-length = section-length 4 couplingBytes length-coupling (map couplingOf rows) ∙ omega (arith, length-map rows couplingOf)
+
+  pub flat-length : length (modelBytes (flatBy cs ps rs t n rows)) ≡ 13 + 5 * n + 18 * length ps + 18 * length rs + 4 * length rows
+  flat-length =
+      ap length whole
+      ∙ omega (
+        arith,
+        length-append first (second ++ (third ++ fourth)),
+        length-append second (third ++ fourth),
+        length-append third fourth,
+        first-length,
+        second-length,
+        third-length,
+        fourth-length,
+      )
+
+  pub flat-puts : (b : Bytes) → 13 + 5 * n + 18 * length ps + 18 * length rs + 4 * length rows ≤ length b
+      → sets (sets (sets (sets b 0 (sectionBytes componentBytes (componentsBy cs t n))) (7 + 5 * n) (sectionBytes phaseBytes ps)) (7 + 5 * n + 2 + 18 * length ps) (sectionBytes ruleBytes (map (ruleBy t) rs)))
+      (7 + 5 * n + 2 + 18 * length ps + 2 + 18 * length rs) (sectionBytes couplingBytes (map couplingOf rows))
+      ≡ stored (modelBytes (flatBy cs ps rs t n rows)) b
+  flat-puts b l =
+      sym (sym (sets-front b (modelBytes (flatBy cs ps rs t n rows)) (omega (arith, flat-length)))
+      ∙ ap (sets b 0) whole
+      ∙ sets-append first (second ++ (third ++ fourth)) b 0
+      ∙ ap (λ k. sets (sets b 0 first) k (second ++ (third ++ fourth))) (omega (arith, first-length))
+      ∙ sets-append second (third ++ fourth) (sets b 0 first) (7 + 5 * n)
+      ∙ ap (λ k. sets (sets (sets b 0 first) (7 + 5 * n) second) k (third ++ fourth)) (omega (arith, second-length))
+      ∙ sets-append third fourth (sets (sets b 0 first) (7 + 5 * n) second) (7 + 5 * n + 2 + 18 * length ps)
+      ∙ ap (λ k. sets (sets (sets (sets b 0 first) (7 + 5 * n) second) (7 + 5 * n + 2 + 18 * length ps) third) k fourth) (omega (arith, third-length))
+      ∙ named)
+    where
+      named : sets (sets (sets (sets b 0 first) (7 + 5 * n) second) (7 + 5 * n + 2 + 18 * length ps) third) (7 + 5 * n + 2 + 18 * length ps + 2 + 18 * length rs) fourth
+          ≡ sets (sets (sets (sets b 0 (sectionBytes componentBytes (componentsBy cs t n))) (7 + 5 * n) (sectionBytes phaseBytes ps)) (7 + 5 * n + 2 + 18 * length ps) (sectionBytes ruleBytes (map (ruleBy t) rs)))
+          (7 + 5 * n + 2 + 18 * length ps + 2 + 18 * length rs) (sectionBytes couplingBytes (map couplingOf rows))
+      named = unfold first second third fourth in refl

@@ -1,0 +1,40 @@
+-- The flat form as the code has it: the atomics' numbers and ranks from the tables of a call, the couplings from the sorted rows. The laws in
+-- proofs/ say that it is the definition's flat form, where tables and rows are a model's. Assumes nothing.
+use Prim.Native.Nat.{ℕ, _+_}
+use mathlib.Core.List.{List, _∷_, map}
+use lib.ListN.{getD}
+use Rattle.definition.specs.Lists.{upFrom}
+use Rattle.definition.specs.Model.{Component, Phase, Rule, Model, noComponent, componentAt}
+use Rattle.pull_laws.specs.Tables.{numbersAt}
+use Rattle.sort.specs.Keys.{couplingOf}
+use Rattle.flat_ranks.specs.Ranks.{rankOf}
+
+-- The component numbers of n atomics, by position.
+unfoldable pub numbersIn : List ℕ → ℕ → List ℕ
+numbersIn t n = map (λ i. getD t (numbersAt + i) 0) (upFrom 0 n)
+
+-- An atomic under the root.
+unfoldable pub underRoot : Component → Component
+underRoot k = record { kind = 1; parent = 0; phases = k .phases; initial = k .initial; order = k .order }
+
+unfoldable pub atomicsBy : List Component → List ℕ → ℕ → List Component
+atomicsBy cs t n = map (λ c. underRoot (componentAt cs c)) (numbersIn t n)
+
+unfoldable pub componentsBy : List Component → List ℕ → ℕ → List Component
+componentsBy cs t n = noComponent ∷ atomicsBy cs t n
+
+unfoldable pub ruleBy : List ℕ → Rule → Rule
+ruleBy t k = record {
+  component = rankOf t (k .component);
+  phase = k .phase;
+  next = k .next;
+  port = k .port;
+  low = k .low;
+  high = k .high;
+  least = k .least;
+  lowElapsed = k .lowElapsed;
+  highElapsed = k .highElapsed;
+}
+
+unfoldable pub flatBy : List Component → List Phase → List Rule → List ℕ → ℕ → List ℕ → Model
+flatBy cs ps rs t n rows = record { components = componentsBy cs t n; phases = ps; rules = map (ruleBy t) rs; couplings = map couplingOf rows }

@@ -1,0 +1,211 @@
+// The flat form's bytes in a lent buffer, section by section, each where the one before it ends; every byte beyond them is left as it was.
+ghost use mathlib.Core.Path.{_≡_};
+ghost use mathlib.Core.List.{map};
+ghost use Prim.Native.Nat.{_+_, _*_, _≤_};
+ghost use lib.ListN.{length, take};
+ghost use lib.Seq.{sets};
+ghost use Rattle.definition.specs.Lists.{concat};
+ghost use Rattle.definition.specs.Bytes.{stored};
+ghost use Rattle.definition.specs.Limits.{maxPhases, maxRules, maxRoutes, ruleSize};
+ghost use Rattle.definition.specs.Records.{componentBytes, phaseBytes, toRule, ruleBytes, couplingBytes};
+ghost use Rattle.definition.specs.File.{sectionBytes, modelBytes};
+ghost use Rattle.model_records.specs.Values.{componentOf, componentsIn, phasesIn, rulesIn};
+ghost use Rattle.sort.specs.Keys.{couplingOf};
+ghost use Rattle.flat_writer.specs.Written.{underRoot, atomicsBy, componentsBy, ruleBy, flatBy};
+use flat_ranks::rank_of;
+use limits::COMPONENT_SIZE;
+use limits::COUNT_SIZE;
+use limits::COUPLING_SIZE;
+use limits::PHASE_SIZE;
+use limits::RULE_SIZE;
+use little_endian::byte_at;
+use little_endian::front;
+use little_endian::put_number;
+use little_endian::rest;
+use little_endian::size;
+use little_endian::size16;
+use model_records::Component;
+use model_records::component_at;
+use model_records::phase_count;
+use model_records::rule_count;
+use table_words::NUMBERS_AT;
+use table_words::word_at;
+
+fn wide(x: usize) -> u64
+    ensures { λ r. ⌜ r ≡ x ⌝ }
+{
+    x as u64
+}
+
+fn number(x: u8) -> u32
+    ensures { λ r. ⌜ r ≡ x ⌝ }
+{
+    x as u32
+}
+
+fn wide32(x: u32) -> u64
+    ensures { λ r. ⌜ r ≡ x ⌝ }
+{
+    x as u64
+}
+
+// A part of another slice.
+fn put_bytes(part: &[u8], out: &mut [u8], at: usize)
+    requires { ⌜ at + length (now part) ≤ length (now out) ⌝ }
+    ensures { λ _. ⌜ now (out .exit) ≡ sets (now (out .entry)) at (now (part .entry)) ⌝ }
+{
+    let mut i: usize = 0;
+    while i < part.len() {
+        out[at + i] = part[i];
+        i = i + 1;
+    }
+}
+
+// ---- components
+
+// An atomic under the root.
+fn put_atomic(k: Component, out: &mut [u8], at: usize)
+    requires { ⌜ at + 5 ≤ length (now out) ⌝ }
+    ensures { λ _. ⌜ now (out .exit) ≡ sets (now (out .entry)) at (componentBytes (underRoot (componentOf k))) ⌝ }
+{
+    out[at] = 1;
+    out[at + 1] = 0;
+    out[at + 2] = k.phases;
+    out[at + 3] = k.initial;
+    out[at + 4] = k.order;
+}
+
+// Behind the count and the root, n atomics by position.
+fn put_atomics(components: &[u8], tables: &[u16], n: u8, out: &mut [u8])
+    requires { ⌜ 7 + 5 * n ≤ length (now out) ⌝ }
+    ensures { λ _. ⌜ now (out .exit) ≡ sets (now (out .entry)) 7 (concat (map componentBytes (atomicsBy (componentsIn (now (components .entry))) (now (tables .entry)) n))) ⌝ }
+{
+    let mut i: u8 = 0;
+    while i < n {
+        let c = word_at(tables, NUMBERS_AT + size(i));
+        let k = component_at(components, size16(c));
+        put_atomic(k, out, 7 + COMPONENT_SIZE * size(i));
+        i = i + 1;
+    }
+}
+
+fn put_components(components: &[u8], tables: &[u16], n: u8, out: &mut [u8])
+    requires { ⌜ 7 + 5 * n ≤ length (now out) ⌝ }
+    ensures { λ _. ⌜ now (out .exit) ≡ sets (now (out .entry)) 0 (sectionBytes componentBytes (componentsBy (componentsIn (now (components .entry))) (now (tables .entry)) n)) ⌝ }
+{
+    put_number(out, 0, COUNT_SIZE, wide(size(n) + 1));
+    put_number(out, COUNT_SIZE, COMPONENT_SIZE, 0);
+    put_atomics(components, tables, n, out);
+}
+
+// ---- phases, as they were read
+
+fn put_phases(phases: &[u8], out: &mut [u8], at: usize)
+    requires { ⌜ at + 2 + 18 * length (phasesIn (now phases)) ≤ length (now out) ⌝ }
+    ensures { λ _. ⌜ now (out .exit) ≡ sets (now (out .entry)) at (sectionBytes phaseBytes (phasesIn (now (phases .entry)))) ⌝ }
+{
+    let n = phase_count(phases);
+    put_number(out, at, COUNT_SIZE, wide(n));
+    let part = front(phases, PHASE_SIZE * n);
+    put_bytes(part, out, at + COUNT_SIZE);
+}
+
+// ---- rules, their components renumbered
+
+fn put_rule(rule: &[u8], tables: &[u16], out: &mut [u8], at: usize)
+    requires { ⌜ (length (now rule) ≡ ruleSize) × (at + 18 ≤ length (now out)) ⌝ }
+    ensures { λ _. ⌜ now (out .exit) ≡ sets (now (out .entry)) at (ruleBytes (ruleBy (now (tables .entry)) (toRule (now (rule .entry))))) ⌝ }
+{
+    let rank = rank_of(tables, number(byte_at(rule, 0)));
+    put_number(out, at, 1, wide32(rank));
+    let kept = front(rest(rule, 1), RULE_SIZE - 1);
+    put_bytes(kept, out, at + 1);
+}
+
+fn put_rule_list(rules: &[u8], tables: &[u16], n: usize, out: &mut [u8], at: usize)
+    requires { ⌜ (n ≡ length (rulesIn (now rules))) × (at + 18 * n ≤ length (now out)) ⌝ }
+    ensures { λ _. ⌜ now (out .exit) ≡ sets (now (out .entry)) at (concat (map ruleBytes (map (ruleBy (now (tables .entry))) (rulesIn (now (rules .entry)))))) ⌝ }
+{
+    let mut i: usize = 0;
+    while i < n {
+        let rule = front(rest(rules, RULE_SIZE * i), RULE_SIZE);
+        put_rule(rule, tables, out, at + RULE_SIZE * i);
+        i = i + 1;
+    }
+}
+
+fn put_rules(rules: &[u8], tables: &[u16], out: &mut [u8], at: usize)
+    requires { ⌜ at + 2 + 18 * length (rulesIn (now rules)) ≤ length (now out) ⌝ }
+    ensures { λ _. ⌜ now (out .exit) ≡ sets (now (out .entry)) at (sectionBytes ruleBytes (map (ruleBy (now (tables .entry))) (rulesIn (now (rules .entry))))) ⌝ }
+{
+    let n = rule_count(rules);
+    put_number(out, at, COUNT_SIZE, wide(n));
+    put_rule_list(rules, tables, n, out, at + COUNT_SIZE);
+}
+
+// ---- couplings: the rows, one number each
+
+fn put_row(row: u32, out: &mut [u8], at: usize)
+    requires { ⌜ at + 4 ≤ length (now out) ⌝ }
+    ensures { λ _. ⌜ now (out .exit) ≡ sets (now (out .entry)) at (couplingBytes (couplingOf row)) ⌝ }
+{
+    out[at] = (row / 16777216 % 256) as u8;
+    out[at + 1] = (row / 65536 % 256) as u8;
+    out[at + 2] = (row / 256 % 256) as u8;
+    out[at + 3] = (row % 256) as u8;
+}
+
+fn put_row_list(rows: &[u32], n: usize, out: &mut [u8], at: usize)
+    requires { ⌜ (n ≤ length (now rows)) × (at + 4 * n ≤ length (now out)) ⌝ }
+    ensures { λ _. ⌜ now (out .exit) ≡ sets (now (out .entry)) at (concat (map couplingBytes (map couplingOf (take n (now (rows .entry)))))) ⌝ }
+{
+    let mut i: usize = 0;
+    while i < n {
+        put_row(rows[i], out, at + COUPLING_SIZE * i);
+        i = i + 1;
+    }
+}
+
+fn put_rows(rows: &[u32], n: usize, out: &mut [u8], at: usize)
+    requires { ⌜ (n ≤ length (now rows)) × (at + 2 + 4 * n ≤ length (now out)) ⌝ }
+    ensures { λ _. ⌜ now (out .exit) ≡ sets (now (out .entry)) at (sectionBytes couplingBytes (map couplingOf (take n (now (rows .entry))))) ⌝ }
+{
+    put_number(out, at, COUNT_SIZE, wide(n));
+    put_row_list(rows, n, out, at + COUNT_SIZE);
+}
+
+// ---- the whole
+
+// How many bytes the flat form has.
+pub fn flat_size(phases: &[u8], rules: &[u8], n: u8, count: usize) -> usize
+    requires { ⌜ (length (phasesIn (now phases)) ≤ maxPhases) × (length (rulesIn (now rules)) ≤ maxRules) × (count ≤ maxRoutes) ⌝ }
+    ensures { λ r. ⌜ r ≡ 13 + 5 * n + 18 * length (phasesIn (now (phases .entry))) + 18 * length (rulesIn (now (rules .entry))) + 4 * count ⌝ }
+{
+    13
+        + COMPONENT_SIZE * size(n)
+        + PHASE_SIZE * phase_count(phases)
+        + RULE_SIZE * rule_count(rules)
+        + COUPLING_SIZE * count
+}
+
+pub fn put_flat(
+    components: &[u8],
+    phases: &[u8],
+    rules: &[u8],
+    tables: &[u16],
+    n: u8,
+    rows: &[u32],
+    count: usize,
+    out: &mut [u8],
+)
+    requires { ⌜ (count ≤ length (now rows)) × (13 + 5 * n + 18 * length (phasesIn (now phases)) + 18 * length (rulesIn (now rules)) + 4 * count ≤ length (now out)) ⌝ }
+    ensures { λ _. ⌜ now (out .exit) ≡ stored (modelBytes (flatBy (componentsIn (now (components .entry))) (phasesIn (now (phases .entry))) (rulesIn (now (rules .entry))) (now (tables .entry)) n (take count (now (rows .entry))))) (now (out .entry)) ⌝ }
+{
+    put_components(components, tables, n, out);
+    let second = 7 + COMPONENT_SIZE * size(n);
+    put_phases(phases, out, second);
+    let third = second + COUNT_SIZE + PHASE_SIZE * phase_count(phases);
+    put_rules(rules, tables, out, third);
+    let fourth = third + COUNT_SIZE + RULE_SIZE * rule_count(rules);
+    put_rows(rows, count, out, fourth);
+}

@@ -1,0 +1,85 @@
+-- A refused model gives its number (`flatten-refused`); an accepted one is flattened.
+use borrow.Author.Needs.{needs}
+use Rattle.flatten.proofs.Flattened.{flatten-refused}
+use Rattle.model.specs.Checked.{checkedAs}
+use lib.ListN.{length-replicate}
+use mathlib.Core.Path.{sym, ap, _∙_}
+use denote.Ref.{now}
+use Rattle.definition.specs.Limits.{maxRoutes}
+use Rattle.pull_laws.specs.Tables.{tableSize}
+use Prim.Native.Nat.{ℕ}
+use Rattle.flatten.proofs.flatten.Statement.{statement}
+use Rattle.flatten.proofs.flatten.Tie as tie
+use Rattle.flatten.proofs.flatten.Reads as reads
+use Rattle.flatten.proofs.flatten.Lts as lts
+use Rattle.flatten.proofs.flatten_accepted.Reads as flatten-accepted-reads
+use Rattle.flatten.proofs.wide16.Reads as wide16-reads
+use Rattle.model.proofs.checked_number.Reads as checked-number-reads
+use Rattle.route_count.proofs.check.Reads as check-reads
+
+-- src/lib.rt:75:9
+check-requires : tie.Need-check-requires
+check-requires c κs = search needs
+
+-- src/lib.rt:76:27
+enum-known-checked : tie.Need-enum-known-checked
+enum-known-checked c = search needs
+
+-- src/lib.rt:78:28
+enum-told : tie.Need-enum-told
+enum-told c = search needs
+
+-- src/lib.rt:78:28
+checked-number-requires : tie.Need-checked-number-requires
+checked-number-requires c κs = search needs
+
+-- src/lib.rt:78:21
+wide16-requires : tie.Need-wide16-requires
+wide16-requires c κs = search needs
+
+-- src/lib.rt:77:9
+returns : tie.Need-returns
+returns c =
+    let a = c .before .before .before .before .before .before .before .args in let told = sym (ap (checkedAs (now (a .file))) (c .before .before .enum-told .given .1)) ∙ c .before .before .before .before .check .ensures in rw (c .wide16 .ensures, c .before .checked-number .ensures, c .before .before .enum-told .given .1) (flatten-refused (now (a .file)) (now (a .out)) _ told)
+
+-- src/lib.rt:85:31
+slice-aggregate-flatten-accepted : tie.Need-slice-aggregate-flatten-accepted
+slice-aggregate-flatten-accepted c = search needs
+
+-- src/lib.rt:85:44
+slice-aggregate-flatten-accepted-2 : tie.Need-slice-aggregate-flatten-accepted-2
+slice-aggregate-flatten-accepted-2 c = search needs
+
+-- src/lib.rt:85:55
+slice-aggregate-flatten-accepted-3 : tie.Need-slice-aggregate-flatten-accepted-3
+slice-aggregate-flatten-accepted-3 c = search needs
+
+-- src/lib.rt:85:5
+flatten-accepted-requires : tie.Need-flatten-accepted-requires
+flatten-accepted-requires c κs =
+    let a = c .before .before .before .before .before .before .before .before .before .before .args in (sym (ap (checkedAs (now (a .file))) (c .before .before .before .before .before .checked .given .1)) ∙ c .before .before .before .before .before .before .before .check .ensures, length-replicate {A = ℕ} tableSize 0, length-replicate {A = ℕ} maxRoutes 0, length-replicate {A = ℕ} maxRoutes 0)
+
+-- src/lib.rt:72:1
+same-length : tie.Need-same-length
+same-length c = search needs
+
+-- src/lib.rt:72:1
+returns-2 : tie.Need-returns-2
+returns-2 c = search needs
+
+pub flatten-spec : {M : Type 1} → statement M
+flatten-spec =
+    tie.close
+    (tie.spec
+    check-requires
+    enum-known-checked
+    enum-told
+    checked-number-requires
+    wide16-requires
+    returns
+    slice-aggregate-flatten-accepted
+    slice-aggregate-flatten-accepted-2
+    slice-aggregate-flatten-accepted-3
+    flatten-accepted-requires
+    same-length
+    returns-2)

@@ -1,0 +1,86 @@
+// The call flatten, whole: the check of the model, its tables, the rows of the flat form, the room, and then the bytes.
+ghost use mathlib.Core.Path.{_≡_};
+ghost use Prim.Native.Nat.{_≤_};
+ghost use lib.ListN.{length};
+ghost use Rattle.definition.specs.Bytes.{ok};
+ghost use Rattle.definition.specs.Limits.{maxComponents, maxRoutes};
+ghost use Rattle.definition.specs.Routes.{accepted};
+ghost use Rattle.definition.specs.Flatten.{flatten};
+ghost use Rattle.model.specs.Checked.{modelOf};
+ghost use Rattle.pull_laws.specs.Tables.{tableSize};
+ghost use Rattle.run_calls.specs.Answers.{wroteOf};
+use model::Checked;
+use model::Counts;
+use run_calls::Written;
+use table_words::TABLE_SIZE;
+
+// Room for as many rows as a model may have routes.
+const MAX_ROWS: usize = 1024;
+
+fn wide(x: usize) -> u64
+    ensures { λ r. ⌜ r ≡ x ⌝ }
+{
+    x as u64
+}
+
+fn wide16(x: u16) -> u64
+    ensures { λ r. ⌜ r ≡ x ⌝ }
+{
+    x as u64
+}
+
+fn small(x: usize) -> u8
+    requires { ⌜ x ≤ maxComponents ⌝ }
+    ensures { λ r. ⌜ r ≡ x ⌝ }
+{
+    x as u8
+}
+
+// The flat form of an accepted file with so many records, where there is room for it.
+fn flatten_accepted(
+    file: &[u8],
+    n: Counts,
+    tables: &mut [u16],
+    rows: &mut [u32],
+    scratch: &mut [u32],
+    out: &mut [u8],
+) -> Written
+    requires { ⌜ (ok (modelOf (now file) n) ≡ accepted (now file)) × (length (now tables) ≡ tableSize) × (length (now rows) ≡ maxRoutes) × (length (now scratch) ≡ maxRoutes) ⌝ }
+    ensures { λ r. ⌜ wroteOf r (now (out .exit)) ≡ flatten (now (file .entry)) (now (out .entry)) ⌝ }
+{
+    let components = model::components_of(file, n);
+    let phases = model::phases_of(file, n);
+    let rules = model::rules_of(file, n);
+    let atomics = small(saved_run::atomic_count(components));
+    tables::fill_tables(components, rules, model::couplings_of(file, n), tables);
+    let count = flat_rows::flat_rows(tables, atomics, rows, scratch);
+    let size = flat_writer::flat_size(phases, rules, atomics, count);
+    if out.len() < size {
+        return Written {
+            number: 15,
+            bytes: 0,
+        };
+    }
+    flat_writer::put_flat(components, phases, rules, tables, atomics, rows, count, out);
+    Written {
+        number: 0,
+        bytes: wide(size),
+    }
+}
+
+// Flatten: the flat form at the front of the buffer; the bytes beyond it stay.
+pub fn flatten(file: &[u8], out: &mut [u8]) -> Written
+    ensures { λ r. ⌜ wroteOf r (now (out .exit)) ≡ flatten (now (file .entry)) (now (out .entry)) ⌝ }
+{
+    let checked = route_count::check(file);
+    let Checked::Accepted(n) = checked else {
+        return Written {
+            number: wide16(model::checked_number(checked)),
+            bytes: 0,
+        };
+    };
+    let mut tables: [u16; TABLE_SIZE] = [0; TABLE_SIZE];
+    let mut rows: [u32; MAX_ROWS] = [0; MAX_ROWS];
+    let mut scratch: [u32; MAX_ROWS] = [0; MAX_ROWS];
+    flatten_accepted(file, n, &mut tables, &mut rows, &mut scratch, out)
+}
