@@ -1,0 +1,17 @@
+-- The structs that the calls answer, as the definitions' outcomes: the numbers and what the lent buffers hold afterwards.
+use Rattle.definition.specs.Bytes.{Bytes}
+use Rattle.definition.specs.Engine.{Wrote, WasRead}
+use Rattle.definition.specs.Engine.{Advanced as DefAdvanced}
+use Rattle.engine.specs.declared.Written.{Written}
+use Rattle.engine.specs.declared.Advanced.{Advanced}
+use Rattle.engine.specs.declared.Reading.{Reading}
+
+abbrev pub wroteOf : Bytes → Written → Wrote
+wroteOf buffer r = record { number = r .number; written = r .bytes; buffer = buffer }
+
+abbrev pub advancedOf : Bytes → Bytes → Advanced → DefAdvanced
+advancedOf run trace r =
+    record { number = r .number; instants = r .instants; steps = r .steps; used = r .«trace_bytes»; run = run; trace = trace }
+
+abbrev pub readOf : Reading → WasRead
+readOf r = record { number = r .number; phase = r .phase; last = r .last; due = r .«next_due» }

@@ -1,0 +1,102 @@
+-- The digits before the last one are put by the call itself with one digit less to go, then the last one: the law `decimal-more`.
+use borrow.Author.Needs.{needs}
+use native.Mathlib.Omega.{arith}
+use Prim.Native.Nat.{_%_}
+use mathlib.Core.Path.{sym, _∙_, ap}
+use denote.Ref.{now}
+use Rattle.run_text.specs.Put.{Page, put1}
+use Rattle.run_text.specs.Text.{digit}
+use Rattle.run_text.proofs.Laws.{decimal-none, decimal-one, decimal-more}
+use Prim.Native.Nat.{ℕ, _<_}
+use borrow.Fn.Kinds.{In}
+use borrow.Fn.PlainCycle.{Measures, is, falls, and}
+use Rattle.run_text.proofs.put_decimal.Reads as put-decimal
+use Rattle.run_text.proofs.put_decimal.Kinds as put-decimal-kinds
+use Rattle.run_text.proofs.+put_decimal.Lts-put_decimal as put-decimal-lts
+use Rattle.run_text.proofs.digit.Reads as digit-reads
+use Rattle.run_text.proofs.put_byte.Reads as put-byte-reads
+use Rattle.run_text.proofs.+put_decimal.{statement}
+use Rattle.run_text.proofs.+put_decimal.Tie.{close}
+
+abbrev μ-put-decimal : Measures 1 put-decimal-kinds.ps ℕ
+μ-put-decimal κs a = a .1 .1 .1 .0
+
+abbrev put-decimal-at : ℕ → In 1 put-decimal-kinds.ps
+put-decimal-at t =
+    and 1 put-decimal-kinds.ps (is 1 put-decimal-kinds.ps μ-put-decimal t) put-decimal.Pre
+
+abbrev put-decimal-below : ℕ → In 1 put-decimal-kinds.ps
+put-decimal-below t =
+    and 1 put-decimal-kinds.ps (falls 1 put-decimal-kinds.ps _<_ μ-put-decimal t) put-decimal.Pre
+
+abbrev put-decimal-calls : ℕ → put-decimal-lts.Claims
+put-decimal-calls t = (digit-reads.Asked, digit-reads.Learnt, put-byte-reads.Asked, put-byte-reads.Learnt, put-decimal-below t, put-decimal.Post)
+
+-- src/lib.rt:49:9
+put-decimal-returns : (t : ℕ) → put-decimal-lts.Need-returns (put-decimal-calls t) (put-decimal-at t) put-decimal.Post
+put-decimal-returns t c =
+    let a = c .before .before .args in sym (decimal-none (a .k) (a .n) (now (a .out), a .at) (c .if1 .taken))
+
+-- src/lib.rt:52:34
+put-decimal-digit-requires : (t : ℕ) → put-decimal-lts.Need-digit-requires (put-decimal-calls t) (put-decimal-at t) put-decimal.Post
+put-decimal-digit-requires t c κs = search needs
+
+-- src/lib.rt:52:9
+put-decimal-put-byte-requires : (t : ℕ) → put-decimal-lts.Need-put-byte-requires (put-decimal-calls t) (put-decimal-at t) put-decimal.Post
+put-decimal-put-byte-requires t c κs = search needs
+
+-- src/lib.rt:52:9
+put-decimal-same-length : (t : ℕ) → put-decimal-lts.Need-same-length (put-decimal-calls t) (put-decimal-at t) put-decimal.Post
+put-decimal-same-length t c = search needs
+
+-- src/lib.rt:52:9
+put-decimal-returns-2 : (t : ℕ) → put-decimal-lts.Need-returns-2 (put-decimal-calls t) (put-decimal-at t) put-decimal.Post
+put-decimal-returns-2 t c =
+    let a = c .before .before .before .before .before .before .before .before .args in
+    let page : Page = (now (a .out), a .at) in
+    c .before .before .put-byte .ensures ∙ ap (λ b. put1 b page) (c .before .before .before .digit .ensures) ∙ sym (decimal-one (a .k) (a .n) page (omega arith) (c .before .before .before .before .before .if2 .taken))
+
+-- src/lib.rt:54:45
+put-decimal-sub-put-decimal : (t : ℕ) → put-decimal-lts.Need-sub-put-decimal (put-decimal-calls t) (put-decimal-at t) put-decimal.Post
+put-decimal-sub-put-decimal t c = search needs
+
+-- src/lib.rt:54:9
+put-decimal-put-decimal-requires : (t : ℕ) → put-decimal-lts.Need-put-decimal-requires (put-decimal-calls t) (put-decimal-at t) put-decimal.Post
+put-decimal-put-decimal-requires t c κs = search needs
+
+-- src/lib.rt:55:25
+put-decimal-digit-requires-2 : (t : ℕ) → put-decimal-lts.Need-digit-requires-2 (put-decimal-calls t) (put-decimal-at t) put-decimal.Post
+put-decimal-digit-requires-2 t c κs = search needs
+
+-- src/lib.rt:55:5
+put-decimal-put-byte-requires-2 : (t : ℕ) → put-decimal-lts.Need-put-byte-requires-2 (put-decimal-calls t) (put-decimal-at t) put-decimal.Post
+put-decimal-put-byte-requires-2 t c κs = search needs
+
+-- src/lib.rt:45:1
+put-decimal-same-length-2 : (t : ℕ) → put-decimal-lts.Need-same-length-2 (put-decimal-calls t) (put-decimal-at t) put-decimal.Post
+put-decimal-same-length-2 t c = search needs
+
+-- src/lib.rt:45:1
+put-decimal-returns-3 : (t : ℕ) → put-decimal-lts.Need-returns-3 (put-decimal-calls t) (put-decimal-at t) put-decimal.Post
+put-decimal-returns-3 t c =
+    let a = c .before .before .before .before .before .before .before .before .before .before .before .before .args in
+    let page : Page = (now (a .out), a .at) in
+    let p = c .before .before .before .before .before .before .before .put-decimal in
+    c .before .before .put-byte2 .ensures ∙ ap (λ b. put1 b (p .last .0, p .result)) (c .before .before .before .digit2 .ensures) ∙ ap (put1 (digit (a .n % 10))) (p .ensures)
+    ∙ sym (decimal-more (a .k) (a .n) page (omega arith) (omega arith))
+
+pub +put-decimal-spec : {M : Type 1} → statement M
++put-decimal-spec = close μ-put-decimal λ t. put-decimal-lts.spec (put-decimal-calls t)
+    (put-decimal-at t)
+    put-decimal.Post
+    (put-decimal-returns t)
+    (put-decimal-digit-requires t)
+    (put-decimal-put-byte-requires t)
+    (put-decimal-same-length t)
+    (put-decimal-returns-2 t)
+    (put-decimal-sub-put-decimal t)
+    (put-decimal-put-decimal-requires t)
+    (put-decimal-digit-requires-2 t)
+    (put-decimal-put-byte-requires-2 t)
+    (put-decimal-same-length-2 t)
+    (put-decimal-returns-3 t)

@@ -1,0 +1,40 @@
+-- A word and a field, put one after the other, are the line: the law `refused-line`.
+use borrow.Author.Needs.{needs}
+use native.Mathlib.Omega.{arith}
+use Rattle.run_text.proofs.Laws.{refused-line}
+use denote.Ref.{now}
+use mathlib.Core.Path.{sym, _∙_, ap}
+use Rattle.run_text.proofs.put_refused.Statement.{statement}
+use Rattle.run_text.proofs.put_refused.Tie as tie
+use Rattle.run_text.proofs.put_refused.Reads as reads
+use Rattle.run_text.proofs.put_refused.Lts as lts
+use Rattle.run_text.proofs.put_field.Reads as put-field-reads
+use Rattle.run_text.proofs.put_text.Reads as put-text-reads
+
+-- src/lib.rt:155:34
+slice-aggregate-put-text : tie.Need-slice-aggregate-put-text
+slice-aggregate-put-text c = search needs
+
+-- src/lib.rt:155:9
+put-text-requires : tie.Need-put-text-requires
+put-text-requires c κs = search needs
+
+-- src/lib.rt:156:5
+put-field-requires : tie.Need-put-field-requires
+put-field-requires c κs = search needs
+
+-- src/lib.rt:152:1
+same-length : tie.Need-same-length
+same-length c =
+    c .before .before .put-field .kept .0 ∙ c .before .before .before .before .before .before .put-text .kept .0
+
+-- src/lib.rt:152:1
+returns : tie.Need-returns
+returns c =
+    let a = c .before .before .before .before .before .before .before .before .before .before .args in
+    rw (c .before .before .put-field .ensures, c .before .before .before .before .before .before .put-text .ensures) (sym (refused-line (a .refusal) (now (a .out), a .at)))
+
+pub put-refused-spec : {M : Type 1} → statement M
+put-refused-spec =
+    tie.close
+    (tie.spec slice-aggregate-put-text put-text-requires put-field-requires same-length returns)

@@ -1,0 +1,3 @@
+-- What the printing program writes.
+pub mod Text
+pub mod Put

@@ -1,0 +1,232 @@
+// The text that the printing program writes: the lines of a run, put into a lent buffer.
+ghost use mathlib.Core.Path.{_≡_};
+ghost use Prim.Native.Nat.{_<_};
+ghost use mathlib.Core.List.{[]};
+ghost use Rattle.definition.specs.Engine.{start, advance};
+ghost use Rattle.run_text.specs.Put.{put1, put};
+ghost use Rattle.run_text.specs.Text.{digit as Text·digit};
+ghost use Rattle.run_text.specs.Text.{decimalIn, field, messageLine, messageLines, traceLines, recordLines, endLine, refusedLine, lastLine, advancedText, startedText, inputText, runText};
+use little_endian::byte_at;
+use little_endian::front;
+use little_endian::rest;
+use little_endian::size16;
+use little_endian::u16_at;
+use little_endian::u64_at;
+
+// The run of the largest model: 63 atomics.
+const RUN_ROOM: usize = 577;
+
+const TRACE_ROOM: usize = 16384;
+
+const MAX_DIGITS: usize = 20;
+
+const MESSAGE_SIZE: usize = 3;
+
+const RECORD_HEAD: usize = 12;
+
+const MOMENT_SIZE: usize = 8;
+
+fn digit(n: u64) -> u8
+    requires { ⌜ n < 10 ⌝ }
+    ensures { λ r. ⌜ r ≡ Text·digit n ⌝ }
+{
+    48 + n as u8
+}
+
+fn wide(x: u16) -> u64
+    ensures { λ r. ⌜ r ≡ x ⌝ }
+{
+    x as u64
+}
+
+fn wide8(x: u8) -> u64
+    ensures { λ r. ⌜ r ≡ x ⌝ }
+{
+    x as u64
+}
+
+fn put_byte(out: &mut [u8], at: usize, b: u8) -> usize
+    ensures { λ r. ⌜ (now (out .exit), r) ≡ put1 b (now (out .entry), at) ⌝ }
+{
+    if at < out.len() {
+        out[at] = b;
+        at + 1
+    } else {
+        at
+    }
+}
+
+// The last k digits of n at most.
+fn put_decimal(out: &mut [u8], at: usize, n: u64, k: usize) -> usize
+    ensures { λ r. ⌜ (now (out .exit), r) ≡ put (decimalIn k n) (now (out .entry), at) ⌝ }
+{
+    if k == 0 {
+        return at;
+    }
+    if n < 10 {
+        return put_byte(out, at, digit(n));
+    }
+    let next = put_decimal(out, at, n / 10, k - 1);
+    put_byte(out, next, digit(n % 10))
+}
+
+// A number and the byte after it.
+fn put_field(out: &mut [u8], at: usize, n: u64, after: u8) -> usize
+    ensures { λ r. ⌜ (now (out .exit), r) ≡ put (field n after) (now (out .entry), at) ⌝ }
+{
+    let next = put_decimal(out, at, n, MAX_DIGITS);
+    put_byte(out, next, after)
+}
+
+fn put_text(out: &mut [u8], at: usize, text: &[u8]) -> usize
+    ensures { λ r. ⌜ (now (out .exit), r) ≡ put (now (text .entry)) (now (out .entry), at) ⌝ }
+{
+    let mut k: usize = 0;
+    let mut to = at;
+    while k < text.len() {
+        to = put_byte(out, to, text[k]);
+        k = k + 1;
+    }
+    to
+}
+
+// The line of the message at the front of the row.
+fn put_message(out: &mut [u8], at: usize, moment: u64, step: u16, row: &[u8]) -> usize
+    ensures { λ r. ⌜ (now (out .exit), r) ≡ put (messageLine moment step (now (row .entry))) (now (out .entry), at) ⌝ }
+{
+    let a = put_field(out, at, moment, b' ');
+    let b = put_field(out, a, wide(step), b' ');
+    let c = put_field(out, b, wide8(byte_at(row, 0)), b' ');
+    put_field(out, c, wide(u16_at(row, 1)), b'\n')
+}
+
+fn put_messages(out: &mut [u8], at: usize, moment: u64, step: u16, count: u16, rows: &[u8]) -> usize
+    ensures { λ r. ⌜ (now (out .exit), r) ≡ put (messageLines count moment step (now (rows .entry))) (now (out .entry), at) ⌝ }
+{
+    let n = size16(count);
+    let mut k: usize = 0;
+    let mut to = at;
+    while k < n {
+        to = put_message(out, to, moment, step, rest(rows, MESSAGE_SIZE * k));
+        k = k + 1;
+    }
+    to
+}
+
+// The lines of the record at the front of the trace.
+fn put_record(out: &mut [u8], at: usize, trace: &[u8]) -> usize
+    ensures { λ r. ⌜ (now (out .exit), r) ≡ put (recordLines (now (trace .entry))) (now (out .entry), at) ⌝ }
+{
+    put_messages(
+        out,
+        at,
+        u64_at(trace, 0),
+        u16_at(trace, 8),
+        u16_at(trace, 10),
+        rest(trace, RECORD_HEAD),
+    )
+}
+
+fn put_trace(out: &mut [u8], at: usize, trace: &[u8]) -> usize
+    ensures { λ r. ⌜ (now (out .exit), r) ≡ put (traceLines (now (trace .entry))) (now (out .entry), at) ⌝ }
+{
+    let mut turns = trace.len();
+    let mut from: usize = 0;
+    let mut to = at;
+    while 0 < turns {
+        if trace.len() <= from {
+            return to;
+        }
+        let here = rest(trace, from);
+        to = put_record(out, to, here);
+        from = from + (RECORD_HEAD + MESSAGE_SIZE * size16(u16_at(here, 10)));
+        turns = turns - 1;
+    }
+    to
+}
+
+fn put_end(out: &mut [u8], at: usize, opening: u64, steps: u64) -> usize
+    ensures { λ r. ⌜ (now (out .exit), r) ≡ put (endLine opening steps) (now (out .entry), at) ⌝ }
+{
+    let a = put_text(out, at, b"end ");
+    let b = put_field(out, a, opening, b' ');
+    let c = put_text(out, b, b"steps ");
+    put_field(out, c, steps, b'\n')
+}
+
+fn put_refused(out: &mut [u8], at: usize, refusal: u64) -> usize
+    ensures { λ r. ⌜ (now (out .exit), r) ≡ put (refusedLine refusal) (now (out .entry), at) ⌝ }
+{
+    let next = put_text(out, at, b"refused ");
+    put_field(out, next, refusal, b'\n')
+}
+
+fn put_last(out: &mut [u8], at: usize, refusal: u64, run: &[u8], steps: u64) -> usize
+    ensures { λ r. ⌜ (now (out .exit), r) ≡ put (lastLine refusal (now (run .entry)) steps) (now (out .entry), at) ⌝ }
+{
+    if refusal == 0 {
+        put_end(out, at, u64_at(run, 0), steps)
+    } else {
+        put_refused(out, at, refusal)
+    }
+}
+
+fn put_advanced(
+    out: &mut [u8],
+    at: usize,
+    model: &[u8],
+    end: u64,
+    run: &mut [u8],
+    trace: &mut [u8],
+) -> usize
+    ensures { λ r. ⌜ (now (out .exit), r) ≡ put (advancedText (advance (now (model .entry)) (now (run .entry)) end [] (now (trace .entry)))) (now (out .entry), at) ⌝ }
+{
+    let answer = engine::advance(model, run, end, front(model, 0), trace);
+    let next = put_trace(out, at, front(trace, answer.trace_bytes as usize));
+    put_last(out, next, answer.number, run, answer.steps)
+}
+
+fn put_run(
+    out: &mut [u8],
+    at: usize,
+    model: &[u8],
+    end: u64,
+    run: &mut [u8],
+    trace: &mut [u8],
+) -> usize
+    ensures { λ r. ⌜ (now (out .exit), r) ≡ put (startedText (now (model .entry)) end (now (trace .entry)) (start (now (model .entry)) (now (run .entry)))) (now (out .entry), at) ⌝ }
+{
+    let started = engine::start(model, run);
+    if started.number == 0 {
+        put_advanced(out, at, model, end, run, trace)
+    } else {
+        put_refused(out, at, started.number)
+    }
+}
+
+fn put_input(out: &mut [u8], input: &[u8], run: &mut [u8], trace: &mut [u8]) -> usize
+    ensures { λ r. ⌜ (now (out .exit), r) ≡ put (inputText (now (input .entry)) (now (run .entry)) (now (trace .entry))) (now (out .entry), 0) ⌝ }
+{
+    let at = put_text(out, 0, b"time step port value\n");
+    if input.len() < MOMENT_SIZE {
+        put_refused(out, at, 1)
+    } else {
+        put_run(
+            out,
+            at,
+            rest(input, MOMENT_SIZE),
+            u64_at(input, 0),
+            run,
+            trace,
+        )
+    }
+}
+
+// The lines of the run for an end moment and a model file, at the front of the lent buffer as far as it goes; answers their length.
+pub fn run_text(input: &[u8], out: &mut [u8]) -> usize
+    ensures { λ r. ⌜ (now (out .exit), r) ≡ put (runText (now (input .entry))) (now (out .entry), 0) ⌝ }
+{
+    let mut run = [0u8; RUN_ROOM];
+    let mut trace = [0u8; TRACE_ROOM];
+    put_input(out, input, &mut run, &mut trace)
+}

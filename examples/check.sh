@@ -1,0 +1,81 @@
+#!/usr/bin/env bash
+# Runs the proved programs and the C library on the example files and compares what they write with what is kept here. The
+# programs are built first where they are missing. The exit status is 0 only where everything agreed.
+set -u
+here=$(cd "$(dirname "$0")" && pwd)
+top=$(dirname "$here")
+made=$(mktemp -d)
+trap 'rm -rf "$made"' EXIT
+failed=0
+
+cd "$top" || exit 1
+[ -f target/bin/print_run ] || rt check print_run || exit 1
+
+# agree NAME FILE FILE
+agree() {
+  if cmp -s "$2" "$3"; then
+    echo "$1: ok"
+  else
+    echo "$1: DIFFERS"
+    diff "$2" "$3" | head -n 10
+    failed=1
+  fi
+}
+
+# The kept files are those that their source makes.
+python3 "$here/make.py" "$made" || failed=1
+for kept in "$here"/*.bin "$here"/*.model; do
+  agree "make.py $(basename "$kept")" "$kept" "$made/$(basename "$kept")"
+done
+
+# The printing program on each input.
+for input in "$here"/*.bin; do
+  name=$(basename "$input" .bin)
+  "$top/target/bin/print_run" <"$input" >"$made/$name.out"
+  agree "print_run $name" "$here/$name.txt" "$made/$name.out"
+done
+
+# The C boundary, where it is there.
+if [ ! -d crates/c_interface ]; then exit "$failed"; fi
+[ -f target/staticlib/libc_interface.a ] || rt staticlib c_interface || exit 1
+
+# build NAME SOURCE: a C program over the library
+build() {
+  cc -std=c99 -Wall -Wextra -Werror -pedantic -O2 -I"$top/include" "$2" "$top/target/staticlib/libc_interface.a" \
+    -lpthread -o "$made/$1" || failed=1
+}
+
+# The inserter: cues that are all taken, a trace that is full again and again, and refusals.
+build inserter "$here/inserter.c"
+# insert NAME STATUS MODEL CUES
+insert() {
+  "$made/inserter" "$3" "$here/$4.cues" >"$made/$1.out" 2>&1
+  local status=$?
+  agree "inserter $1" "$here/$1.inserted" "$made/$1.out"
+  if [ "$status" -ne "$2" ]; then
+    echo "inserter $1: status $status"
+    failed=1
+  fi
+}
+# model NAME: the model file of an input of the printing program
+model() { tail -c +9 "$here/$1.bin" >"$made/$1.model"; }
+model busy
+model jam
+model bad_rule
+insert captions 0 "$here/captions.model" captions
+insert busy 0 "$made/busy.model" busy
+insert backwards 1 "$here/captions.model" backwards
+insert crowd 1 "$here/captions.model" crowd
+insert bad_rule 1 "$made/bad_rule.model" captions
+insert jam 1 "$made/jam.model" captions
+
+# The heaviest calls on a stack of 256 KiB.
+build stack "$top/host/stack/stack.c"
+if "$made/stack" "$here"/*.model; then
+  echo "stack: ok"
+else
+  echo "stack: FAILED"
+  failed=1
+fi
+
+[ "$failed" -eq 0 ]

@@ -1,0 +1,119 @@
+/*
+ * A Parallel DEVS timing engine: reads a model, starts a run, advances it, reads it, flattens a model.
+ *
+ * Every function is proved, for all bytes and numbers put in: the numbers it answers and the whole content of each lent
+ * buffer are those of the engine's definitions. What the functions ask of the caller is at the end of this comment.
+ *
+ * Numbers in buffers are little-endian. One tick is a millisecond; a moment counts ticks from the start of the run.
+ *
+ * A model file has four sections, each after its two-byte count:
+ *   components, 1 to 64, 5 bytes: kind (0 coupled, 1 atomic), parent, phase count, initial phase, order (0 internal first,
+ *     1 external first). Component 0 is the root, five zeros. Any other parent is an earlier coupled component, at most 8
+ *     ancestors. An atomic has 1 to 64 phases; a coupled component has zeros in the last three bytes.
+ *   phases, at most 512, 18 bytes, atomic by atomic: advance (4; at most 1,000,000,000, or 4,294,967,295 for never), next
+ *     phase (1), output count (1, 0 to 4), four slots of port (1) and value (2), the used ones never falling, the rest zero.
+ *   rules, at most 1,024, 18 bytes: atomic component, phase, next phase, port (1 each), low and high value (2 each), least
+ *     count (2), low and high elapsed time (4 each; a high of 4,294,967,295 is no upper end).
+ *   couplings, at most 1,024, 4 bytes, never falling: source component, source port, target component, target port.
+ * Ports are 0 to 3.
+ *
+ * A saved run has 10 + 9 x (number of atomics) bytes: open moment (8), number of atomics (2), then for each atomic in file
+ * order its phase (1) and the moment of its last transition (8). 577 bytes hold the run of any model.
+ *
+ * A bag has 3 bytes for each message: port (1), value (2). At most 16 messages, in any order.
+ *
+ * A trace has a record for each step with output at the root: moment (8), step in its instant from 0 (2), message count (2),
+ * and 3 bytes for each message, in rising order of port, then value.
+ *
+ * Numbers. 0 is success. The checks are made in this order:
+ *    1  a section's count, or its records, are cut off
+ *    3  a section's count is over its limit, or there is no component
+ *    5  the phase count is not the sum of the atomics' phase counts (before the 1 for the records)
+ *    4  a component, 6 a phase, 7 a rule, 8 a coupling breaks a line above (a section's records before the next count)
+ *    2  bytes are left over at the end of the file
+ *    9  there are more than 1,024 routes
+ *   10  the run is too short, or does not fit the model
+ *   11  the moment lies before the open moment, or above 1,000,000,000,000
+ *   12  the bag's length is no multiple of 3, or it has over 16 messages, or a port above 3
+ *   13  something is still due at a moment after 1,024 steps there
+ *   14  a step's bag at the root has over 4,096 messages
+ *   15  the records pass the end of the lent trace (advance); the lent buffer is too short (start, flatten)
+ *   16  the position is at or above the number of atomics
+ * With 1 to 12 and 16, and with 15 from start and flatten, every other number answered is 0 and no byte of any buffer is
+ * changed. 13, 14 and 15 from advance keep what was done before: see there.
+ *
+ * What is asked of the caller:
+ *   - a pointer is not null, also where its length is 0, and is valid for its length (readable; writable where not const);
+ *   - a buffer that is written overlaps no other buffer of the same call, and nobody else touches it during the call;
+ *   - 256 KiB of stack.
+ * Nothing else: any bytes and numbers may be put in. No function uses the heap, keeps anything between calls, or calls
+ * anything of the system; calls on different buffers may run at the same time. Every call ends.
+ */
+#ifndef PDEVS_H
+#define PDEVS_H
+
+#include <stddef.h>
+#include <stdint.h>
+
+#ifdef __cplusplus
+extern "C" {
+#endif
+
+/* The answer of a call that writes one buffer: the number, and how many bytes were written at its front. */
+typedef struct { uint64_t number, bytes; } pdevs_written;
+
+/* The number; how many instants were done, and their steps; how many bytes of trace were written. */
+typedef struct { uint64_t number, instants, steps, trace_bytes; } pdevs_advanced;
+
+/* The number; an atomic's phase and last moment; the whole model's next due moment, PDEVS_NEVER for never. */
+typedef struct { uint64_t number, phase, last, next_due; } pdevs_reading;
+
+#define PDEVS_NEVER UINT64_MAX
+
+/* Lengths that suffice for every model. A flat model is no longer than the longest model file. */
+#define PDEVS_MAX_MODEL 32072
+#define PDEVS_MAX_RUN 577
+
+/* Checks a model file: 0, or the number from 1 to 9 with which every other function refuses it. */
+uint64_t pdevs_check_model(const uint8_t *model, size_t model_len);
+
+/*
+ * Starts a run: writes open moment 0, the initial phases and last moments 0 at the front of `run`; the bytes beyond stay.
+ * Numbers: 1 to 9, 15.
+ */
+pdevs_written pdevs_start(const uint8_t *model, size_t model_len, uint8_t *run, size_t run_len);
+
+/*
+ * Advances a run to the moment t: does every instant due before t, then t with the messages of the bag given at the root's
+ * inputs in its first step. Numbers: 1 to 9, 10, 11, 12, then for each instant 13, 14, 15.
+ *
+ * On 0 the open moment of `run` is t + 1, the atomics' phases and last moments are those after the last instant, and the
+ * records of all steps with output at the root stand at the front of `trace`, `trace_bytes` long.
+ *
+ * On 13, 14 or 15 one instant was not done: it left no byte anywhere. The instants before it stand, in `run`, in `trace` and
+ * in the numbers answered; the open moment is one past the last of them, or as before if there was none. After 15 the call
+ * may be made again with the same t and bag and the trace anew: it goes on where this one stopped (where no instant was done,
+ * the next one needs a longer trace). After 13 and 14 the same call is refused so again.
+ *
+ * The bytes of `run` beyond the saved run and those of `trace` beyond `trace_bytes` stay.
+ */
+pdevs_advanced pdevs_advance(const uint8_t *model, size_t model_len, uint8_t *run, size_t run_len,
+                             uint64_t t, const uint8_t *bag, size_t bag_len, uint8_t *trace, size_t trace_len);
+
+/*
+ * Reads the atomic at a position, counted from 0 among the atomics in file order, and the whole model's next due moment.
+ * Numbers: 1 to 9, 10, 16.
+ */
+pdevs_reading pdevs_read(const uint8_t *model, size_t model_len, const uint8_t *run, size_t run_len, uint64_t position);
+
+/*
+ * Flattens a model: writes, at the front of `out`, the model of the root and the atomics alone, with each route as a
+ * coupling; every run of it is a run of the nested model. The bytes beyond stay. Numbers: 1 to 9, 15.
+ */
+pdevs_written pdevs_flatten(const uint8_t *model, size_t model_len, uint8_t *out, size_t out_len);
+
+#ifdef __cplusplus
+}
+#endif
+
+#endif
