@@ -1,0 +1,183 @@
+//! The two engines against the reference: every answer and every byte of every lent buffer, on the
+//! models and calls of the comparison's generators, each model as it is and flat.
+
+use crate::arguments::{self, Known};
+use crate::call::Call;
+use crate::engine::{Engine, Functions, FLAT_ROWS, PULLED, REFERENCE};
+use crate::lent::Lent;
+use crate::models::{chains, damage, limits, nests};
+use crate::random::Random;
+use crate::runs::{self, RUN_DAMAGES};
+use crate::workloads::{self, Workload};
+use reference::decode::decode;
+use reference::flatten::flat_form;
+use reference::model::Model;
+use reference::routes;
+
+const YARDSTICKS: [(&str, Functions); 2] = [("pulled", PULLED), ("flat rows", FLAT_ROWS)];
+
+/// A list of calls on one model over one run buffer, of which each engine has its own.
+struct CallList {
+    file: Vec<u8>,
+    flat: Option<Vec<u8>>,
+    run: Lent,
+    runs: [Lent; 4],
+}
+
+impl CallList {
+    fn new(file: &[u8], first_run: &[u8]) -> CallList {
+        let flat = decode(file).ok().map(|model| flat_form(&model).encode());
+        let runs = [(); 4].map(|()| Lent::new(first_run));
+        CallList { file: file.to_vec(), flat, run: Lent::new(first_run), runs }
+    }
+
+    /// Makes a call on the reference and on both engines with both forms. Answers its number.
+    fn call(&mut self, call: &Call) -> u64 {
+        let mut trace = Lent::new(call.trace());
+        let answer = call.make(&REFERENCE, &self.file, &mut self.run, &mut trace);
+        let forms = [Some(&self.file), self.flat.as_ref()].into_iter().flatten();
+        let subjects = forms.flat_map(|file| YARDSTICKS.map(|yardstick| (file, yardstick)));
+        for ((file, (name, engine)), run) in subjects.zip(&mut self.runs) {
+            let mut lent = Lent::new(call.trace());
+            assert_eq!(call.make(&engine, file, run, &mut lent), answer, "{name}: {call}");
+            assert_eq!(run.content(), self.run.content(), "{name}: the run after {call}");
+            assert_eq!(lent.content(), trace.content(), "{name}: the trace after {call}");
+            assert!(run.margins_stay() && lent.margins_stay(), "{name}: bytes outside in {call}");
+        }
+        answer.number()
+    }
+}
+
+fn check_model(file: &[u8]) -> u64 {
+    let number = reference::check_model(file);
+    for (name, engine) in YARDSTICKS {
+        assert_eq!(engine.check_model(file), number, "{name}");
+    }
+    number
+}
+
+/// A random list of calls on an accepted model.
+fn calls_on(random: &mut Random, model: &Model) {
+    let file = model.encode();
+    let known = Known::new(model);
+    let mut list = CallList::new(&file, &runs::first_bytes(random, model));
+    let mut call = Call::Start;
+    let mut endless_calls = 0;
+    for _ in 0..random.between(3, 16) {
+        let number = list.call(&call);
+        endless_calls += usize::from(number == 13);
+        if endless_calls > 1 {
+            return;
+        }
+        call = match number {
+            10 => Call::Start,
+            _ => arguments::next_call(random, &file, model, &known, list.run.content()),
+        };
+    }
+}
+
+/// Calls on a file that may be refused.
+fn calls_on_file(random: &mut Random, file: &[u8]) {
+    let number = check_model(file);
+    if let Ok(model) = decode(file) {
+        return calls_on(random, &model);
+    }
+    let mut list = CallList::new(file, &random.bytes(100));
+    let call = Call::Advance { t: 7, bag: Vec::new(), trace: random.bytes(50) };
+    assert_eq!(list.call(&call), number);
+}
+
+fn accepted_nest(random: &mut Random) -> Model {
+    loop {
+        let model = nests::nest(random);
+        if reference::check_model(&model.encode()) == 0 {
+            return model;
+        }
+    }
+}
+
+#[test]
+fn random_models() {
+    for case in 0..600 {
+        let mut random = Random::for_case(11, case);
+        let model =
+            if random.percent(70) { nests::nest(&mut random) } else { chains::chain(&mut random) };
+        calls_on_file(&mut random, &model.encode());
+    }
+}
+
+#[test]
+fn models_at_limits() {
+    for (case, (name, number, file)) in (0..).zip(limits::LIMITS) {
+        let mut random = Random::for_case(12, case);
+        assert_eq!(check_model(&file()), number, "{name}");
+        calls_on_file(&mut random, &file());
+    }
+}
+
+#[test]
+fn damaged_models() {
+    for case in 0..5 {
+        let mut random = Random::for_case(13, case);
+        for damage in damage::all() {
+            let file = std::iter::repeat_with(|| accepted_nest(&mut random))
+                .find_map(|model| (damage.apply)(&mut Random::new(case), &model))
+                .expect("some nest can be damaged so");
+            assert_eq!(check_model(&file), damage.number, "{}", damage.name);
+            calls_on_file(&mut random, &file);
+        }
+    }
+}
+
+#[test]
+fn damaged_runs() {
+    for case in 0..20 {
+        let mut random = Random::for_case(14, case);
+        for damage in &RUN_DAMAGES {
+            let model = accepted_nest(&mut random);
+            let run = runs::fitting(&mut random, &model);
+            if let Some(run) = damage.apply(&mut random, &model, &run) {
+                let mut list = CallList::new(&model.encode(), &run);
+                let t = runs::open_moment(&run);
+                let call = Call::Advance { t, bag: Vec::new(), trace: random.bytes(20) };
+                assert_eq!(list.call(&call), 10, "{}", damage.name);
+            }
+        }
+    }
+}
+
+fn all_workloads() -> Vec<Workload> {
+    let series = workloads::growth::all().into_iter().flat_map(|series| series.points);
+    let growing = series.map(|(_, workload)| workload);
+    workloads::steps().into_iter().chain(workloads::short_calls()).chain(growing).collect()
+}
+
+#[test]
+fn workloads_run_without_refusal() {
+    for workload in all_workloads() {
+        assert_eq!(check_model(&workload.model), 0, "{}", workload.name);
+        let mut list = CallList::new(&workload.model, &vec![0; 600]);
+        list.call(&Call::Start);
+        for call in &workload.calls {
+            let call = Call::Advance { t: call.t, bag: call.bag.clone(), trace: vec![1; 250_000] };
+            assert_eq!(list.call(&call), 0, "{}", workload.name);
+        }
+    }
+}
+
+/// The nests and the maximal model stand at the limits.
+#[test]
+fn workloads_are_as_large_as_they_say() {
+    let sizes = |name: &str| {
+        let workload = all_workloads().into_iter().find(|workload| workload.name == name);
+        let model = decode(&workload.expect("a workload").model).expect("an accepted model");
+        let records = [model.components.len(), model.phases.len(), model.rules.len()];
+        (records, model.couplings.len(), routes::count(&model))
+    };
+    assert_eq!(sizes("nest LI"), ([64, 111, 55], 70, 56));
+    assert_eq!(sizes("nest HI"), ([64, 111, 55], 118, 104));
+    assert_eq!(sizes("nest HO"), ([64, 111, 55], 179, 158));
+    assert_eq!(sizes("each of 32 to each"), ([33, 64, 64], 1_024, 1_024));
+    assert_eq!(sizes("1,024 rules, scattered"), ([34, 136, 1_024], 33, 33));
+    assert_eq!(sizes("maximal, idle"), ([64, 512, 1_024], 1_024, 1_010));
+}

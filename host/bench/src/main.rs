@@ -1,0 +1,185 @@
+//! Measures engines with the same interface in one process: the proved library, where it is linked
+//! (feature `library`), against two optimised, unverified ones. `pulled` has the same algorithm,
+//! `flat rows` compiles routes to flat rows and is the limit.
+//!
+//! `bench/run.sh` builds and runs it. `--rounds N` takes the best of N rounds, `--only TEXT` measures
+//! only what has TEXT in its name.
+
+mod engine;
+mod flat_rows;
+mod measure;
+mod pulled;
+mod report;
+mod shared;
+mod workloads;
+
+// The tests hold both engines against the reference on the comparison's models and calls.
+#[cfg(test)]
+mod agreement;
+#[cfg(test)]
+#[allow(dead_code)]
+#[path = "../../compare/src/arguments.rs"]
+mod arguments;
+#[cfg(test)]
+#[allow(dead_code)]
+#[path = "../../compare/src/call.rs"]
+mod call;
+#[cfg(test)]
+#[path = "../../compare/src/lent.rs"]
+mod lent;
+#[cfg(test)]
+#[allow(dead_code)]
+#[path = "../../compare/src/models/mod.rs"]
+mod models;
+#[cfg(test)]
+#[path = "../../compare/src/random.rs"]
+mod random;
+#[cfg(test)]
+#[allow(dead_code)]
+#[path = "../../compare/src/runs.rs"]
+mod runs;
+
+use measure::{measure, Engines};
+use report::{Line, Report};
+use std::process::ExitCode;
+use std::time::Instant;
+use workloads::growth::Series;
+use workloads::Workload;
+
+struct Arguments {
+    rounds: usize,
+    only: String,
+}
+
+fn arguments() -> Result<Arguments, String> {
+    let mut arguments = Arguments { rounds: 25, only: String::new() };
+    let mut words = std::env::args().skip(1);
+    while let Some(word) = words.next() {
+        let value = words.next().ok_or_else(|| format!("{word} wants a value"))?;
+        match word.as_str() {
+            "--rounds" => {
+                arguments.rounds = value.parse().map_err(|_| format!("{value} is no number"))?
+            }
+            "--only" => arguments.only = value,
+            _ => return Err(format!("{word} is not known")),
+        }
+    }
+    Ok(arguments)
+}
+
+impl Arguments {
+    fn want(&self, name: &str) -> bool {
+        name.contains(&self.only)
+    }
+}
+
+/// The benchmark on its way.
+struct Run<'r> {
+    engines: &'r Engines,
+    arguments: &'r Arguments,
+    report: Report,
+}
+
+impl Run<'_> {
+    /// A table of workloads, each on its own model and on the flat form.
+    fn table(&mut self, workloads: &[Workload], by: By) -> Result<(), String> {
+        let arguments = self.arguments;
+        for workload in workloads.iter().filter(|workload| arguments.want(&workload.name)) {
+            let flat = workload.flat_model();
+            for (form, model) in [("nest", &workload.model), ("flat", &flat)] {
+                if form == "nest" && *model == flat {
+                    continue;
+                }
+                let measured = measure(self.engines, workload, model, arguments.rounds)?;
+                let (count, nanoseconds) = match by {
+                    By::Step => (measured.steps, measured.per_step()),
+                    By::Call => (measured.calls, measured.per_call()),
+                };
+                let rate = 1e9 / nanoseconds[self.report.subject];
+                let facts = [form.into(), workload.routes().to_string(), count.to_string()];
+                self.report.line(&Line {
+                    label: &workload.name,
+                    facts: &facts,
+                    nanoseconds: &nanoseconds,
+                    rate: Some(rate),
+                    is_flat: *model == flat,
+                });
+            }
+        }
+        Ok(())
+    }
+
+    fn series(&mut self, series: &Series) -> Result<(), String> {
+        let mut lines = Vec::new();
+        for (size, workload) in &series.points {
+            let measured = measure(self.engines, workload, &workload.model, self.arguments.rounds)?;
+            let nanoseconds = measured.per_step();
+            self.report.line(&Line {
+                label: series.name,
+                facts: &[size.to_string()],
+                nanoseconds: &nanoseconds,
+                rate: None,
+                is_flat: workload.model == workload.flat_model(),
+            });
+            lines.push((*size, nanoseconds));
+        }
+        let (first, last) = (&lines[0], &lines[lines.len() - 1]);
+        self.report.growth((first.0, &first.1), (last.0, &last.1));
+        Ok(())
+    }
+
+    fn all(&mut self) -> Result<(), String> {
+        let facts = ["form", "routes", "steps"];
+        self.report.head("Steps", &facts, "ns a step; ratios of speed", Some("steps/s"));
+        self.table(&workloads::steps(), By::Step)?;
+        let facts = ["form", "routes", "calls"];
+        self.report.head("One call", &facts, "ns a call; ratios of speed", Some("calls/s"));
+        self.table(&workloads::short_calls(), By::Call)?;
+        self.report.head("Growth", &["size"], "ns a step; ratios of speed", None);
+        for series in workloads::growth::all() {
+            if self.arguments.want(series.name) {
+                self.series(&series)?;
+            }
+        }
+        self.report.goals();
+        Ok(())
+    }
+}
+
+/// What a time is divided by.
+#[derive(Clone, Copy)]
+enum By {
+    Step,
+    Call,
+}
+
+fn main() -> ExitCode {
+    let arguments = match arguments() {
+        Ok(arguments) => arguments,
+        Err(fault) => {
+            eprintln!("{fault}");
+            return ExitCode::FAILURE;
+        }
+    };
+    let engines = engine::engines();
+    let begun = Instant::now();
+    println!("best of {} rounds, engines in turn within each round; caches warm", arguments.rounds);
+    println!(
+        "the run buffer is put back before each pass over the calls; the trace is not cleared"
+    );
+    if cfg!(debug_assertions) {
+        println!("CHECKS ARE ON: these figures mean nothing; use bench/run.sh");
+    }
+    let report = Report::new(&engines);
+    let mut run = Run { engines: &engines, arguments: &arguments, report };
+    match run.all() {
+        Ok(()) => {
+            println!("{:.1} s", begun.elapsed().as_secs_f64());
+            ExitCode::SUCCESS
+        }
+        Err(fault) => {
+            eprintln!("{fault}");
+            ExitCode::FAILURE
+        }
+    }
+}

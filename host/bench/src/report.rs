@@ -1,0 +1,126 @@
+//! Tables of what was measured. The subject is the proved library where it is linked, and else the
+//! pulled engine; ratios are the subject's speed as a part of another engine's.
+
+use crate::measure::Engines;
+
+/// The least ratio that is wanted.
+const GOAL: f64 = 0.8;
+const LABEL: usize = 26;
+const COLUMN: usize = 11;
+
+/// One line of a table.
+pub struct Line<'l> {
+    pub label: &'l str,
+    /// What stands between the label and the times.
+    pub facts: &'l [String],
+    /// By engine.
+    pub nanoseconds: &'l [f64],
+    /// How often in a second the subject does what was timed.
+    pub rate: Option<f64>,
+    pub is_flat: bool,
+}
+
+/// The lowest ratio to an engine over all lines where a goal is set, and where it was.
+#[derive(Default)]
+struct Lowest {
+    met: Option<(f64, String)>,
+}
+
+pub struct Report {
+    names: Vec<&'static str>,
+    pub subject: usize,
+    lowest: Vec<Lowest>,
+}
+
+impl Report {
+    pub fn new(engines: &Engines) -> Report {
+        let names: Vec<&'static str> = engines.iter().map(|(name, _)| *name).collect();
+        let subject = names.iter().position(|&name| name == "library").unwrap_or(0);
+        let lowest = names.iter().map(|_| Lowest::default()).collect();
+        Report { names, subject, lowest }
+    }
+
+    fn others(&self) -> impl Iterator<Item = usize> {
+        let subject = self.subject;
+        (0..self.names.len()).filter(move |&engine| engine != subject)
+    }
+
+    /// The head of a table.
+    pub fn head(&self, title: &str, facts: &[&str], unit: &str, rate: Option<&str>) {
+        println!("\n{title}");
+        let mut line = format!("{:LABEL$}", "");
+        facts.iter().for_each(|fact| line += &format!("{fact:>7}"));
+        for name in &self.names {
+            line += &format!("{:>COLUMN$}", *name);
+        }
+        if let Some(rate) = rate {
+            line += &format!("{rate:>COLUMN$}");
+        }
+        for other in self.others() {
+            line += &format!("{:>14}", format!("/ {}", self.names[other]));
+        }
+        println!("{line}   ({unit})");
+    }
+
+    pub fn line(&mut self, line: &Line) {
+        let mut text = format!("{:LABEL$}", line.label);
+        line.facts.iter().for_each(|fact| text += &format!("{fact:>7}"));
+        line.nanoseconds.iter().for_each(|time| text += &format!("{time:>COLUMN$.1}"));
+        if let Some(rate) = line.rate {
+            text += &format!("{rate:>COLUMN$.0}");
+        }
+        for other in self.others().collect::<Vec<usize>>() {
+            let ratio = line.nanoseconds[other] / line.nanoseconds[self.subject];
+            let wanted = self.is_wanted(other, line.is_flat);
+            let mark = if wanted && ratio < GOAL { '!' } else { ' ' };
+            text += &format!("{ratio:>13.2}{mark}");
+            if wanted {
+                self.lowest[other].meet(ratio, line);
+            }
+        }
+        println!("{}", text.trim_end());
+    }
+
+    /// The goals are set for the library: against the pulled engine everywhere, against flat rows on
+    /// flat models.
+    fn is_wanted(&self, other: usize, is_flat: bool) -> bool {
+        self.names[self.subject] == "library" && (self.names[other] == "pulled" || is_flat)
+    }
+
+    /// What one more of a size costs, from the first to the last line of a series.
+    pub fn growth(&self, first: (u64, &[f64]), last: (u64, &[f64])) {
+        let mut text = format!("{:LABEL$}{:>7}", "  one more costs", "");
+        for (before, after) in first.1.iter().zip(last.1) {
+            text += &format!("{:>COLUMN$.2}", (after - before) / (last.0 - first.0) as f64);
+        }
+        println!("{text}");
+    }
+
+    /// The goals, and the lowest ratios met.
+    pub fn goals(&self) {
+        if self.names[self.subject] != "library" {
+            println!("\nThe proved library is not linked, so no goal is tested.");
+            return;
+        }
+        println!();
+        for other in self.others() {
+            let place = if self.names[other] == "pulled" { "everywhere" } else { "on flat models" };
+            if let Some((ratio, label)) = &self.lowest[other].met {
+                let verdict = if *ratio < GOAL { "not met" } else { "met" };
+                println!(
+                    "goal {GOAL} of {} {place}: {verdict}, lowest {ratio:.2} ({label})",
+                    self.names[other]
+                );
+            }
+        }
+    }
+}
+
+impl Lowest {
+    fn meet(&mut self, ratio: f64, line: &Line) {
+        if self.met.as_ref().is_none_or(|(lowest, _)| ratio < *lowest) {
+            let label = format!("{} {}", line.label, line.facts.join(" "));
+            self.met = Some((ratio, label));
+        }
+    }
+}

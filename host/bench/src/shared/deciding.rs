@@ -1,0 +1,81 @@
+//! The deciding rule, searched over the range of the rules that name an atomic, and the transitions.
+
+use super::held::Held;
+use super::model_file::ModelFile;
+use super::tables::Tables;
+use super::unchecked::{at, u16_at, u32_at};
+use reference::limits;
+use reference::records::{Phase, Rule};
+
+/// How many keys of a bag lie from low to high.
+#[inline(always)]
+fn count_between(bag: &[u32], low: u32, high: u32) -> u32 {
+    bag.iter().map(|&key| u32::from(key.wrapping_sub(low) <= high - low)).sum()
+}
+
+#[inline(always)]
+fn holds(rules: &[u8], place: usize, atomic_and_phase: u16, elapsed: u64, bag: &[u32]) -> bool {
+    if u16_at(rules, place) != atomic_and_phase || elapsed < u64::from(u32_at(rules, place + 10)) {
+        return false;
+    }
+    let high_elapsed = u32_at(rules, place + 14);
+    if elapsed > u64::from(high_elapsed) && high_elapsed != limits::UNBOUNDED {
+        return false;
+    }
+    let port = u32::from(at(rules, place + 3)) << 16;
+    let low = port | u32::from(u16_at(rules, place + 4));
+    let high = port | u32::from(u16_at(rules, place + 6));
+    u32::from(u16_at(rules, place + 8)) <= count_between(bag, low, high)
+}
+
+/// Where the external part leads: by the first rule that holds, and else nowhere else.
+#[inline(always)]
+fn external(
+    model: &ModelFile,
+    tables: &Tables,
+    number: usize,
+    phase: u8,
+    elapsed: u64,
+    bag: &[u32],
+) -> u8 {
+    let atomic_and_phase = number as u16 | (u16::from(phase) << 8);
+    let from = usize::from(at(&tables.rules_from, number));
+    let to = usize::from(at(&tables.rules_to, number));
+    let mut place = Rule::BYTES * from;
+    for _ in from..to {
+        if holds(model.rules, place, atomic_and_phase, elapsed, bag) {
+            return at(model.rules, place + 2);
+        }
+        place += Rule::BYTES;
+    }
+    phase
+}
+
+/// The phase after a transition of an atomic, due or not, with its bag; one of the two is so.
+#[inline(always)]
+pub fn phase_after(
+    model: &ModelFile,
+    tables: &Tables,
+    held: &Held,
+    position: usize,
+    now: u64,
+    is_due: bool,
+    bag: &[u32],
+) -> u8 {
+    let number = usize::from(at(&tables.numbers, position));
+    let first = usize::from(at(&tables.first_phases, number));
+    let next = |phase: u8| at(model.phases, Phase::BYTES * (first + usize::from(phase)) + 4);
+    let phase = at(&held.phases, position);
+    if !is_due {
+        let elapsed = now - at(&held.lasts, position);
+        return external(model, tables, number, phase, elapsed, bag);
+    }
+    if bag.is_empty() {
+        return next(phase);
+    }
+    if at(&tables.orders, number) == 0 {
+        return external(model, tables, number, next(phase), 0, bag);
+    }
+    let advance = u64::from(u32_at(model.phases, Phase::BYTES * (first + usize::from(phase))));
+    next(external(model, tables, number, phase, advance, bag))
+}

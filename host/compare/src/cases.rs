@@ -1,0 +1,179 @@
+//! The cases of a run: first each limit, each special case and each kind of damage, then random ones.
+
+use crate::arguments;
+use crate::call::Call;
+use crate::calls_on_model::{self, calls_on_file, well_formed};
+use crate::comparison::{Compared, Comparison};
+use crate::models::damage::{self, Damage};
+use crate::models::{chains, limits, nests};
+use crate::random::Random;
+use crate::runs::{self, RunDamage, RUN_DAMAGES};
+use crate::special;
+use reference::decode::decode;
+use reference::model::Model;
+
+/// The names of all boundaries and damages that the cases below must meet.
+pub fn names() -> Vec<&'static str> {
+    let mut names: Vec<&'static str> = damage::all().iter().map(|damage| damage.name).collect();
+    names.extend(limits::LIMITS.iter().map(|limit| limit.0));
+    names.extend(RUN_DAMAGES.iter().map(|damage| damage.name));
+    names.extend(special::names());
+    names.extend(calls_on_model::NAMES);
+    names
+}
+
+/// How often each kind of damage is done before the random cases: on several models, since another
+/// fault may hide it on one.
+const ROUNDS_OF_DAMAGE: usize = 5;
+
+/// The number of cases that come in every run.
+pub fn fixed() -> usize {
+    let damages = damage::all().len() + RUN_DAMAGES.len();
+    limits::LIMITS.len() + special::CASES.len() + ROUNDS_OF_DAMAGE * damages
+}
+
+/// One case of a run. The first ones are fixed, the others random.
+pub fn case(comparison: &mut Comparison, random: &mut Random, number: usize) -> Compared<()> {
+    if number >= fixed() {
+        return random_case(comparison, random);
+    }
+    let mut at = number;
+    if let Some(limit) = limits::LIMITS.get(at) {
+        return at_limit(comparison, random, limit);
+    }
+    at -= limits::LIMITS.len();
+    if let Some(special) = special::CASES.get(at) {
+        return special(comparison, random);
+    }
+    at -= special::CASES.len();
+    let damages = damage::all();
+    at %= damages.len() + RUN_DAMAGES.len();
+    match damages.get(at) {
+        Some(damage) => damaged(comparison, random, damage),
+        None => damaged_run(comparison, random, &RUN_DAMAGES[at - damages.len()]),
+    }
+}
+
+fn random_case(comparison: &mut Comparison, random: &mut Random) -> Compared<()> {
+    match random.below(100) {
+        0..=59 => {
+            let model = nests::nest(random);
+            well_formed(comparison, random, &model)
+        }
+        60..=79 => {
+            let model = chains::chain(random);
+            well_formed(comparison, random, &model)
+        }
+        80 => {
+            let limit = random.pick(&limits::LIMITS);
+            at_limit(comparison, random, &limit)
+        }
+        81 if random.percent(60) => random.pick(&special::CASES)(comparison, random),
+        81..=93 => {
+            let damage = random.pick(&damage::all());
+            damaged(comparison, random, damage)
+        }
+        94..=96 => {
+            let damage = &RUN_DAMAGES[random.index(RUN_DAMAGES.len())];
+            damaged_run(comparison, random, damage)
+        }
+        97 => garbage(comparison, random),
+        _ => bytes_changed(comparison, random),
+    }
+}
+
+/// An accepted random nest.
+fn accepted_nest(random: &mut Random) -> Model {
+    loop {
+        let model = nests::nest(random);
+        if decode(&model.encode()).is_ok() {
+            return model;
+        }
+    }
+}
+
+fn at_limit(
+    comparison: &mut Comparison,
+    random: &mut Random,
+    limit: &limits::Limit,
+) -> Compared<()> {
+    let (name, number, file) = limit;
+    let file = file();
+    expect_number(comparison, &file, *number, name)?;
+    calls_on_file(comparison, random, &file)
+}
+
+fn damaged(comparison: &mut Comparison, random: &mut Random, damage: &Damage) -> Compared<()> {
+    let file = loop {
+        let model = accepted_nest(random);
+        if let Some(file) = (damage.apply)(random, &model) {
+            break file;
+        }
+    };
+    expect_number(comparison, &file, damage.number, damage.name)?;
+    calls_on_file(comparison, random, &file)
+}
+
+fn damaged_run(
+    comparison: &mut Comparison,
+    random: &mut Random,
+    damage: &RunDamage,
+) -> Compared<()> {
+    let (model, run) = loop {
+        let model = accepted_nest(random);
+        let run = runs::fitting(random, &model);
+        if let Some(run) = damage.apply(random, &model, &run) {
+            break (model, run);
+        }
+    };
+    let position = random.below(3);
+    let mut list = comparison.list(&model.encode(), &run);
+    let (bag, trace) = (arguments::bag(random), random.bytes(20));
+    let t = random.pick(&[0, runs::open_moment(&run), u64::MAX]);
+    for call in [Call::Read { position }, Call::Advance { t, bag, trace }] {
+        let answer = list.call(&call)?.answer;
+        if answer.number() != 10 {
+            return Err(format!("{}: {answer:?} instead of 10", damage.name));
+        }
+    }
+    list.counts().meet(damage.name);
+    Ok(())
+}
+
+/// Checks a file that must get a known number.
+fn expect_number(
+    comparison: &mut Comparison,
+    file: &[u8],
+    number: u64,
+    name: &'static str,
+) -> Compared<()> {
+    let answer = comparison.check_model(file)?;
+    if answer != number {
+        return Err(format!("{name}: check_model answers {answer}, not {number}"));
+    }
+    comparison.counts.meet(name);
+    Ok(())
+}
+
+fn garbage(comparison: &mut Comparison, random: &mut Random) -> Compared<()> {
+    let length = random.index(60);
+    let mut file = random.bytes(length);
+    // Small counts, so that some of it is read.
+    for byte in &mut file {
+        *byte = if random.percent(80) { *byte % 3 } else { *byte };
+    }
+    calls_on_file(comparison, random, &file)
+}
+
+fn bytes_changed(comparison: &mut Comparison, random: &mut Random) -> Compared<()> {
+    let mut file = accepted_nest(random).encode();
+    for _ in 0..random.between(1, 3) {
+        let at = random.index(file.len());
+        file[at] = match random.below(3) {
+            0 => random.next() as u8,
+            1 => file[at] ^ (1 << random.below(8)),
+            _ => random.pick(&[0, 1, 2, 3, 4, 255]),
+        };
+    }
+    calls_on_file(comparison, random, &file)
+}

@@ -1,0 +1,172 @@
+//! The engines that are held against each other, all behind the same five functions.
+
+use std::cell::Cell;
+
+use reference::nest::DeadWays;
+use reference::observed::Observed;
+use reference::{decode, flat_machine, routes, Advanced, Reading, Written};
+
+pub trait Engine {
+    fn check_model(&self, model: &[u8]) -> u64;
+    fn start(&self, model: &[u8], run: &mut [u8]) -> Written;
+    fn advance(
+        &self,
+        model: &[u8],
+        run: &mut [u8],
+        t: u64,
+        bag: &[u8],
+        trace: &mut [u8],
+    ) -> Advanced;
+    fn read(&self, model: &[u8], run: &[u8], position: u64) -> Reading;
+    fn flatten(&self, model: &[u8], out: &mut [u8]) -> Written;
+}
+
+/// Which bytes an engine is fed for a model.
+#[derive(Clone, Copy, Debug, PartialEq, Eq)]
+pub enum Form {
+    AsGiven,
+    /// What flattening writes; only for accepted models.
+    Flat,
+}
+
+/// An engine that the yardstick is compared with.
+pub struct Subject {
+    pub name: &'static str,
+    pub engine: Box<dyn Engine>,
+    pub form: Form,
+}
+
+/// All engines of this build.
+pub fn subjects() -> Vec<Subject> {
+    let subject = |name, engine, form| Subject { name, engine, form };
+    vec![
+        subject("nest, dead ways dropped", Box::new(Nest), Form::AsGiven),
+        subject("nest on the flat form", Box::new(Nest), Form::Flat),
+        subject("flat machine", Box::new(FlatMachine), Form::Flat),
+        #[cfg(feature = "library")]
+        subject("library", Box::new(crate::library::Library), Form::AsGiven),
+        #[cfg(feature = "library")]
+        subject("library on the flat form", Box::new(crate::library::Library), Form::Flat),
+    ]
+}
+
+/// The most ports that a step may pass for dead ways to be kept; beyond it they are dropped.
+const FEW_PORTS: u64 = 4_096;
+
+/// What every subject is compared with: the nest, dead messages kept as document 001 has it wherever
+/// the ways are few enough. It also notes what its calls met.
+pub struct Yardstick {
+    dead_ways: DeadWays,
+    observed: Cell<Observed>,
+}
+
+impl Yardstick {
+    pub fn new(model: &[u8]) -> Yardstick {
+        let dead_ways = match decode::decode(model) {
+            Ok(model) if routes::ports_passed(&model) <= FEW_PORTS => DeadWays::Kept,
+            _ => DeadWays::Dropped,
+        };
+        Yardstick { dead_ways, observed: Cell::default() }
+    }
+
+    /// What was met since this was last asked.
+    pub fn take_observed(&self) -> Observed {
+        self.observed.take()
+    }
+}
+
+impl Engine for Yardstick {
+    fn check_model(&self, model: &[u8]) -> u64 {
+        reference::check_model(model)
+    }
+
+    fn start(&self, model: &[u8], run: &mut [u8]) -> Written {
+        reference::start(model, run)
+    }
+
+    fn advance(
+        &self,
+        model: &[u8],
+        run: &mut [u8],
+        t: u64,
+        bag: &[u8],
+        trace: &mut [u8],
+    ) -> Advanced {
+        let mut observed = self.observed.take();
+        let answer =
+            reference::advance::advance(model, run, t, bag, trace, self.dead_ways, &mut observed);
+        self.observed.set(observed);
+        answer
+    }
+
+    fn read(&self, model: &[u8], run: &[u8], position: u64) -> Reading {
+        reference::read(model, run, position)
+    }
+
+    fn flatten(&self, model: &[u8], out: &mut [u8]) -> Written {
+        reference::flatten(model, out)
+    }
+}
+
+struct Nest;
+
+impl Engine for Nest {
+    fn check_model(&self, model: &[u8]) -> u64 {
+        reference::check_model(model)
+    }
+
+    fn start(&self, model: &[u8], run: &mut [u8]) -> Written {
+        reference::start(model, run)
+    }
+
+    fn advance(
+        &self,
+        model: &[u8],
+        run: &mut [u8],
+        t: u64,
+        bag: &[u8],
+        trace: &mut [u8],
+    ) -> Advanced {
+        reference::advance(model, run, t, bag, trace)
+    }
+
+    fn read(&self, model: &[u8], run: &[u8], position: u64) -> Reading {
+        reference::read(model, run, position)
+    }
+
+    fn flatten(&self, model: &[u8], out: &mut [u8]) -> Written {
+        reference::flatten(model, out)
+    }
+}
+
+/// The papers give the flat machine no model check and no flattening of its own.
+struct FlatMachine;
+
+impl Engine for FlatMachine {
+    fn check_model(&self, model: &[u8]) -> u64 {
+        reference::check_model(model)
+    }
+
+    fn start(&self, model: &[u8], run: &mut [u8]) -> Written {
+        flat_machine::start(model, run)
+    }
+
+    fn advance(
+        &self,
+        model: &[u8],
+        run: &mut [u8],
+        t: u64,
+        bag: &[u8],
+        trace: &mut [u8],
+    ) -> Advanced {
+        flat_machine::advance(model, run, t, bag, trace)
+    }
+
+    fn read(&self, model: &[u8], run: &[u8], position: u64) -> Reading {
+        flat_machine::read(model, run, position)
+    }
+
+    fn flatten(&self, model: &[u8], out: &mut [u8]) -> Written {
+        reference::flatten(model, out)
+    }
+}

@@ -1,0 +1,125 @@
+//! What the papers say of every call, tested on the outcome itself. A mistake that all engines share
+//! shows here and nowhere else.
+
+use crate::call::{Answer, Call};
+use reference::limits::{HIGHEST_PORT, ROOT_BAG, STEPS_OF_AN_INSTANT};
+use reference::little_endian::{u16_at, u64_at};
+use reference::model::Model;
+use reference::records::Message;
+use reference::saved_run::{self, SavedRun};
+use reference::trace::HEAD_BYTES;
+use reference::Advanced;
+
+/// The run buffer and the lent trace, before or after a call.
+pub struct Buffers<'b> {
+    pub run: &'b [u8],
+    pub trace: &'b [u8],
+}
+
+fn holds(condition: bool, what: &str) -> Result<(), String> {
+    condition.then_some(()).ok_or_else(|| format!("this does not hold: {what}"))
+}
+
+/// Tests an outcome on a model, or on a refused file where there is none.
+pub fn test(
+    model: Option<&Model>,
+    call: &Call,
+    answer: &Answer,
+    before: &Buffers,
+    after: &Buffers,
+) -> Result<(), String> {
+    let undone_instant = matches!(answer, Answer::Advanced(a) if matches!(a.number, 13..=15));
+    if answer.number() != 0 && !undone_instant {
+        holds(answer.is_otherwise_zero(), "a refusal comes with zeros")?;
+        return holds(
+            before.run == after.run && before.trace == after.trace,
+            "a refusal writes no byte",
+        );
+    }
+    let model = model.ok_or("a refused file gave an outcome")?;
+    let length = saved_run::length(model.atomics().len());
+    holds(before.run[length..] == after.run[length..], "bytes beyond the run stay")?;
+    holds(SavedRun::read_fitting(model, after.run).is_ok(), "the run fits afterwards")?;
+    match (call, answer) {
+        (Call::Start, Answer::Written(answer)) => {
+            let first = SavedRun::first(model).encode();
+            holds(after.run[..length] == first, "start writes the first run")?;
+            holds(answer.bytes == length as u64, "start answers the bytes of the run")
+        }
+        (Call::Advance { t, bag, .. }, Answer::Advanced(answer)) => {
+            test_advance(*t, !bag.is_empty(), answer, before, after)
+        }
+        (Call::Read { .. }, Answer::Reading(_)) => {
+            holds(before.run == after.run, "reading writes nothing")
+        }
+        _ => Err("an answer of another call".into()),
+    }
+}
+
+fn test_advance(
+    t: u64,
+    bag_given: bool,
+    answer: &Advanced,
+    before: &Buffers,
+    after: &Buffers,
+) -> Result<(), String> {
+    let used = answer.trace_bytes as usize;
+    holds(before.trace[used..] == after.trace[used..], "bytes past the trace's length stay")?;
+    let (open_before, open_after) = (u64_at(before.run, 0), u64_at(after.run, 0));
+    if answer.number == 0 {
+        holds(open_after == t + 1, "on success the open moment is t + 1")?;
+        holds(answer.instants > 0 || !bag_given, "a given bag is a step")?;
+    } else {
+        holds(open_after <= t, "the instant left undone is not before the open moment")?;
+        holds(
+            (answer.instants == 0) == (open_after == open_before),
+            "the open moment moves with the instants done",
+        )?;
+    }
+    if answer.instants == 0 {
+        holds(answer.steps == 0 && used == 0, "without an instant there is no step and no record")?;
+        let same = before.run[8..] == after.run[8..];
+        holds(same, "without an instant no atomic changes")?;
+    }
+    holds(answer.steps >= answer.instants, "an instant has a step")?;
+    holds(
+        answer.steps <= STEPS_OF_AN_INSTANT * answer.instants,
+        "an instant has 1,024 steps at most",
+    )?;
+    holds(answer.instants <= open_after - open_before, "each instant has its own moment")?;
+    let moments = moments_of_records(&after.trace[..used])?;
+    holds(moments.first().is_none_or(|&moment| moment >= open_before), "records are of this call")?;
+    holds(
+        moments.last().is_none_or(|&moment| moment < open_after),
+        "records are of done instants",
+    )?;
+    holds(moments.len() as u64 <= answer.instants, "records stand for steps of instants done")
+}
+
+/// The distinct moments of a trace, after testing that it is one.
+fn moments_of_records(trace: &[u8]) -> Result<Vec<u64>, String> {
+    let mut moments: Vec<u64> = Vec::new();
+    let mut previous = None;
+    let mut rest = trace;
+    while !rest.is_empty() {
+        holds(rest.len() >= HEAD_BYTES, "a record is whole")?;
+        let (moment, step) = (u64_at(rest, 0), u16_at(rest, 8));
+        let count = usize::from(u16_at(rest, 10));
+        holds(previous < Some((moment, step)), "moments and steps rise")?;
+        holds(u64::from(step) < STEPS_OF_AN_INSTANT, "steps are below 1,024")?;
+        holds((1..=ROOT_BAG).contains(&count), "a record has 1 to 4,096 messages")?;
+        rest = &rest[HEAD_BYTES..];
+        holds(rest.len() >= count * Message::BYTES, "a record has its messages")?;
+        let (bytes, after) = rest.split_at(count * Message::BYTES);
+        let messages: Vec<Message> =
+            bytes.chunks_exact(Message::BYTES).map(Message::read).collect();
+        holds(messages.windows(2).all(|pair| pair[0] <= pair[1]), "messages do not fall")?;
+        holds(messages.iter().all(|m| m.port <= HIGHEST_PORT), "ports are 0 to 3")?;
+        rest = after;
+        previous = Some((moment, step));
+        if moments.last() != Some(&moment) {
+            moments.push(moment);
+        }
+    }
+    Ok(moments)
+}

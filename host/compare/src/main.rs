@@ -1,0 +1,123 @@
+//! Holds engines against each other: the reference on the nest, the reference on the flat form, the
+//! flat machine, and with the feature `library` the proved static library.
+//!
+//! `compare --calls N --seed S` runs until N calls are compared; `--case K` repeats one case alone.
+//! The run fails where an answer or a byte of a lent buffer differs, where a line of the papers does
+//! not hold, and where a refusal number, a kind of transition or a boundary was never met.
+
+mod arguments;
+mod call;
+mod calls_on_model;
+mod cases;
+mod comparison;
+mod counts;
+mod engine;
+mod laws;
+mod lent;
+#[cfg(feature = "library")]
+mod library;
+mod models;
+mod naive_routes;
+mod notice;
+mod random;
+mod relations;
+mod runs;
+mod special;
+mod worked;
+#[cfg(test)]
+mod wrong_engines;
+
+use comparison::Comparison;
+use counts::Counts;
+use random::Random;
+use std::process::ExitCode;
+use std::time::Instant;
+
+struct Arguments {
+    calls: u64,
+    seed: u64,
+    case: Option<u64>,
+}
+
+fn arguments() -> Result<Arguments, String> {
+    let mut arguments = Arguments { calls: 100_000, seed: 1, case: None };
+    let mut words = std::env::args().skip(1);
+    while let Some(word) = words.next() {
+        let value = words.next().ok_or_else(|| format!("{word} wants a number"))?;
+        let value: u64 = value.parse().map_err(|_| format!("{value} is no number"))?;
+        match word.as_str() {
+            "--calls" => arguments.calls = value,
+            "--seed" => arguments.seed = value,
+            "--case" => arguments.case = Some(value),
+            _ => return Err(format!("{word} is not known")),
+        }
+    }
+    Ok(arguments)
+}
+
+/// Runs one case; a panic in it says which one it was.
+fn run_case(comparison: &mut Comparison, seed: u64, number: u64) -> Result<(), String> {
+    let mut random = Random::for_case(seed, number);
+    let told = TellOnPanic { seed, number };
+    let outcome = cases::case(comparison, &mut random, number as usize);
+    std::mem::forget(told);
+    outcome.map_err(|fault| format!("seed {seed}, case {number}: {fault}"))
+}
+
+struct TellOnPanic {
+    seed: u64,
+    number: u64,
+}
+
+impl Drop for TellOnPanic {
+    fn drop(&mut self) {
+        eprintln!("in seed {}, case {}", self.seed, self.number);
+    }
+}
+
+fn run(arguments: &Arguments, comparison: &mut Comparison) -> Result<(), String> {
+    if let Some(case) = arguments.case {
+        return run_case(comparison, arguments.seed, case);
+    }
+    worked::compare(comparison)?;
+    let mut case = 0;
+    while case < cases::fixed() as u64 || comparison.calls < arguments.calls {
+        run_case(comparison, arguments.seed, case)?;
+        case += 1;
+    }
+    println!("{case} cases");
+    Ok(())
+}
+
+fn main() -> ExitCode {
+    let arguments = match arguments() {
+        Ok(arguments) => arguments,
+        Err(fault) => {
+            eprintln!("{fault}");
+            return ExitCode::FAILURE;
+        }
+    };
+    let subjects = engine::subjects();
+    let names: Vec<&str> = subjects.iter().map(|subject| subject.name).collect();
+    println!("seed {}, engines: {}", arguments.seed, names.join("; "));
+    let counts = Counts::new(cases::names().into_iter().chain(notice::NOTICED));
+    let mut comparison = Comparison::new(subjects, counts);
+    let begun = Instant::now();
+    if let Err(fault) = run(&arguments, &mut comparison) {
+        eprintln!("DIFFERENT: {fault}");
+        return ExitCode::FAILURE;
+    }
+    println!("{} calls compared in {:.1} s", comparison.calls, begun.elapsed().as_secs_f64());
+    if arguments.case.is_some() {
+        return ExitCode::SUCCESS;
+    }
+    comparison.counts.print();
+    let faults = comparison.counts.faults();
+    faults.iter().for_each(|fault| eprintln!("NOT ENOUGH: {fault}"));
+    if faults.is_empty() {
+        println!("all engines agree, and everything was met");
+        ExitCode::SUCCESS
+    } else {
+        ExitCode::FAILURE
+    }
+}

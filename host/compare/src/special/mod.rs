@@ -1,0 +1,61 @@
+//! Cases made for one boundary of a step, an instant or the routes, with the outcome they must have.
+
+mod bags;
+mod steps;
+mod ways;
+
+use crate::call::{Answer, Call};
+use crate::comparison::{Compared, Comparison};
+use crate::random::Random;
+use reference::builder::Builder;
+use reference::saved_run;
+use reference::Advanced;
+
+pub type Special = fn(&mut Comparison, &mut Random) -> Compared<()>;
+
+pub const CASES: [Special; 14] = [
+    bags::largest_atomic_bags,
+    bags::atomic_bag_through_levels,
+    bags::largest_root_bags,
+    bags::root_bag_through_levels,
+    bags::bursts,
+    steps::zero_stay_steps,
+    steps::long_elapsed,
+    steps::highest_time,
+    steps::endless_with_output,
+    steps::endless_after_instants,
+    steps::only_zero_stays,
+    ways::divided_routes,
+    ways::factors_of_the_limit,
+    ways::ways_from_nothing,
+];
+
+/// The names of the boundaries that the cases count.
+pub fn names() -> impl Iterator<Item = &'static str> {
+    bags::NAMES.into_iter().chain(steps::NAMES).chain(ways::NAMES)
+}
+
+/// Starts a model and advances it once, expecting an answer.
+fn expect(
+    comparison: &mut Comparison,
+    random: &mut Random,
+    model: &Builder,
+    call: (u64, Vec<u8>, usize),
+    expected: Advanced,
+) -> Compared<Vec<u8>> {
+    let (t, bag, trace_length) = call;
+    let length = saved_run::length(model.model().atomics().len());
+    let beyond = random.index(4);
+    let mut list = comparison.list(&model.file(), &random.bytes(length + beyond));
+    list.call(&Call::Start)?;
+    let trace = random.bytes(trace_length);
+    let answer = list.call(&Call::Advance { t, bag, trace })?.answer;
+    if answer != Answer::Advanced(expected) {
+        return Err(format!("{answer:?} instead of {expected:?} at {t}"));
+    }
+    Ok(list.run().to_vec())
+}
+
+fn success(instants: u64, steps: u64, trace_bytes: u64) -> Advanced {
+    Advanced { number: 0, instants, steps, trace_bytes }
+}

@@ -1,0 +1,62 @@
+//! What the calls answer: the numbers of the papers' table, and one struct for each kind of call.
+
+pub const SUCCESS: u64 = 0;
+pub const CUT_OFF: u64 = 1;
+pub const LEFT_OVER: u64 = 2;
+pub const COUNT_LIMIT: u64 = 3;
+pub const BAD_COMPONENT: u64 = 4;
+pub const PHASE_SUM: u64 = 5;
+pub const BAD_PHASE: u64 = 6;
+pub const BAD_RULE: u64 = 7;
+pub const BAD_COUPLING: u64 = 8;
+pub const TOO_MANY_ROUTES: u64 = 9;
+pub const RUN_DOES_NOT_FIT: u64 = 10;
+pub const BAD_TIME: u64 = 11;
+pub const BAD_BAG: u64 = 12;
+pub const STILL_DUE: u64 = 13;
+pub const ROOT_BAG_LIMIT: u64 = 14;
+pub const BUFFER_TOO_SHORT: u64 = 15;
+pub const BAD_POSITION: u64 = 16;
+
+/// What start and flattening answer.
+#[derive(Clone, Copy, Debug, PartialEq, Eq)]
+pub struct Written {
+    pub number: u64,
+    pub bytes: u64,
+}
+
+/// What advance answers.
+#[derive(Clone, Copy, Debug, PartialEq, Eq)]
+pub struct Advanced {
+    pub number: u64,
+    pub instants: u64,
+    pub steps: u64,
+    pub trace_bytes: u64,
+}
+
+/// What reading answers.
+#[derive(Clone, Copy, Debug, PartialEq, Eq)]
+pub struct Reading {
+    pub number: u64,
+    pub phase: u64,
+    pub last: u64,
+    pub next_due: u64,
+}
+
+impl Written {
+    pub fn refused(number: u64) -> Written {
+        Written { number, bytes: 0 }
+    }
+}
+
+impl Advanced {
+    pub fn refused(number: u64) -> Advanced {
+        Advanced { number, instants: 0, steps: 0, trace_bytes: 0 }
+    }
+}
+
+impl Reading {
+    pub fn refused(number: u64) -> Reading {
+        Reading { number, phase: 0, last: 0, next_due: 0 }
+    }
+}

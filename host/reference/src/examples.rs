@@ -1,0 +1,133 @@
+//! Models whose outcome is known beforehand: the papers' worked example and some that stand at a limit.
+
+use crate::builder::{phase, rule, Builder, NEVER};
+use crate::records::Rule;
+
+/// "The two-phase cue source": component 2 with the given order, and the first coupling so many times.
+pub fn cue_source(order_of_second: u8, first_coupling: usize) -> Builder {
+    let mut model = Builder::new();
+    let source = model.atomic(0, &[phase(10, 1, &[(0, 7)]), phase(0, 0, &[(0, 8)])]);
+    let phases = [phase(NEVER, 0, &[]), phase(5, 0, &[(0, 100)]), phase(10, 0, &[(1, 8)])];
+    let second = model.atomic_from(0, 0, order_of_second, &phases);
+    model.rule(rule(second, 0, 7, 1));
+    model.rule(rule(second, 1, 8, 2));
+    model.couple_times(first_coupling, source, 0, second, 0);
+    model.couple(second, 0, 0, 0);
+    model.couple(second, 1, 0, 1);
+    model
+}
+
+/// One atomic of one phase with advance 0 and itself as next phase: no instant of it ends.
+pub fn endless() -> Builder {
+    let mut model = Builder::new();
+    model.atomic(0, &[phase(0, 0, &[])]);
+    model
+}
+
+/// How a `zero_stay_counter` counts.
+#[derive(Clone, Copy, Debug)]
+pub struct Counting {
+    /// Whether it waits for a given message (0, 5) and counts the step that brings it.
+    pub by_bag: bool,
+    pub cycle: u8,
+    pub rounds: u8,
+    pub tail: u8,
+}
+
+impl Counting {
+    /// The steps of its one instant.
+    pub fn steps(&self) -> u64 {
+        let rounds = u64::from(self.cycle) * u64::from(self.rounds);
+        u64::from(self.by_bag) + rounds + 1 + u64::from(self.tail)
+    }
+}
+
+/// Two atomics that take a known number of zero-stay steps in one instant and then rest. The first
+/// goes round a cycle of phases and tells the second of each round; after the last round the second
+/// stops it, and the first runs down a tail of phases. Each round and the stop are seen at the root.
+pub fn zero_stay_counter(counting: Counting) -> Builder {
+    let Counting { by_bag, cycle, rounds, tail } = counting;
+    let mut model = Builder::new();
+    let rest = cycle + tail;
+    let mut first_phases = Vec::new();
+    for number in 0..cycle {
+        let ends_round = number + 1 == cycle;
+        let outputs: &[(u8, u16)] = if ends_round { &[(0, 1)] } else { &[] };
+        first_phases.push(phase(0, if ends_round { 0 } else { number + 1 }, outputs));
+    }
+    for number in cycle..rest {
+        first_phases.push(phase(0, number + 1, &[]));
+    }
+    first_phases.push(phase(NEVER, rest, &[]));
+    let first = model.atomic_from(0, if by_bag { rest } else { 0 }, 0, &first_phases);
+    let mut second_phases: Vec<_> = (0..rounds).map(|number| phase(NEVER, number, &[])).collect();
+    second_phases.push(phase(0, rounds + 1, &[(0, 9)]));
+    second_phases.push(phase(NEVER, rounds + 1, &[]));
+    let second = model.atomic(0, &second_phases);
+    for number in 0..cycle {
+        model.rule(rule(first, number, 9, cycle));
+    }
+    model.rule(Rule { port: 1, ..rule(first, rest, 5, 0) });
+    for number in 0..rounds {
+        model.rule(rule(second, number, 1, number + 1));
+    }
+    model.couple(0, 0, first, 1);
+    model.couple(first, 0, second, 0);
+    model.couple(first, 0, 0, 0);
+    model.couple(second, 0, first, 0);
+    model.couple(second, 0, 0, 1);
+    model
+}
+
+/// An atomic with `ancestors` ancestors whose rows to its parent, and theirs on to the root's child,
+/// stand `times` times each, but none leads to the root: no route, and times^(ancestors − 1) ways.
+pub fn dead_ways(ancestors: usize, times: usize) -> Builder {
+    let mut model = Builder::new();
+    let innermost = model.coupled_chain(0, ancestors - 1);
+    let atomic = model.atomic(innermost, &[phase(1, 0, &[(0, 1), (0, 2), (0, 3), (0, 4)])]);
+    for child in 2..=atomic {
+        model.couple_times(times, child, 0, child - 1, 0);
+    }
+    model
+}
+
+/// A source `up` levels deep, a chain of empty coupled components beside it, and `times` rows for
+/// each link up, across and down: no route, and times^(links) ways.
+pub fn dead_ways_up_and_down(levels: usize, times: usize) -> Builder {
+    let mut model = Builder::new();
+    let innermost = model.coupled_chain(0, levels - 1);
+    let atomic = model.atomic(innermost, &[phase(1, 0, &[(0, 1), (0, 2)])]);
+    let beside = model.coupled(0);
+    let bottom = model.coupled_chain(beside, levels - 1);
+    for child in 2..=atomic {
+        model.couple_times(times, child, 0, child - 1, 0);
+    }
+    model.couple_times(times, 1, 0, beside, 0);
+    for child in beside + 1..=bottom {
+        model.couple_times(times, child - 1, 0, child, 0);
+    }
+    model
+}
+
+/// An atomic two levels deep, each of the two links to the root repeated: inner × outer routes.
+/// It puts out four messages at moment 3, so the root bag has four for each route.
+pub fn repeated_way_out(inner: usize, outer: usize) -> Builder {
+    let mut model = Builder::new();
+    let around = model.coupled(0);
+    let outputs = [(0, 9), (0, 256), (0, 256), (0, 300)];
+    let atomic = model.atomic(around, &[phase(3, 1, &outputs), phase(NEVER, 0, &[])]);
+    model.couple_times(inner, atomic, 0, around, 0);
+    model.couple_times(outer, around, 0, 0, 1);
+    model
+}
+
+/// An atomic with `rows` rows from the root's input and a rule that wants `least` messages: with a
+/// given bag of 16 its own bag has 16 for each row.
+pub fn atomic_behind_rows(rows: usize, least: u16) -> Builder {
+    let mut model = Builder::new();
+    let atomic = model.atomic(0, &[phase(NEVER, 0, &[]), phase(7, 0, &[(2, 1)])]);
+    let any_value = Rule { low_value: 0, high_value: 65_535, ..rule(atomic, 0, 0, 1) };
+    model.rule(Rule { least_count: least, ..any_value });
+    model.couple_times(rows, 0, 0, atomic, 0);
+    model
+}

@@ -1,0 +1,198 @@
+//! The flat machine, written from its own section of the papers. It is fed a model's flat form, and
+//! its state is the bytes of the run buffer. It shares with the nest only the lines of a single
+//! atomic, the byte forms, and the table's checks of a call.
+
+use crate::answers::{
+    Advanced, Reading, Written, BAD_POSITION, BUFFER_TOO_SHORT, ROOT_BAG_LIMIT, STILL_DUE, SUCCESS,
+};
+use crate::atomic::Atomic;
+use crate::checks;
+use crate::limits;
+use crate::little_endian::{put_u64, u64_at};
+use crate::model::Model;
+use crate::records::{Coupling, Message};
+use crate::saved_run::{self, ATOMIC_BYTES, HEAD_BYTES};
+use crate::trace::write_record;
+
+/// Start writes its run, as on the nest: it concerns single atomics only.
+pub fn start(flat: &[u8], run: &mut [u8]) -> Written {
+    saved_run::start(flat, run)
+}
+
+/// Reading answers from the state.
+pub fn read(flat: &[u8], run: &[u8], position: u64) -> Reading {
+    let model = match checks::model_and_run(flat, run) {
+        Ok((model, _)) => model,
+        Err(number) => return Reading::refused(number),
+    };
+    let machine = Machine::new(&model);
+    if position >= machine.atomics.len() as u64 {
+        return Reading::refused(BAD_POSITION);
+    }
+    let rank = position as usize;
+    Reading {
+        number: SUCCESS,
+        phase: u64::from(phase(run, rank)),
+        last: last(run, rank),
+        next_due: machine.next_due(run).unwrap_or(limits::NEVER_DUE),
+    }
+}
+
+/// Advance takes its instants in turn, each on a copy of the state.
+pub fn advance(flat: &[u8], run: &mut [u8], t: u64, bag: &[u8], trace: &mut [u8]) -> Advanced {
+    let (model, given) = match checks::model_and_run(flat, run)
+        .and_then(|(model, saved)| Ok((model, checks::time_and_bag(saved.open, t, bag)?)))
+    {
+        Ok(both) => both,
+        Err(number) => return Advanced::refused(number),
+    };
+    let machine = Machine::new(&model);
+    let mut answer = Advanced::refused(SUCCESS);
+    while let Some(moment) = machine.next_instant(run, t, &given) {
+        let mut copy = run[..saved_run::length(machine.atomics.len())].to_vec();
+        let mut records = Vec::new();
+        let given_here = if moment == t { &given[..] } else { &[] };
+        let steps = match machine.steps_at(&mut copy, moment, given_here, &mut records) {
+            Ok(steps) => steps,
+            Err(number) => return Advanced { number, ..answer },
+        };
+        let room = trace.len() as u64 - answer.trace_bytes;
+        if records.len() as u64 > room {
+            return Advanced { number: BUFFER_TOO_SHORT, ..answer };
+        }
+        put_u64(&mut copy, 0, moment + 1);
+        run[..copy.len()].copy_from_slice(&copy);
+        let rest = &mut trace[answer.trace_bytes as usize..];
+        rest[..records.len()].copy_from_slice(&records);
+        answer.instants += 1;
+        answer.steps += steps;
+        answer.trace_bytes += records.len() as u64;
+    }
+    put_u64(run, 0, t + 1);
+    answer
+}
+
+struct Machine<'m> {
+    atomics: Vec<Atomic<'m>>,
+    couplings: &'m [Coupling],
+}
+
+/// A message at the port that it leaves: an atomic by its rank from 1, or the root's input as 0.
+struct Sent {
+    source: usize,
+    message: Message,
+}
+
+fn phase(state: &[u8], rank: usize) -> u8 {
+    state[HEAD_BYTES + ATOMIC_BYTES * rank]
+}
+
+fn last(state: &[u8], rank: usize) -> u64 {
+    u64_at(state, HEAD_BYTES + ATOMIC_BYTES * rank + 1)
+}
+
+fn open_moment(state: &[u8]) -> u64 {
+    u64_at(state, 0)
+}
+
+impl<'m> Machine<'m> {
+    fn new(flat: &'m Model) -> Machine<'m> {
+        let components = flat.components.len();
+        assert!(
+            (1..components).all(|number| flat.components[number].is_atomic()),
+            "the flat machine is fed a flat form"
+        );
+        let atomics = (1..components).map(|number| Atomic::new(flat, number)).collect();
+        Machine { atomics, couplings: &flat.couplings }
+    }
+
+    fn due(&self, state: &[u8], rank: usize) -> Option<u64> {
+        let advance = self.atomics[rank].time_advance(phase(state, rank))?;
+        Some(last(state, rank) + advance)
+    }
+
+    fn next_due(&self, state: &[u8]) -> Option<u64> {
+        (0..self.atomics.len()).filter_map(|rank| self.due(state, rank)).min()
+    }
+
+    /// The moment of the next instant up to t. What has been done lies before the open moment, so
+    /// after the instant at t, or without one there, nothing is left.
+    fn next_instant(&self, state: &[u8], t: u64, given: &[Message]) -> Option<u64> {
+        let bag_waits = !given.is_empty() && open_moment(state) <= t;
+        match self.next_due(state) {
+            Some(due) if due <= t => Some(due),
+            _ if bag_waits => Some(t),
+            _ => None,
+        }
+    }
+
+    /// Takes the steps of the instant at a moment, or answers its number of the row "each instant".
+    fn steps_at(
+        &self,
+        state: &mut [u8],
+        moment: u64,
+        given: &[Message],
+        records: &mut Vec<u8>,
+    ) -> Result<u64, u64> {
+        let mut root_bags = Vec::new();
+        root_bags.push(self.step(state, moment, given));
+        while self.next_due(state) == Some(moment) {
+            if root_bags.len() as u64 == limits::STEPS_OF_AN_INSTANT {
+                return Err(STILL_DUE);
+            }
+            root_bags.push(self.step(state, moment, &[]));
+        }
+        if root_bags.iter().any(|bag| bag.len() > limits::ROOT_BAG) {
+            return Err(ROOT_BAG_LIMIT);
+        }
+        let steps = root_bags.len() as u64;
+        for (step, bag) in (0..).zip(root_bags).filter(|(_, bag)| !bag.is_empty()) {
+            write_record(records, moment, step, bag);
+        }
+        Ok(steps)
+    }
+
+    /// One step: outputs, then every message along each coupling from its port, then all atomics
+    /// change together. Answers the root's output bag.
+    fn step(&self, state: &mut [u8], moment: u64, given: &[Message]) -> Vec<Message> {
+        let is_due: Vec<bool> =
+            (0..self.atomics.len()).map(|rank| self.due(state, rank) == Some(moment)).collect();
+        let mut sent: Vec<Sent> =
+            given.iter().map(|&message| Sent { source: 0, message }).collect();
+        for (rank, atomic) in self.atomics.iter().enumerate().filter(|(rank, _)| is_due[*rank]) {
+            let output = atomic.output(phase(state, rank));
+            sent.extend(output.iter().map(|&message| Sent { source: rank + 1, message }));
+        }
+        let mut bags = self.deliver(&sent);
+        for (rank, atomic) in self.atomics.iter().enumerate() {
+            let bag = &bags[rank + 1];
+            let old = phase(state, rank);
+            let new = match (is_due[rank], bag.is_empty()) {
+                (true, true) => atomic.internal(old),
+                (false, false) => atomic.external(old, moment - last(state, rank), bag).phase,
+                (true, false) => atomic.confluent(old, bag).phase,
+                (false, true) => continue,
+            };
+            let at = HEAD_BYTES + ATOMIC_BYTES * rank;
+            state[at] = new;
+            put_u64(state, at + 1, moment);
+        }
+        bags.swap_remove(0)
+    }
+
+    /// What reaches each component: the root's output bag at 0, the atomics' bags from 1.
+    fn deliver(&self, sent: &[Sent]) -> Vec<Vec<Message>> {
+        let mut bags = vec![Vec::new(); self.atomics.len() + 1];
+        for Sent { source, message } in sent {
+            let port = (*source as u8, message.port);
+            // The rows stand in order, so those from one port stand together.
+            let from = |row: &Coupling| (row.source, row.source_port);
+            let first = self.couplings.partition_point(|row| from(row) < port);
+            for row in self.couplings[first..].iter().take_while(|row| from(row) == port) {
+                bags[usize::from(row.target)]
+                    .push(Message { port: row.target_port, value: message.value });
+            }
+        }
+        bags
+    }
+}

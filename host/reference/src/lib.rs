@@ -1,0 +1,45 @@
+//! A second implementation of the timing engine, written from the papers alone: Parallel DEVS models
+//! run by tables. It is literal and slow, and is there to be compared with.
+//!
+//! `check_model`, `start`, `advance`, `read` and `flatten` work on the nest: each coupled component is
+//! a coordinator that acts as the resultant of its children. `flat_machine` holds a machine of its own
+//! for flat forms. Every function takes whole buffers and answers the numbers of the papers' table.
+
+pub mod advance;
+pub mod answers;
+pub mod atomic;
+pub mod builder;
+pub mod checks;
+pub mod decode;
+pub mod examples;
+pub mod flat_machine;
+pub mod flatten;
+pub mod limits;
+pub mod little_endian;
+pub mod model;
+pub mod nest;
+pub mod observed;
+pub mod records;
+pub mod resultant;
+pub mod root_coordinator;
+pub mod routes;
+pub mod saved_run;
+pub mod trace;
+
+pub use advance::read;
+pub use answers::{Advanced, Reading, Written};
+pub use flatten::flatten;
+pub use saved_run::start;
+
+use nest::DeadWays;
+use observed::Observed;
+
+/// The number by which a model file is refused, or 0.
+pub fn check_model(model: &[u8]) -> u64 {
+    decode::decode(model).err().unwrap_or(answers::SUCCESS)
+}
+
+/// Advances a run to the moment t, with the bag given there.
+pub fn advance(model: &[u8], run: &mut [u8], t: u64, bag: &[u8], trace: &mut [u8]) -> Advanced {
+    advance::advance(model, run, t, bag, trace, DeadWays::Dropped, &mut Observed::default())
+}

@@ -1,0 +1,145 @@
+//! What the tests share: a call made on the nest, on the nest with dead ways kept where that is
+//! possible, on the flat form, and on the flat machine, with the same outcome on all of them.
+#![allow(dead_code)]
+
+use reference::builder::Builder;
+use reference::decode::decode;
+use reference::nest::DeadWays;
+use reference::observed::Observed;
+use reference::records::Message;
+use reference::saved_run::{self, SavedRun};
+use reference::{flat_machine, routes, Advanced, Reading};
+
+/// The byte that lent buffers are filled with beforehand.
+pub const JUNK: u8 = 0xA5;
+
+pub fn flat(file: &[u8]) -> Vec<u8> {
+    let mut out = vec![JUNK; 40_000];
+    let answer = reference::flatten(file, &mut out);
+    assert_eq!(answer.number, 0);
+    let length = answer.bytes as usize;
+    assert!(out[length..].iter().all(|&byte| byte == JUNK));
+    out.truncate(length);
+    out
+}
+
+/// A run buffer with a started run and some bytes beyond it.
+pub fn started(file: &[u8]) -> Vec<u8> {
+    let atomics = decode(file).expect("an accepted model").atomics().len();
+    let length = saved_run::length(atomics);
+    let mut run = vec![JUNK; length + 5];
+    let answer = reference::start(file, &mut run);
+    assert_eq!((answer.number, answer.bytes), (0, length as u64));
+    assert_eq!(run[length..], [JUNK; 5]);
+    run
+}
+
+pub fn advance(file: &[u8], run: &mut [u8], t: u64, bag: &[u8], trace: &mut [u8]) -> Advanced {
+    advance_observed(file, run, t, bag, trace).0
+}
+
+pub fn advance_observed(
+    file: &[u8],
+    run: &mut [u8],
+    t: u64,
+    bag: &[u8],
+    trace: &mut [u8],
+) -> (Advanced, Observed) {
+    let model = decode(file).expect("an accepted model");
+    let flat = flat(file);
+    let few_ways = routes::ports_passed(&model) < 10_000;
+    let literal = if few_ways { DeadWays::Kept } else { DeadWays::Dropped };
+    let mut observed = Observed::default();
+    let mut others = [
+        (run.to_vec(), trace.to_vec()),
+        (run.to_vec(), trace.to_vec()),
+        (run.to_vec(), trace.to_vec()),
+    ];
+    let answer =
+        reference::advance::advance(file, run, t, bag, trace, DeadWays::Dropped, &mut observed);
+    let [kept, on_flat, machine] = &mut others;
+    let answers = [
+        reference::advance::advance(
+            file,
+            &mut kept.0,
+            t,
+            bag,
+            &mut kept.1,
+            literal,
+            &mut Observed::default(),
+        ),
+        reference::advance(&flat, &mut on_flat.0, t, bag, &mut on_flat.1),
+        flat_machine::advance(&flat, &mut machine.0, t, bag, &mut machine.1),
+    ];
+    assert_eq!(answers, [answer; 3]);
+    for other in &others {
+        assert!(other.0 == run, "the run buffers differ");
+        assert!(other.1 == trace, "the traces differ");
+    }
+    (answer, observed)
+}
+
+pub fn read(file: &[u8], run: &[u8], position: u64) -> Reading {
+    let reading = reference::read(file, run, position);
+    assert_eq!(flat_machine::read(&flat(file), run, position), reading);
+    reading
+}
+
+/// Phase and last moment of each atomic, and the open moment before them.
+pub fn standing(file: &[u8], run: &[u8]) -> (u64, Vec<(u8, u64)>) {
+    let saved = SavedRun::read_fitting(&decode(file).unwrap(), run).expect("a fitting run");
+    (saved.open, saved.atomics.iter().map(|atomic| (atomic.phase, atomic.last)).collect())
+}
+
+/// The records of a trace: moment, step, and pairs of port and value.
+pub type Record = (u64, u16, Vec<(u8, u16)>);
+
+pub fn records(trace: &[u8]) -> Vec<Record> {
+    let mut rest = trace;
+    let mut records = Vec::new();
+    while !rest.is_empty() {
+        let moment = u64::from_le_bytes(rest[..8].try_into().unwrap());
+        let step = u16::from_le_bytes(rest[8..10].try_into().unwrap());
+        let count = usize::from(u16::from_le_bytes(rest[10..12].try_into().unwrap()));
+        let (messages, after) = rest[12..].split_at(3 * count);
+        let messages = messages.chunks_exact(3).map(Message::read);
+        records.push((moment, step, messages.map(|m| (m.port, m.value)).collect()));
+        rest = after;
+    }
+    records
+}
+
+/// What one advance call on a started model gives.
+pub struct Outcome {
+    pub answer: (u64, u64, u64, u64),
+    pub records: Vec<Record>,
+    pub open: u64,
+    pub atomics: Vec<(u8, u64)>,
+    pub observed: Observed,
+}
+
+/// Starts a model and advances it once, with a trace of the given length.
+pub fn run_with(model: &Builder, t: u64, bag: &[u8], trace_length: usize) -> Outcome {
+    let file = model.file();
+    let mut run = started(&file);
+    let mut trace = vec![JUNK; trace_length];
+    let (answer, observed) = advance_observed(&file, &mut run, t, bag, &mut trace);
+    let length = answer.trace_bytes as usize;
+    assert!(trace[length..].iter().all(|&byte| byte == JUNK), "bytes past the length stay");
+    let (open, atomics) = standing(&file, &run);
+    Outcome {
+        answer: (answer.number, answer.instants, answer.steps, answer.trace_bytes),
+        records: records(&trace[..length]),
+        open,
+        atomics,
+        observed,
+    }
+}
+
+pub fn run(model: &Builder, t: u64, bag: &[u8]) -> Outcome {
+    run_with(model, t, bag, 16_384)
+}
+
+pub fn check(model: &Builder) -> u64 {
+    reference::check_model(&model.file())
+}
