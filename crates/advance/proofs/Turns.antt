@@ -15,6 +15,7 @@ use Rattle.definition.specs.Devs.{Time, finite, never}
 use Rattle.definition.specs.Step.{Simulator}
 use Rattle.definition.specs.Instant.{Instant, instant}
 use Rattle.definition.specs.Advance.{Progress, Ended, ended, tried, continued, succeeded, isBefore, moment, advancing}
+use Rattle.clock.specs.declared.Due.{Due}
 use Rattle.run_state.specs.declared.State.{State}
 use Rattle.attempt.specs.Progress.{progressOf, triedOf, Beyond, Attempted}
 use Rattle.attempt.specs.declared.Going.{Going}
@@ -72,14 +73,14 @@ goes-no on p m = refl
 
 -- ---- one turn of the code
 
-abbrev reopened : ℕ → Going → Ending
-reopened t g = record { number = 0; going = record { opening = record { 0 = suc t }; instants = g .instants; steps = g .steps; used = g .used; state = g .state } }
+abbrev reopened : ℕ → Going → Due → Ending
+reopened t g due = record { number = 0; going = record { opening = record { 0 = suc t }; instants = g .instants; steps = g .steps; used = g .used; state = g .state }; due = due }
 
-succeeded-as : (t : ℕ) (trace : Bytes) (g : Going) → succeeded t (progressOf trace g) ≡ endedOf trace (reopened t g)
+succeeded-as : (t : ℕ) (trace : Bytes) (g : Going) (due : Due) → succeeded t (progressOf trace g) ≡ endedOf trace (reopened t g due)
 unfolding succeeded progressOf
-succeeded-as t trace g = refl
+succeeded-as t trace g due = refl
 
-finished-ok : (t : ℕ) (e : Ending) → eqb (e .number) 0 ≡ true → finishedOf t e ≡ reopened t (e .going)
+finished-ok : (t : ℕ) (e : Ending) → eqb (e .number) 0 ≡ true → finishedOf t e ≡ reopened t (e .going) (e .due)
 unfolding finishedOf
 finished-ok t e q = rw q
 
@@ -117,7 +118,7 @@ module _ (k : Simulator State) (t : ℕ) (x : Bag) (g : Going) (trace trace′ :
       go : (b : Bool) → eqb (e .number) 0 ≡ b → continued (succeeded t) p (triedOf trace′ e) ≡ endedOf trace′ (finishedOf t e)
       go true q =
           ap (continued (succeeded t) p) (tried-ok trace′ e q) ∙ goes-ok (succeeded t) p (progressOf trace′ (e .going))
-          ∙ succeeded-as t trace′ (e .going) ∙ ap (endedOf trace′) (sym (finished-ok t e q))
+          ∙ succeeded-as t trace′ (e .going) (e .due) ∙ ap (endedOf trace′) (sym (finished-ok t e q))
       go false q =
           ap (continued (succeeded t) p) (tried-no trace′ e q) ∙ goes-no (succeeded t) p (e .number)
           ∙ ap (ended (e .number)) (left-as t g trace trace′ (instant k t x (g .state)) e a (eqb-false (e .number) 0 q)) ∙ ap (endedOf trace′) (sym (finished-no t e q))

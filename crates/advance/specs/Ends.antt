@@ -21,7 +21,7 @@ unfoldable pub finishedOf : ℕ → Ending → Ending
 finishedOf t e =
     let g = e .going in
     cond (eqb (e .number) 0)
-    (record { number = 0; going = record { opening = record { 0 = suc t }; instants = g .instants; steps = g .steps; used = g .used; state = g .state } }) e
+    (record { number = 0; going = record { opening = record { 0 = suc t }; instants = g .instants; steps = g .steps; used = g .used; state = g .state }; due = e .due }) e
 
 -- The same end with the entries that the state of n atomics holds.
 unfoldable pub savedEnd : ℕ → Ended State → Ended (List Entry)

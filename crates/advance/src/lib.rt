@@ -1,6 +1,7 @@
 // Advance, behind its checks: every instant due before t, then t with the bag; the numbers, the whole run and the whole trace.
 ghost use mathlib.Core.Path.{_≡_};
 ghost use mathlib.Core.Bool.{cond};
+ghost use mathlib.Core.List.{[]};
 ghost use Prim.Native.Nat.{suc, _+_, _*_, _≤_};
 ghost use lib.ListN.{length};
 ghost use Rattle.definition.specs.Bytes.{ok};
@@ -50,7 +51,21 @@ fn finish(t: Moment, e: Ending) -> Ending
     let opening = Moment(t.0 + 1);
     let mut going = e.going;
     going.opening = opening;
-    Ending { number: 0, going }
+    let due = e.due;
+    Ending {
+        number: 0,
+        going,
+        due,
+    }
+}
+
+// When a state is next due.
+fn due_of(phases: &[u8], tables: &[u16], st: State) -> Due
+    ensures { λ r. ⌜ timeOf r ≡ simOf (now (phases .entry)) [] (now (tables .entry)) 0 0 .next st ⌝ }
+{
+    let phase = st.phase;
+    let last = st.last;
+    next_due(phases, tables, &phase, &last)
 }
 
 // The instants of a call that has come so far. Each takes one of t + 1 turns, so that the loop ends without a word about moments.
@@ -74,9 +89,10 @@ pub fn advance_on(
         × Beyond (now (trace .entry)) (now (trace .exit)) (r .going .used) ⌝ }
 {
     let mut g = from;
+    let mut due = due_of(phases, tables, g.state);
     let mut left = t.0 + 1;
     while 0 < left {
-        let at = next_moment(next_due(phases, tables, g.state), t);
+        let at = next_moment(due, t);
         if t.0 <= at.0 {
             return finish(
                 t,
@@ -89,6 +105,7 @@ pub fn advance_on(
                     bag,
                     bag.len(),
                     g,
+                    due,
                     work,
                     keys,
                     scratch,
@@ -105,6 +122,7 @@ pub fn advance_on(
             bag,
             0,
             g,
+            due,
             work,
             keys,
             scratch,
@@ -114,11 +132,13 @@ pub fn advance_on(
             return e;
         }
         g = e.going;
+        due = e.due;
         left = left - 1;
     }
     Ending {
         number: 0,
         going: g,
+        due,
     }
 }
 

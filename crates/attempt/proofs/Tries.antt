@@ -14,6 +14,7 @@ use Rattle.definition.specs.Model.{Bag}
 use Rattle.definition.specs.Instant.{Instant, done, jammed, records, over}
 use Rattle.definition.specs.Advance.{Progress, tried}
 use Rattle.laws.proofs.Sorting.{clash}
+use Rattle.clock.specs.declared.Due.{Due}
 use Rattle.run_state.specs.declared.State.{State}
 use Rattle.store_laws.proofs.Stores.{take-sets, drop-sets}
 use Rattle.instant.specs.Verdicts.{ranOf, Recorded, Judged}
@@ -84,21 +85,21 @@ Said now from i r VV.Jammed = i ≡ jammed
 Said now from i r VV.Over = Overs i
 Said now from i r VV.Stands = Stands now from i r
 
-said : (now from : ℕ) (st : State) (i : Instant State) → Said now from i (ranOf now from st i) (ranOf now from st i .verdict)
+said : (now from : ℕ) (st : State) (i : Instant State) (due : Due) → Said now from i (ranOf now from st i due) (ranOf now from st i due .verdict)
 unfolding ranOf
-said now from st jammed = refl
-said now from st (done xs s) = go (over xs) refl
+said now from st jammed due = refl
+said now from st (done xs s) due = go (over xs) refl
   where
     go : (b : Bool) → over xs ≡ b
         → Said now from (done xs s)
-        (cond {A = Ran} b (record { verdict = VV.Over; steps = 0; used = from; state = st }) (record { verdict = VV.Stands; steps = length xs; used = from + length (records now xs); state = s }))
-        (cond {A = Ran} b (record { verdict = VV.Over; steps = 0; used = from; state = st }) (record { verdict = VV.Stands; steps = length xs; used = from + length (records now xs); state = s }) .verdict)
+        (cond {A = Ran} b (record { verdict = VV.Over; steps = 0; used = from; due = due; state = st }) (record { verdict = VV.Stands; steps = length xs; used = from + length (records now xs); due = due; state = s }))
+        (cond {A = Ran} b (record { verdict = VV.Over; steps = 0; used = from; due = due; state = st }) (record { verdict = VV.Stands; steps = length xs; used = from + length (records now xs); due = due; state = s }) .verdict)
     go true e = record { bags = xs; state = s; same = refl; unfit = e }
     go false e = record { bags = xs; same = refl; fit = e; steps = refl; used = refl }
 
-module _ (now from : ℕ) (st : State) (i : Instant State) (r : Ran) (e : r ≡ ranOf now from st i) where
+module _ (now from : ℕ) (st : State) (i : Instant State) (r : Ran) (e : r ≡ ranOf now from st i (r .due)) where
   told : (v : Verdict) → r .verdict ≡ v → Said now from i r v
-  told v h = subst (λ (w : Verdict). Said now from i r w) h (subst (λ (q : Ran). Said now from i q (q .verdict)) (sym e) (said now from st i))
+  told v h = subst (λ (w : Verdict). Said now from i r w) h (subst (λ (q : Ran). Said now from i q (q .verdict)) (sym e) (said now from st i (r .due)))
 
   pub told-jams : r .verdict ≡ VV.Jammed → i ≡ jammed
   told-jams h = told VV.Jammed h
@@ -111,29 +112,29 @@ module _ (now from : ℕ) (st : State) (i : Instant State) (r : Ran) (e : r ≡ 
 
 -- ---- nothing of it stands
 
-module _ (now : ℕ) (g : Going) (trace : Bytes) (i : Instant State) (h : g .used ≤ length trace) where
-  left : (m : ℕ) → triedOf trace (record { number = m; going = g }) ≡ tried (length trace) now (progressOf trace g) i
-      → Attempted now g trace trace i (record { number = m; going = g })
+module _ (now : ℕ) (g : Going) (due : Due) (trace : Bytes) (i : Instant State) (h : g .used ≤ length trace) where
+  left : (m : ℕ) → triedOf trace (record { number = m; going = g; due = due }) ≡ tried (length trace) now (progressOf trace g) i
+      → Attempted now g trace trace i (record { number = m; going = g; due = due })
   left m s = record { same = s; beyond = (h, refl, refl); undone = λ _. (refl, refl); more = omega arith; instants = omega arith; steps = omega arith }
 
-  pub attempt-jams : i ≡ jammed → Attempted now g trace trace i (record { number = 13; going = g })
+  pub attempt-jams : i ≡ jammed → Attempted now g trace trace i (record { number = 13; going = g; due = due })
   attempt-jams e = left 13 (rw e (sym (tried-jams (length trace) now (progressOf trace g))))
 
-  pub attempt-over : Overs i → Attempted now g trace trace i (record { number = 14; going = g })
+  pub attempt-over : Overs i → Attempted now g trace trace i (record { number = 14; going = g; due = due })
   attempt-over o = left 14 (rw (o .same) (sym (tried-over (length trace) now (progressOf trace g) (o .bags) (o .state) (o .unfit))))
 
   module _ (d : Ran) (s : Stands now 0 i d) where
     abbrev recs : Bytes
     recs = records now (s .bags)
 
-    pub attempt-none : d .steps ≡ 0 → Attempted now g trace trace i (record { number = 0; going = g })
+    pub attempt-none : d .steps ≡ 0 → Attempted now g trace trace i (record { number = 0; going = g; due = due })
     attempt-none z = left 0 (rw (s .same) (sym (tried-none (length trace) now (progressOf trace g) (s .bags) (d .state) (omega (arith, s .steps)))))
 
     sized : length (progressOf trace g .trace ++ recs) ≡ g .used + d .used
     unfolding progressOf
     sized = omega (arith, length-append (take (g .used) trace) recs, length-take-le (g .used) trace h, s .used)
 
-    pub attempt-full : (d .steps ≡ 0 → ⊥) → length trace - g .used < d .used → Attempted now g trace trace i (record { number = 15; going = g })
+    pub attempt-full : (d .steps ≡ 0 → ⊥) → length trace - g .used < d .used → Attempted now g trace trace i (record { number = 15; going = g; due = due })
     attempt-full z l =
         left 15
         (rw (s .same)
@@ -158,7 +159,7 @@ module _ (now : ℕ) (g : Going) (trace : Bytes) (i : Instant State) (h : g .use
           let j : g .instants + 1 ≡ suc (g .instants) = omega arith in
           rw (o, j, s .steps, size, put, take-sets trace recs (g .used) within)
 
-      pub attempt-done : (d .steps ≡ 0 → ⊥) → d .steps ≤ maxSteps → Attempted now g trace trace′ i (record { number = 0; going = onward })
+      pub attempt-done : (d .steps ≡ 0 → ⊥) → d .steps ≤ maxSteps → Attempted now g trace trace′ i (record { number = 0; going = onward; due = d .due })
       attempt-done z b = record {
         same = rw (s .same) (ap ok stands-as ∙ sym (tried-done (length trace) now (progressOf trace g) (s .bags) (d .state) (s .fit) (λ w. z (s .steps ∙ w)) (omega (arith, sized))));
         beyond = (omega arith, rw put (length-sets trace (g .used) recs), rw (size, put) (drop-sets trace recs (g .used) within));

@@ -6,9 +6,10 @@ ghost use lib.Seq.{sets};
 ghost use Rattle.definition.specs.Limits.{maxSteps};
 ghost use Rattle.definition.specs.Instant.{instant};
 ghost use Rattle.definition.specs.Engine.{toBag};
-ghost use Rattle.clock.specs.Times.{latest};
+ghost use Rattle.clock.specs.Times.{timeOf, latest};
 ghost use Rattle.instant.specs.Sim.{simOf, Lent};
 ghost use Rattle.attempt.specs.Progress.{Attempted};
+use clock::Due;
 use clock::Moment;
 use instant::Verdict;
 use instant::instant;
@@ -30,10 +31,11 @@ pub struct Going {
     pub state: State,
 }
 
-// A number, 0 where nothing hinders, and how far the call has come.
+// A number, 0 where nothing hinders, how far the call has come, and when its state is next due.
 pub struct Ending {
     pub number: u64,
     pub going: Going,
+    pub due: Due,
 }
 
 // The first n bytes of a slice, put at a position of another.
@@ -48,7 +50,7 @@ fn copy(from: &[u8], n: usize, to: &mut [u8], at: usize)
     }
 }
 
-// The instant at a moment. A first pass into the scratch gives the verdict; where the records fit there they are copied, and otherwise
+// The instant at a moment; `due` is when the state is next due. A first pass into the scratch gives the verdict; where the records fit there they are copied, and otherwise
 // a second pass puts them into the trace.
 pub fn attempt(
     phases: &[u8],
@@ -59,15 +61,18 @@ pub fn attempt(
     bag: &[u8],
     len: usize,
     g: Going,
+    due: Due,
     work: &mut [u32],
     keys: &mut [u32],
     scratch: &mut [u8],
     trace: &mut [u8],
 ) -> Ending
     requires { ⌜ Lent n (length (now work)) (length (now keys)) × (g .used ≤ length (now trace))
-        × (at .0 < latest) × (g .instants < latest) × (g .steps + maxSteps ≤ latest) ⌝ }
+        × (at .0 < latest) × (g .instants < latest) × (g .steps + maxSteps ≤ latest)
+        × (timeOf due ≡ simOf (now phases) (now rules) (now tables) n (length (now work)) .next (g .state)) ⌝ }
     ensures { λ r. ⌜ Attempted (at .0) g (now (trace .entry)) (now (trace .exit))
-        (instant (simOf (now (phases .entry)) (now (rules .entry)) (now (tables .entry)) n (length (now (work .entry)))) (at .0) (toBag (take len (now (bag .entry)))) (g .state)) r ⌝ }
+        (instant (simOf (now (phases .entry)) (now (rules .entry)) (now (tables .entry)) n (length (now (work .entry)))) (at .0) (toBag (take len (now (bag .entry)))) (g .state)) r
+        × (timeOf (r .due) ≡ simOf (now (phases .entry)) (now (rules .entry)) (now (tables .entry)) n (length (now (work .entry))) .next (r .going .state)) ⌝ }
 {
     let before = g.state;
     let first = instant(
@@ -79,6 +84,7 @@ pub fn attempt(
         bag,
         len,
         before,
+        due,
         work,
         keys,
         scratch,
@@ -90,12 +96,14 @@ pub fn attempt(
             return Ending {
                 number: STILL_DUE,
                 going: g,
+                due,
             };
         }
         Verdict::Over => {
             return Ending {
                 number: BAG_TOO_LARGE,
                 going: g,
+                due,
             };
         }
         Verdict::Stands => {}
@@ -104,15 +112,18 @@ pub fn attempt(
         return Ending {
             number: 0,
             going: g,
+            due,
         };
     }
     if trace.len() - g.used < first.used {
         return Ending {
             number: TRACE_TOO_SHORT,
             going: g,
+            due,
         };
     }
     let after = first.state;
+    let later = first.due;
     let opening = Moment(at.0 + 1);
     let next = Going {
         opening,
@@ -126,6 +137,7 @@ pub fn attempt(
         return Ending {
             number: 0,
             going: next,
+            due: later,
         };
     }
     instant(
@@ -137,6 +149,7 @@ pub fn attempt(
         bag,
         len,
         before,
+        due,
         work,
         keys,
         trace,
@@ -145,5 +158,6 @@ pub fn attempt(
     Ending {
         number: 0,
         going: next,
+        due: later,
     }
 }

@@ -7,6 +7,8 @@ ghost use lib.ListN.{getD};
 ghost use Rattle.definition.specs.Devs.{sameTime, finite};
 ghost use Rattle.clock.specs.Times.{timeOf};
 ghost use Rattle.model_records.specs.Values.{phaseOf, phasesIn};
+ghost use Rattle.run_state.specs.Held.{held};
+ghost use Rattle.pull_laws.specs.Tables.{atomicAt, positionsAt};
 ghost use Rattle.pull_laws.specs.TableStep.{recordOf, phaseIn, dueAtPosition, dueBelow, tableNext};
 use clock::Due;
 use clock::Moment;
@@ -14,7 +16,6 @@ use limits::MAX_COMPONENTS;
 use little_endian::size;
 use little_endian::size16;
 use model_records::Phase;
-use run_state::State;
 use table_words::CHILD_AT;
 use table_words::KINDS_AT;
 use table_words::NUMBERS_AT;
@@ -45,13 +46,13 @@ pub fn phase_in(phases: &[u8], tables: &[u16], c: u16, p: u8) -> Phase
 }
 
 // When the atomic at a position is due.
-pub fn due_at(phases: &[u8], tables: &[u16], st: State, i: u16) -> Due
-    ensures { λ r. ⌜ timeOf r ≡ dueAtPosition (phasesIn (now (phases .entry))) (now (tables .entry)) st i ⌝ }
+pub fn due_at(phases: &[u8], tables: &[u16], phase: &[u8], last: &[u64], i: u16) -> Due
+    ensures { λ r. ⌜ timeOf r ≡ dueAtPosition (phasesIn (now (phases .entry))) (now (tables .entry)) (held (now (phase .entry)) (now (last .entry))) i ⌝ }
 {
     let at = size16(i);
     let c = row_word(tables, NUMBERS_AT, i);
-    let phase = phase_in(phases, tables, c, st.phase_of(at));
-    due::due_after(st.last_of(at), phase.advance)
+    let own = phase_in(phases, tables, c, run_state::phase_at(phase, at));
+    due::due_after(run_state::last_at(last, at), own.advance)
 }
 
 // The due moment has come.
@@ -64,21 +65,47 @@ pub fn is_now(due: Due, now_at: Moment) -> bool
     at.0 == now_at.0
 }
 
-// The earliest due moment of component c, at most `levels` components down.
-fn due_below(phases: &[u8], tables: &[u16], st: State, levels: usize, c: u16) -> Due
-    ensures { λ r. ⌜ timeOf r ≡ dueBelow (phasesIn (now (phases .entry))) (now (tables .entry)) st levels c ⌝ }
+fn is_atomic(tables: &[u16], c: u16) -> bool
+    ensures { λ r. ⌜ r ≡ atomicAt (now (tables .entry)) c ⌝ }
+{
+    row_word(tables, KINDS_AT, c) == 1
+}
+
+// When the atomic c is due.
+fn due_of(phases: &[u8], tables: &[u16], phase: &[u8], last: &[u64], c: u16) -> Due
+    ensures { λ r. ⌜ timeOf r ≡ dueAtPosition (phasesIn (now (phases .entry))) (now (tables .entry)) (held (now (phase .entry)) (now (last .entry))) (getD (now (tables .entry)) (positionsAt + c) 0) ⌝ }
+{
+    let i = row_word(tables, POSITIONS_AT, c);
+    due_at(phases, tables, phase, last, i)
+}
+
+// The earliest due moment of component c, at most `levels` components down. An atomic child is looked up in place: a call for each would
+// cost more than the look-up.
+fn due_below(
+    phases: &[u8],
+    tables: &[u16],
+    phase: &[u8],
+    last: &[u64],
+    levels: usize,
+    c: u16,
+) -> Due
+    ensures { λ r. ⌜ timeOf r ≡ dueBelow (phasesIn (now (phases .entry))) (now (tables .entry)) (held (now (phase .entry)) (now (last .entry))) levels c ⌝ }
 {
     if levels == 0 {
         return Due::Never;
     }
-    if row_word(tables, KINDS_AT, c) == 1 {
-        return due_at(phases, tables, st, row_word(tables, POSITIONS_AT, c));
+    if is_atomic(tables, c) {
+        return due_of(phases, tables, phase, last, c);
     }
     let mut least = Due::Never;
     let mut left = MAX_COMPONENTS;
     let mut d = row_word(tables, CHILD_AT, c);
     while (0 < left) & (0 < d) {
-        least = least.or_earlier(due_below(phases, tables, st, levels - 1, d));
+        if (1 < levels) & is_atomic(tables, d) {
+            least = least.or_earlier(due_of(phases, tables, phase, last, d));
+        } else {
+            least = least.or_earlier(due_below(phases, tables, phase, last, levels - 1, d));
+        }
         d = row_word(tables, SIBLING_AT, d);
         left = left - 1;
     }
@@ -86,8 +113,8 @@ fn due_below(phases: &[u8], tables: &[u16], st: State, levels: usize, c: u16) ->
 }
 
 // The whole model's next due moment: the root's.
-pub fn next_due(phases: &[u8], tables: &[u16], st: State) -> Due
-    ensures { λ r. ⌜ timeOf r ≡ tableNext (phasesIn (now (phases .entry))) (now (tables .entry)) st ⌝ }
+pub fn next_due(phases: &[u8], tables: &[u16], phase: &[u8], last: &[u64]) -> Due
+    ensures { λ r. ⌜ timeOf r ≡ tableNext (phasesIn (now (phases .entry))) (now (tables .entry)) (held (now (phase .entry)) (now (last .entry))) ⌝ }
 {
-    due_below(phases, tables, st, MAX_COMPONENTS, 0)
+    due_below(phases, tables, phase, last, MAX_COMPONENTS, 0)
 }

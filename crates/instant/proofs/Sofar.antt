@@ -17,6 +17,7 @@ use Rattle.definition.specs.Step.{Stepped, Simulator}
 use Rattle.definition.specs.Instant.{Instant, done, jammed, stepped, goesOn, stepsAt, instant, over, traceBytes, recordsFrom, records}
 use Rattle.definition.specs.Engine.{toBag}
 use Rattle.laws.proofs.Sorting.{clash}
+use Rattle.clock.specs.declared.Due.{Due}
 use Rattle.run_state.specs.declared.State.{State}
 use Rattle.pull_laws.specs.Put.{messageOf}
 use Rattle.trace_records.specs.Written.{stepBytes, stepSize, stepPut}
@@ -182,30 +183,30 @@ module _ {S : Type 0} (k : Simulator S) (now : ℕ) (x : Bag) (s : S) where
 
 -- ---- the verdicts
 
-module _ {whole rest : Instant State} {now from : ℕ} {out₀ out : Bytes} {k used : ℕ} {flag : Bool} (sofar : Sofar whole rest now from out₀ out k used flag) (st : State) where
-  pub judged-jams : rest ≡ jammed → Judged now from st out₀ out whole (record { verdict = VV.Jammed; steps = 0; used = from; state = st })
+module _ {whole rest : Instant State} {now from : ℕ} {out₀ out : Bytes} {k used : ℕ} {flag : Bool} (sofar : Sofar whole rest now from out₀ out k used flag) (st : State) (due : Due) where
+  pub judged-jams : rest ≡ jammed → Judged now from st out₀ out whole (record { verdict = VV.Jammed; steps = 0; used = from; due = due; state = st })
   unfolding ranOf
   judged-jams e =
-      subst (λ (i : Instant State). Judged now from st out₀ out i (record { verdict = VV.Jammed; steps = 0; used = from; state = st }))
+      subst (λ (i : Instant State). Judged now from st out₀ out i (record { verdict = VV.Jammed; steps = 0; used = from; due = due; state = st }))
       (sym (sofar .split ∙ ap (after (sofar .bags)) e ∙ after-jammed (sofar .bags))) (refl, omega arith, tt)
 
   ends : (s : State) → rest ≡ done [] s → done (sofar .bags) s ≡ whole
   ends s e = sym (sofar .split ∙ ap (after (sofar .bags)) e ∙ after-done (sofar .bags) s)
 
   pub judged-over : (s : State) → rest ≡ done [] s → flag ≡ true
-      → Judged now from st out₀ out whole (record { verdict = VV.Over; steps = 0; used = from; state = st })
+      → Judged now from st out₀ out whole (record { verdict = VV.Over; steps = 0; used = from; due = due; state = st })
   unfolding ranOf
   judged-over s e f =
       let o : over (sofar .bags) ≡ true = sym (sofar .overs) ∙ f in
-      subst (λ (i : Instant State). Judged now from st out₀ out i (record { verdict = VV.Over; steps = 0; used = from; state = st })) (ends s e)
+      subst (λ (i : Instant State). Judged now from st out₀ out i (record { verdict = VV.Over; steps = 0; used = from; due = due; state = st })) (ends s e)
       (rw o, omega arith, λ h. absurd (clash o h))
 
   pub judged-stands : (s : State) → rest ≡ done [] s → flag ≡ false → k ≤ maxSteps
-      → Judged now from st out₀ out whole (record { verdict = VV.Stands; steps = k; used = used; state = s })
+      → Judged now from st out₀ out whole (record { verdict = VV.Stands; steps = k; used = used; due = due; state = s })
   unfolding ranOf
   judged-stands s e f most =
       let o : over (sofar .bags) ≡ false = sym (sofar .overs) ∙ f in
-      subst (λ (i : Instant State). Judged now from st out₀ out i (record { verdict = VV.Stands; steps = k; used = used; state = s })) (ends s e)
+      subst (λ (i : Instant State). Judged now from st out₀ out i (record { verdict = VV.Stands; steps = k; used = used; due = due; state = s })) (ends s e)
       (rw (o, sofar .count, sofar .sized f), most, λ h l. sofar .put f (rw (sofar .sized f) l))
 
 -- Buffers of the same lengths are lent as well.

@@ -2,15 +2,16 @@
 // its bytes are counted in any case, so that one function serves a first pass into a small scratch and a second one into the trace.
 ghost use mathlib.Core.Path.{_≡_};
 ghost use mathlib.Core.Bool.{_||_, not};
-ghost use mathlib.Core.List.{[]};
 ghost use Prim.Native.Nat.{_≤_};
 ghost use lib.ListN.{length, take};
 ghost use Rattle.definition.specs.Lists.{isEmpty};
 ghost use Rattle.definition.specs.Devs.{finite, sameTime};
 ghost use Rattle.definition.specs.Instant.{instant};
 ghost use Rattle.definition.specs.Engine.{toBag};
+ghost use Rattle.clock.specs.Times.{timeOf};
 ghost use Rattle.instant.specs.Sim.{simOf, Lent};
 ghost use Rattle.instant.specs.Verdicts.{Judged};
+use clock::Due;
 use clock::Moment;
 use dues::is_now;
 use dues::next_due;
@@ -30,23 +31,24 @@ pub enum Verdict {
     Stands,
 }
 
-// The verdict on an instant; where it stands its steps, where its records end, and the state after it.
+// The verdict on an instant; where it stands its steps, where its records end, and the state after it. `due` is when that state is next
+// due.
 pub struct Ran {
     pub verdict: Verdict,
     pub steps: u64,
     pub used: usize,
+    pub due: Due,
     pub state: State,
 }
 
 // "A step is taken if something is due or the given bag is not empty."
-fn goes_on(phases: &[u8], tables: &[u16], at: Moment, bag: &[u8], len: usize, st: State) -> bool
-    ensures { λ r. ⌜ r ≡ (sameTime (simOf (now (phases .entry)) [] (now (tables .entry)) 0 0 .next st) (finite (at .0)) || not (isEmpty (toBag (take len (now (bag .entry)))))) ⌝ }
+fn goes_on(due: Due, at: Moment, bag: &[u8], len: usize) -> bool
+    ensures { λ r. ⌜ r ≡ (sameTime (timeOf due) (finite (at .0)) || not (isEmpty (toBag (take len (now (bag .entry)))))) ⌝ }
 {
-    let due = next_due(phases, tables, st);
     is_now(due, at) | ((MESSAGE_SIZE <= len) & (MESSAGE_SIZE <= bag.len()))
 }
 
-// The instant at a moment with the first `len` bytes of a bag, its records put from `from` on.
+// The instant at a moment with the first `len` bytes of a bag, its records put from `from` on; `due` is when the state is next due.
 pub fn instant(
     phases: &[u8],
     rules: &[u8],
@@ -56,33 +58,51 @@ pub fn instant(
     bag: &[u8],
     len: usize,
     st: State,
+    due: Due,
     work: &mut [u32],
     keys: &mut [u32],
     out: &mut [u8],
     from: usize,
 ) -> Ran
-    requires { ⌜ Lent n (length (now work)) (length (now keys)) × (from ≤ length (now out)) ⌝ }
+    requires { ⌜ Lent n (length (now work)) (length (now keys)) × (from ≤ length (now out))
+        × (timeOf due ≡ simOf (now phases) (now rules) (now tables) n (length (now work)) .next st) ⌝ }
     ensures { λ r. ⌜ Judged (at .0) from st (now (out .entry)) (now (out .exit))
-        (instant (simOf (now (phases .entry)) (now (rules .entry)) (now (tables .entry)) n (length (now (work .entry)))) (at .0) (toBag (take len (now (bag .entry)))) st) r ⌝ }
+        (instant (simOf (now (phases .entry)) (now (rules .entry)) (now (tables .entry)) n (length (now (work .entry)))) (at .0) (toBag (take len (now (bag .entry)))) st) r
+        × (timeOf (r .due) ≡ simOf (now (phases .entry)) (now (rules .entry)) (now (tables .entry)) n (length (now (work .entry))) .next (r .state)) ⌝ }
 {
-    let mut state = st;
+    let mut phase = st.phase;
+    let mut last = st.last;
+    let mut next = due;
     let mut given = len;
     let mut used = from;
     let mut over = false;
     let mut k: u64 = 0;
-    while goes_on(phases, tables, at, bag, given, state) {
+    while goes_on(next, at, bag, given) {
         if k == MAX_STEPS {
             return Ran {
                 verdict: Verdict::Jammed,
                 steps: 0,
                 used: from,
+                due,
                 state: st,
             };
         }
-        let s = step_once(phases, rules, tables, n, state, at, bag, given, work, keys);
-        over = over | (MAX_ROOT_BAG < s.count);
-        used = put_step(out, used, at, k, keys, s.count);
-        state = s.state;
+        let count = step_once(
+            phases,
+            rules,
+            tables,
+            n,
+            &mut phase,
+            &mut last,
+            at,
+            bag,
+            given,
+            work,
+            keys,
+        );
+        over = over | (MAX_ROOT_BAG < count);
+        used = put_step(out, used, at, k, keys, count);
+        next = next_due(phases, tables, &phase, &last);
         given = 0;
         k = k + 1;
     }
@@ -91,6 +111,7 @@ pub fn instant(
             verdict: Verdict::Over,
             steps: 0,
             used: from,
+            due,
             state: st,
         };
     }
@@ -98,6 +119,7 @@ pub fn instant(
         verdict: Verdict::Stands,
         steps: k,
         used,
-        state,
+        due: next,
+        state: State { phase, last },
     }
 }

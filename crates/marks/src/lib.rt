@@ -9,6 +9,7 @@ ghost use Rattle.definition.specs.Lists.{isEmpty};
 ghost use Rattle.definition.specs.Limits.{portCount};
 ghost use Rattle.definition.specs.Engine.{toBag};
 ghost use Rattle.model_records.specs.Values.{phasesIn};
+ghost use Rattle.run_state.specs.Held.{held};
 ghost use Rattle.pull_laws.specs.Tables.{countAt, parentsAt, chainRows};
 ghost use Rattle.pull_laws.specs.TableStep.{anyOf, isUp, recordOf, markOf, marked, raised, mayCome, mayReach, reachedFrom};
 use bag_keys::MESSAGE_SIZE;
@@ -23,7 +24,6 @@ use dues::row_word;
 use limits::MAX_COUPLINGS;
 use limits::PORT_COUNT;
 use little_endian::size16;
-use run_state::State;
 use table_words::COUNT_AT;
 use table_words::NUMBERS_AT;
 use table_words::PARENTS_AT;
@@ -58,14 +58,14 @@ fn mark_for(tables: &[u16], c: u16, p: u8) -> u32
 }
 
 // The mark of the atomic at position i.
-fn mark_of(phases: &[u8], tables: &[u16], st: State, at: Moment, i: u16) -> u32
-    ensures { λ r. ⌜ r ≡ markOf (phasesIn (now (phases .entry))) (now (tables .entry)) (at .0) st i ⌝ }
+fn mark_of(phases: &[u8], tables: &[u16], phase: &[u8], last: &[u64], at: Moment, i: u16) -> u32
+    ensures { λ r. ⌜ r ≡ markOf (phasesIn (now (phases .entry))) (now (tables .entry)) (at .0) (held (now (phase .entry)) (now (last .entry))) i ⌝ }
 {
-    if dues::is_now(dues::due_at(phases, tables, st, i), at) {
+    if dues::is_now(dues::due_at(phases, tables, phase, last, i), at) {
         mark_for(
             tables,
             row_word(tables, NUMBERS_AT, i),
-            st.phase_of(size16(i)),
+            run_state::phase_at(phase, size16(i)),
         )
     } else {
         0
@@ -82,12 +82,20 @@ fn put_mark(marks: &mut [u32], c: u16, mark: u32)
     }
 }
 
-fn mark_atomics(phases: &[u8], tables: &[u16], n: u8, st: State, at: Moment, marks: &mut [u32])
-    ensures { λ _. ⌜ now (marks .exit) ≡ marked (phasesIn (now (phases .entry))) (now (tables .entry)) (at .0) st n 0 (now (marks .entry)) ⌝ }
+fn mark_atomics(
+    phases: &[u8],
+    tables: &[u16],
+    n: u8,
+    phase: &[u8],
+    last: &[u64],
+    at: Moment,
+    marks: &mut [u32],
+)
+    ensures { λ _. ⌜ now (marks .exit) ≡ marked (phasesIn (now (phases .entry))) (now (tables .entry)) (at .0) (held (now (phase .entry)) (now (last .entry))) n 0 (now (marks .entry)) ⌝ }
 {
     let mut i: u8 = 0;
     while i < n {
-        let mark = mark_of(phases, tables, st, at, i as u16);
+        let mark = mark_of(phases, tables, phase, last, at, i as u16);
         put_mark(marks, row_word(tables, NUMBERS_AT, i as u16), mark);
         i = i + 1;
     }
@@ -161,10 +169,18 @@ fn flag_components(tables: &[u16], marks: &[u32], reached: &mut [u32])
 // ---- both, over zeros
 
 // The marks of n atomics and of the components above them.
-pub fn mark(phases: &[u8], tables: &[u16], n: u8, st: State, at: Moment, marks: &mut [u32])
-    ensures { λ _. ⌜ now (marks .exit) ≡ raised (phasesIn (now (phases .entry))) (now (tables .entry)) (getD (now (tables .entry)) countAt 0 - 1) (marked (phasesIn (now (phases .entry))) (now (tables .entry)) (at .0) st n 0 (now (marks .entry))) ⌝ }
+pub fn mark(
+    phases: &[u8],
+    tables: &[u16],
+    n: u8,
+    phase: &[u8],
+    last: &[u64],
+    at: Moment,
+    marks: &mut [u32],
+)
+    ensures { λ _. ⌜ now (marks .exit) ≡ raised (phasesIn (now (phases .entry))) (now (tables .entry)) (getD (now (tables .entry)) countAt 0 - 1) (marked (phasesIn (now (phases .entry))) (now (tables .entry)) (at .0) (held (now (phase .entry)) (now (last .entry))) n 0 (now (marks .entry))) ⌝ }
 {
-    mark_atomics(phases, tables, n, st, at, marks);
+    mark_atomics(phases, tables, n, phase, last, at, marks);
     mark_parents(tables, marks);
 }
 

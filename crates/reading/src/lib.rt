@@ -71,11 +71,10 @@ fn whole_due(file: &[u8], n: Counts, run: &[u8], count: usize) -> Due
         model::couplings_of(file, n),
         &mut tables,
     );
-    dues::next_due(
-        model::phases_of(file, n),
-        &tables,
-        saved_run::load(run, count),
-    )
+    let st = saved_run::load(run, count);
+    let phase = st.phase;
+    let last = st.last;
+    dues::next_due(model::phases_of(file, n), &tables, &phase, &last)
 }
 
 // The checks of run and position, and the answer, for an accepted model.

@@ -2,34 +2,25 @@
 // root's output bag is pulled and sorted. Work buffers are lent from the call.
 ghost use mathlib.Core.Path.{_≡_};
 ghost use mathlib.Core.List.{map};
-ghost use Prim.Native.Nat.{_≤_, _<_, min};
+ghost use Prim.Native.Nat.{_≤_, min};
 ghost use lib.ListN.{getD, length, take};
 ghost use Rattle.definition.specs.Lists.{sortBy};
-ghost use Rattle.definition.specs.Limits.{maxComponents};
 ghost use Rattle.definition.specs.Model.{messageLe};
 ghost use Rattle.definition.specs.Engine.{toBag};
-ghost use Rattle.clock.specs.Times.{timeOf};
 ghost use Rattle.model_records.specs.Values.{phasesIn, rulesIn};
+ghost use Rattle.run_state.specs.Held.{held};
 ghost use Rattle.pull_laws.specs.Put.{messageOf};
 ghost use Rattle.pull_laws.specs.Tables.{numbersAt};
 ghost use Rattle.pull_laws.specs.TableStep.{isUp, keysInto, rootKeys, changedBy, changedFrom};
-ghost use Rattle.simulator.specs.Simulator.{tableNext, tableStep};
+ghost use Rattle.simulator.specs.Simulator.{tableStep};
 use bag_keys::key_at;
-use clock::Due;
 use clock::Moment;
 use collect::collect_bag;
 use collect::collect_root;
 use dues::row_word;
 use limits::MAX_COMPONENTS;
 use little_endian::size16;
-use run_state::State;
 use table_words::NUMBERS_AT;
-
-// The state after a step, and how many messages of the root's output bag stand in the lent keys.
-pub struct Stepped {
-    pub state: State,
-    pub count: usize,
-}
 
 // The atomic at position i: its bag is pulled into `work`, and it changes.
 fn change_one(
@@ -39,19 +30,19 @@ fn change_one(
     marks: &[u32],
     reached: &[u32],
     given: &[u8],
-    st: State,
+    phase: &mut [u8],
+    last: &mut [u64],
     at: Moment,
     i: u8,
     c: u16,
     work: &mut [u32],
-) -> State
-    requires { ⌜ i < maxComponents ⌝ }
-    ensures { λ r. ⌜ r ≡ changedBy (phasesIn (now (phases .entry))) (now (tables .entry)) (rulesIn (now (rules .entry))) (at .0) st i c (isUp (now (marks .entry)) c) (map messageOf (take (length (now (work .entry))) (keysInto (phasesIn (now (phases .entry))) (now (tables .entry)) (now (marks .entry)) (now (reached .entry)) (toBag (now (given .entry))) c))) ⌝ }
+)
+    ensures { λ _. ⌜ held (now (phase .exit)) (now (last .exit)) ≡ changedBy (phasesIn (now (phases .entry))) (now (tables .entry)) (rulesIn (now (rules .entry))) (at .0) (held (now (phase .entry)) (now (last .entry))) i c (isUp (now (marks .entry)) c) (map messageOf (take (length (now (work .entry))) (keysInto (phasesIn (now (phases .entry))) (now (tables .entry)) (now (marks .entry)) (now (reached .entry)) (toBag (now (given .entry))) c))) ⌝ }
 {
     let k = collect_bag(phases, tables, marks, reached, given, c, work);
     let due = key_at(marks, size16(c)) != 0;
     let bag = &work[..k];
-    transitions::transition(phases, rules, tables, st, at, i, c, due, bag)
+    transitions::transition(phases, rules, tables, phase, last, at, i, c, due, bag);
 }
 
 // All atomics, one after the other: marks and flags were read before, so the order does not matter.
@@ -63,25 +54,25 @@ fn change_all(
     reached: &[u32],
     given: &[u8],
     n: u8,
-    st: State,
+    phase: &mut [u8],
+    last: &mut [u64],
     at: Moment,
     work: &mut [u32],
-) -> State
-    requires { ⌜ n ≤ maxComponents ⌝ }
-    ensures { λ r. ⌜ r ≡ changedFrom (phasesIn (now (phases .entry))) (now (tables .entry)) (rulesIn (now (rules .entry))) (now (marks .entry)) (now (reached .entry)) (length (now (work .entry))) (at .0) (toBag (now (given .entry))) n 0 st ⌝ }
+)
+    ensures { λ _. ⌜ held (now (phase .exit)) (now (last .exit)) ≡ changedFrom (phasesIn (now (phases .entry))) (now (tables .entry)) (rulesIn (now (rules .entry))) (now (marks .entry)) (now (reached .entry)) (length (now (work .entry))) (at .0) (toBag (now (given .entry))) n 0 (held (now (phase .entry)) (now (last .entry))) ⌝ }
 {
-    let mut next = st;
     let mut i: u8 = 0;
     while i < n {
         let c = row_word(tables, NUMBERS_AT, i as u16);
-        next = change_one(
+        change_one(
             phases,
             rules,
             tables,
             marks,
             reached,
             given,
-            next,
+            phase,
+            last,
             at,
             i,
             c,
@@ -89,7 +80,6 @@ fn change_all(
         );
         i = i + 1;
     }
-    next
 }
 
 // The root's output bag, sorted, in `keys`; what `work` and the rest of `keys` hold afterwards is left open.
@@ -119,17 +109,18 @@ fn step_marked(
     reached: &[u32],
     given: &[u8],
     n: u8,
-    st: State,
+    phase: &mut [u8],
+    last: &mut [u64],
     at: Moment,
     work: &mut [u32],
     keys: &mut [u32],
-) -> Stepped
-    requires { ⌜ (n ≤ maxComponents) × (length (now keys) ≤ length (now work)) ⌝ }
-    ensures { λ r. ⌜ (r .state ≡ changedFrom (phasesIn (now (phases .entry))) (now (tables .entry)) (rulesIn (now (rules .entry))) (now (marks .entry)) (now (reached .entry)) (length (now (work .entry))) (at .0) (toBag (now (given .entry))) n 0 st)
-        × (r .count ≡ min (length (now (keys .entry))) (length (rootKeys (phasesIn (now (phases .entry))) (now (tables .entry)) (now (marks .entry)) (now (reached .entry)))))
-        × (map messageOf (take (r .count) (now (keys .exit))) ≡ sortBy messageLe (map messageOf (take (length (now (keys .entry))) (rootKeys (phasesIn (now (phases .entry))) (now (tables .entry)) (now (marks .entry)) (now (reached .entry)))))) ⌝ }
+) -> usize
+    requires { ⌜ length (now keys) ≤ length (now work) ⌝ }
+    ensures { λ r. ⌜ (held (now (phase .exit)) (now (last .exit)) ≡ changedFrom (phasesIn (now (phases .entry))) (now (tables .entry)) (rulesIn (now (rules .entry))) (now (marks .entry)) (now (reached .entry)) (length (now (work .entry))) (at .0) (toBag (now (given .entry))) n 0 (held (now (phase .entry)) (now (last .entry))))
+        × (r ≡ min (length (now (keys .entry))) (length (rootKeys (phasesIn (now (phases .entry))) (now (tables .entry)) (now (marks .entry)) (now (reached .entry)))))
+        × (map messageOf (take r (now (keys .exit))) ≡ sortBy messageLe (map messageOf (take (length (now (keys .entry))) (rootKeys (phasesIn (now (phases .entry))) (now (tables .entry)) (now (marks .entry)) (now (reached .entry)))))) ⌝ }
 {
-    let state = change_all(
+    change_all(
         phases,
         rules,
         tables,
@@ -137,25 +128,15 @@ fn step_marked(
         reached,
         given,
         n,
-        st,
+        phase,
+        last,
         at,
         work,
     );
-    let count = root_bag(phases, tables, marks, reached, keys, work);
-    Stepped {
-        state: state,
-        count: count,
-    }
+    root_bag(phases, tables, marks, reached, keys, work)
 }
 
-// The whole model's next due moment.
-pub fn next_due(phases: &[u8], tables: &[u16], st: State) -> Due
-    ensures { λ r. ⌜ timeOf r ≡ tableNext (now (phases .entry)) (now (tables .entry)) st ⌝ }
-{
-    dues::next_due(phases, tables, st)
-}
-
-// One step of n atomics at a moment, with the given messages in the first `len` bytes of `bag`. A bag has room for as many messages as
+// One step of n atomics at a moment, their phases and last moments changed in place, with the given messages in the first `len` bytes of `bag`. A bag has room for as many messages as
 // `work` has words; the root's sorted output bag stands in `keys`, as much of it as has room there. What `work` and the rest of `keys`
 // hold afterwards is left open.
 pub fn step_once(
@@ -163,23 +144,24 @@ pub fn step_once(
     rules: &[u8],
     tables: &[u16],
     n: u8,
-    st: State,
+    phase: &mut [u8],
+    last: &mut [u64],
     at: Moment,
     bag: &[u8],
     len: usize,
     work: &mut [u32],
     keys: &mut [u32],
-) -> Stepped
-    requires { ⌜ (n ≤ maxComponents) × (length (now keys) ≤ length (now work)) ⌝ }
-    ensures { λ r. ⌜ (r .state ≡ tableStep (now (phases .entry)) (now (rules .entry)) (now (tables .entry)) n (length (now (work .entry))) (at .0) (toBag (take len (now (bag .entry)))) st .state)
-        × (r .count ≡ min (length (now (keys .entry))) (length (tableStep (now (phases .entry)) (now (rules .entry)) (now (tables .entry)) n (length (now (work .entry))) (at .0) (toBag (take len (now (bag .entry)))) st .out)))
-        × (length (tableStep (now (phases .entry)) (now (rules .entry)) (now (tables .entry)) n (length (now (work .entry))) (at .0) (toBag (take len (now (bag .entry)))) st .out) ≤ length (now (keys .entry))
-        → map messageOf (take (r .count) (now (keys .exit))) ≡ sortBy messageLe (tableStep (now (phases .entry)) (now (rules .entry)) (now (tables .entry)) n (length (now (work .entry))) (at .0) (toBag (take len (now (bag .entry)))) st .out)) ⌝ }
+) -> usize
+    requires { ⌜ length (now keys) ≤ length (now work) ⌝ }
+    ensures { λ r. ⌜ (held (now (phase .exit)) (now (last .exit)) ≡ tableStep (now (phases .entry)) (now (rules .entry)) (now (tables .entry)) n (length (now (work .entry))) (at .0) (toBag (take len (now (bag .entry)))) (held (now (phase .entry)) (now (last .entry))) .state)
+        × (r ≡ min (length (now (keys .entry))) (length (tableStep (now (phases .entry)) (now (rules .entry)) (now (tables .entry)) n (length (now (work .entry))) (at .0) (toBag (take len (now (bag .entry)))) (held (now (phase .entry)) (now (last .entry))) .out)))
+        × (length (tableStep (now (phases .entry)) (now (rules .entry)) (now (tables .entry)) n (length (now (work .entry))) (at .0) (toBag (take len (now (bag .entry)))) (held (now (phase .entry)) (now (last .entry))) .out) ≤ length (now (keys .entry))
+        → map messageOf (take r (now (keys .exit))) ≡ sortBy messageLe (tableStep (now (phases .entry)) (now (rules .entry)) (now (tables .entry)) n (length (now (work .entry))) (at .0) (toBag (take len (now (bag .entry)))) (held (now (phase .entry)) (now (last .entry))) .out)) ⌝ }
 {
     let given = little_endian::front(bag, len);
     let mut due = [0u32; MAX_COMPONENTS];
     let mut flags = [0u32; MAX_COMPONENTS];
-    marks::mark(phases, tables, n, st, at, &mut due);
+    marks::mark(phases, tables, n, phase, last, at, &mut due);
     marks::reach(tables, &due, given, &mut flags);
     step_marked(
         phases,
@@ -189,7 +171,8 @@ pub fn step_once(
         &flags,
         given,
         n,
-        st,
+        phase,
+        last,
         at,
         work,
         keys,

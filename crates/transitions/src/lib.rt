@@ -1,10 +1,9 @@
 // The transitions of an atomic: internal, external, confluent in both orders, or none. The elapsed time is the atomic's own.
 ghost use mathlib.Core.Path.{_≡_};
 ghost use mathlib.Core.List.{[], map};
-ghost use Prim.Native.Nat.{_<_};
-ghost use Rattle.definition.specs.Limits.{maxComponents};
 ghost use Rattle.definition.specs.Atomic.{ledTo};
 ghost use Rattle.model_records.specs.Values.{phasesIn, rulesIn};
+ghost use Rattle.run_state.specs.Held.{held};
 ghost use Rattle.deciding.specs.Search.{foundOf};
 ghost use Rattle.pull_laws.specs.Put.{messageOf};
 ghost use Rattle.pull_laws.specs.TableStep.{phaseIn, decidedIn, confluentIn, changedBy};
@@ -15,7 +14,6 @@ use dues::phase_in;
 use dues::row_word;
 use little_endian::size;
 use little_endian::size16;
-use run_state::State;
 use table_words::ORDERS_AT;
 use table_words::RULES_FROM_AT;
 use table_words::RULES_TO_AT;
@@ -84,27 +82,31 @@ pub fn transition(
     phases: &[u8],
     rules: &[u8],
     tables: &[u16],
-    st: State,
+    phase: &mut [u8],
+    last: &mut [u64],
     at: Moment,
     i: u8,
     c: u16,
     due: bool,
     bag: &[u32],
-) -> State
-    requires { ⌜ i < maxComponents ⌝ }
-    ensures { λ r. ⌜ r ≡ changedBy (phasesIn (now (phases .entry))) (now (tables .entry)) (rulesIn (now (rules .entry))) (at .0) st i c due (map messageOf (now (bag .entry))) ⌝ }
+)
+    ensures { λ _. ⌜ held (now (phase .exit)) (now (last .exit)) ≡ changedBy (phasesIn (now (phases .entry))) (now (tables .entry)) (rulesIn (now (rules .entry))) (at .0) (held (now (phase .entry)) (now (last .entry))) i c due (map messageOf (now (bag .entry))) ⌝ }
 {
     let position = size(i);
-    let p = st.phase_of(position);
+    let p = run_state::phase_at(phase, position);
     if bag.len() == 0 {
         if due {
-            return st.with(position, next_of(phases, tables, c, p), at);
+            let next = next_of(phases, tables, c, p);
+            run_state::put_at(phase, last, position, next, at);
         }
-        return st;
+        return;
     }
     if due {
-        return st.with(position, confluent(phases, rules, tables, c, p, bag), at);
+        let next = confluent(phases, rules, tables, c, p, bag);
+        run_state::put_at(phase, last, position, next, at);
+        return;
     }
-    let elapsed = at.since(st.last_of(position));
-    st.with(position, decided(rules, tables, c, p, elapsed, bag), at)
+    let elapsed = at.since(run_state::last_at(last, position));
+    let led = decided(rules, tables, c, p, elapsed, bag);
+    run_state::put_at(phase, last, position, led, at);
 }

@@ -13,7 +13,7 @@ use Rattle.advance.proofs.Turns.{nextOf, no-turn, ends-last, ends-stop,
 use Rattle.attempt.specs.Progress.{progressOf, Beyond, Attempted}
 use Rattle.instant.proofs.Steps.{bag-none}
 use Rattle.instant.specs.Sim.{simOf}
-use Rattle.clock.specs.Times.{latest}
+use Rattle.clock.specs.Times.{timeOf, latest}
 use Rattle.definition.specs.Bytes.{Bytes}
 use Rattle.definition.specs.Devs.{Time}
 use Rattle.definition.specs.Engine.{toBag}
@@ -30,28 +30,28 @@ use Rattle.attempt.proofs.attempt.Reads as attempt-reads
 use Rattle.dues.proofs.next_due.Reads as next-due-reads
 
 abbrev Inv-loop : tie.InvT-loop
-Inv-loop phases rules tables n t bag work₀ keys₀ scratch₀ trace₀ g₀ left₀ work keys scratch trace g left =
-    (left ≤ suc (t .0)) × (length work ≡ length work₀) × (length keys ≡ length keys₀) × (length scratch ≡ length scratch₀) × (g .instants + left ≤ latest) × (g .steps + maxSteps * left ≤ latest) × Beyond trace₀ trace (g .used) × (advancing (simOf phases rules tables n (length work₀)) left (length trace₀) (t .0) (toBag bag) (progressOf trace g) ≡ advancing (simOf phases rules tables n (length work₀)) (suc (t .0)) (length trace₀) (t .0) (toBag bag) (progressOf trace₀ g₀))
+Inv-loop phases rules tables n t bag work₀ keys₀ scratch₀ trace₀ g₀ due₀ left₀ work keys scratch trace g due left =
+    (left ≤ suc (t .0)) × (length work ≡ length work₀) × (length keys ≡ length keys₀) × (length scratch ≡ length scratch₀) × (g .instants + left ≤ latest) × (g .steps + maxSteps * left ≤ latest) × Beyond trace₀ trace (g .used) × (advancing (simOf phases rules tables n (length work₀)) left (length trace₀) (t .0) (toBag bag) (progressOf trace g) ≡ advancing (simOf phases rules tables n (length work₀)) (suc (t .0)) (length trace₀) (t .0) (toBag bag) (progressOf trace₀ g₀)) × (timeOf due ≡ simOf phases rules tables n (length work₀) .next (g .state))
 
 abbrev μ-loop : tie.MeasureT-loop
-μ-loop phases rules tables n t bag work₀ keys₀ scratch₀ trace₀ g₀ left₀ work keys scratch trace g left =
+μ-loop phases rules tables n t bag work₀ keys₀ scratch₀ trace₀ g₀ due₀ left₀ work keys scratch trace g due left =
     left
 
 -- src/lib.rt:62:20
 add-left : tie.Need-add-left Inv-loop μ-loop
 add-left c =
-    record { fits = omega (arith, c .before .before .before .before .before .before .before .before .before .pre .1) }
+    record { fits = omega (arith, c .before .before .before .before .before .before .before .before .before .before .pre .1) }
 
 -- src/lib.rt:63:5
 loop-holds : tie.Need-loop-holds Inv-loop μ-loop
 loop-holds c =
-    let a = c .before .before .before .before .before .before .before .before .before .args in
+    let a = c .before .before .before .before .before .before .before .before .before .before .args in
     let o : a .t .0 + 1 ≡ suc (a .t .0) = omega arith in
-    (omega arith, refl, refl, refl, omega (arith, c .before .before .before .before .before .before .before .before .before .pre .3), omega (arith, c .before .before .before .before .before .before .before .before .before .pre .4), (c .before .before .before .before .before .before .before .before .before .pre .2, refl, refl), rw o)
+    (omega arith, refl, refl, refl, omega (arith, c .before .before .before .before .before .before .before .before .before .before .pre .3), omega (arith, c .before .before .before .before .before .before .before .before .before .before .pre .4), (c .before .before .before .before .before .before .before .before .before .before .pre .2, refl, refl), rw o, c .before .due-of .ensures)
 
 -- src/lib.rt:64:30
-next-due-requires : tie.Need-next-due-requires Inv-loop μ-loop
-next-due-requires c κs =
+due-of-requires : tie.Need-due-of-requires Inv-loop μ-loop
+due-of-requires c κs =
     search needs
 
 -- src/lib.rt:64:13
@@ -62,8 +62,8 @@ next-moment-requires c κs =
 -- src/lib.rt:66:30
 attempt-requires : tie.Need-attempt-requires Inv-loop μ-loop
 attempt-requires c κs =
-    let l = c .before .before .before .before .before .before .before .before .before .before .loop in
-    (lent-kept (l .inv .1) (l .inv .2) (c .before .before .before .before .before .before .before .before .before .before .before .before .before .before .before .before .before .before .before .before .pre .0), omega (arith, l .inv .6 .0, l .inv .6 .1), omega (arith, c .before .before .before .before .before .before .before .before .before .before .before .before .before .before .before .before .before .before .before .before .pre .1), omega (arith, l .inv .4, c .before .before .before .before .before .before .before .before .before .loop-test .taken), omega (arith, l .inv .5, c .before .before .before .before .before .before .before .before .before .loop-test .taken))
+    let l = c .before .before .before .before .before .before .before .before .before .loop in
+    (lent-kept (l .inv .1) (l .inv .2) (c .before .before .before .before .before .before .before .before .before .before .before .before .before .before .before .before .before .before .before .before .pre .0), omega (arith, l .inv .6 .0, l .inv .6 .1), omega (arith, c .before .before .before .before .before .before .before .before .before .before .before .before .before .before .before .before .before .before .before .before .pre .1), omega (arith, l .inv .4, c .before .before .before .before .before .before .before .before .loop-test .taken), omega (arith, l .inv .5, c .before .before .before .before .before .before .before .before .loop-test .taken), l .inv .8)
 
 -- src/lib.rt:66:13
 finish-requires : tie.Need-finish-requires Inv-loop μ-loop
@@ -73,109 +73,110 @@ finish-requires c κs =
 -- src/lib.rt:66:13
 same-length : tie.Need-same-length Inv-loop μ-loop
 same-length c =
-    c .before .before .before .before .before .before .before .before .before .attempt .kept .1 .1 .1 .1 .1 .1 .1 .1 .0 ∙ c .before .before .before .before .before .before .before .before .before .before .before .before .before .before .before .before .before .before .before .before .loop .inv .1
+    c .before .before .before .before .before .before .before .before .before .attempt .kept .1 .1 .1 .1 .1 .1 .1 .1 .1 .0 ∙ c .before .before .before .before .before .before .before .before .before .before .before .before .before .before .before .before .before .before .before .loop .inv .1
 
 -- src/lib.rt:66:13
 same-length-2 : tie.Need-same-length-2 Inv-loop μ-loop
 same-length-2 c =
-    c .before .before .before .before .before .before .before .before .before .attempt .kept .1 .1 .1 .1 .1 .1 .1 .1 .1 .0 ∙ c .before .before .before .before .before .before .before .before .before .before .before .before .before .before .before .before .before .before .before .before .loop .inv .2
+    c .before .before .before .before .before .before .before .before .before .attempt .kept .1 .1 .1 .1 .1 .1 .1 .1 .1 .1 .0 ∙ c .before .before .before .before .before .before .before .before .before .before .before .before .before .before .before .before .before .before .before .loop .inv .2
 
 -- src/lib.rt:66:13
 same-length-3 : tie.Need-same-length-3 Inv-loop μ-loop
 same-length-3 c =
-    c .before .before .before .before .before .before .before .before .before .attempt .kept .1 .1 .1 .1 .1 .1 .1 .1 .1 .1 .0 ∙ c .before .before .before .before .before .before .before .before .before .before .before .before .before .before .before .before .before .before .before .before .loop .inv .3
+    c .before .before .before .before .before .before .before .before .before .attempt .kept .1 .1 .1 .1 .1 .1 .1 .1 .1 .1 .1 .0 ∙ c .before .before .before .before .before .before .before .before .before .before .before .before .before .before .before .before .before .before .before .loop .inv .3
 
 -- src/lib.rt:66:13
 same-length-4 : tie.Need-same-length-4 Inv-loop μ-loop
 same-length-4 c =
-    c .before .before .before .before .before .before .before .before .before .attempt .kept .1 .1 .1 .1 .1 .1 .1 .1 .1 .1 .1 .0 ∙ c .before .before .before .before .before .before .before .before .before .before .before .before .before .before .before .before .before .before .before .before .loop .inv .6 .1
+    c .before .before .before .before .before .before .before .before .before .attempt .kept .1 .1 .1 .1 .1 .1 .1 .1 .1 .1 .1 .1 .0 ∙ c .before .before .before .before .before .before .before .before .before .before .before .before .before .before .before .before .before .before .before .loop .inv .6 .1
 
 -- src/lib.rt:66:13
 returns : tie.Need-returns Inv-loop μ-loop
 returns c =
     let a = c .before .before .before .before .before .before .before .before .before .before .before .before .before .before .before .before .before .before .before .before .before .before .before .before .before .before .before .before .before .before .args in
-    let l = c .before .before .before .before .before .before .before .before .before .before .before .before .before .before .before .before .before .before .before .before .loop in
+    let l = c .before .before .before .before .before .before .before .before .before .before .before .before .before .before .before .before .before .before .before .loop in
     let r = c .before .before .before .before .before .before .before .before .before .attempt in
     let k = (simOf (now (a .phases)) (now (a .rules)) (now (a .tables)) (a .n) (length (now (a .work)))) in
     let x = toBag (now (a .bag)) in
     let whole = advancing k (suc (a .t .0)) (length (now (a .trace))) (a .t .0) x (progressOf (now (a .trace)) (a .from)) in
-    let tr = r .last .1 .1 .1 .1 .1 .1 .1 .1 .1 .1 .1 .0 in
-    let next : c .before .before .before .before .before .before .before .before .before .before .before .before .before .before .before .before .before .next-moment .result .0 ≡ nextOf (k .next (l .g .state)) (a .t .0) = c .before .before .before .before .before .before .before .before .before .before .before .before .before .before .before .before .before .next-moment .ensures ∙ ap (λ (u : Time). nextOf u (a .t .0)) (c .before .before .before .before .before .before .before .before .before .before .before .before .before .before .before .before .before .before .next-due .ensures) in
-    let tried = subst (λ (m : ℕ). Attempted (a .t .0) (l .g) (l .trace) tr (instant (simOf (now (a .phases)) (now (a .rules)) (now (a .tables)) (a .n) m) (a .t .0) (toBag (take (length (now (a .bag))) (now (a .bag)))) (l .g .state)) (r .result)) (l .inv .1) (r .ensures) in
+    let tr = r .last .1 .1 .1 .1 .1 .1 .1 .1 .1 .1 .1 .1 .0 in
+    let next : c .before .before .before .before .before .before .before .before .before .before .before .before .before .before .before .before .before .next-moment .result .0 ≡ nextOf (k .next (l .g .state)) (a .t .0) = c .before .before .before .before .before .before .before .before .before .before .before .before .before .before .before .before .before .next-moment .ensures ∙ ap (λ (u : Time). nextOf u (a .t .0)) (l .inv .8) in
+    let tried = subst (λ (m : ℕ). Attempted (a .t .0) (l .g) (l .trace) tr (instant (simOf (now (a .phases)) (now (a .rules)) (now (a .tables)) (a .n) m) (a .t .0) (toBag (take (length (now (a .bag))) (now (a .bag)))) (l .g .state)) (r .result)) (l .inv .1) (r .ensures .0) in
     let whole-bag = subst (λ (b : Bytes). Attempted (a .t .0) (l .g) (l .trace) tr (instant k (a .t .0) (toBag b) (l .g .state)) (r .result)) (take-length (now (a .bag))) tried in
-    ends-last k (a .t .0) x whole (now (a .trace)) (l .trace) (l .g) (l .left) (c .before .before .before .before .before .before .before .before .before .before .before .before .before .before .before .before .before .before .before .loop-test .taken) (l .inv .7) (l .inv .6) tr (r .result) (c .before .before .before .before .before .before .before .before .before .before .before .before .before .before .before .before .before .next-moment .result .0) next whole-bag (c .before .before .before .before .before .before .before .before .before .before .before .before .before .before .if1 .taken) (c .finish .result) (c .finish .ensures)
+    ends-last k (a .t .0) x whole (now (a .trace)) (l .trace) (l .g) (l .left) (c .before .before .before .before .before .before .before .before .before .before .before .before .before .before .before .before .before .before .loop-test .taken) (l .inv .7) (l .inv .6) tr (r .result) (c .before .before .before .before .before .before .before .before .before .before .before .before .before .before .before .before .before .next-moment .result .0) next whole-bag (c .before .before .before .before .before .before .before .before .before .before .before .before .before .before .if1 .taken) (c .finish .result) (c .finish .ensures)
 
 -- src/lib.rt:68:13
 attempt-requires-2 : tie.Need-attempt-requires-2 Inv-loop μ-loop
 attempt-requires-2 c κs =
-    let l = c .before .before .before .before .before .before .before .before .before .before .loop in
-    (lent-kept (l .inv .1) (l .inv .2) (c .before .before .before .before .before .before .before .before .before .before .before .before .before .before .before .before .before .before .before .before .pre .0), omega (arith, l .inv .6 .0, l .inv .6 .1), omega (arith, c .before .before .before .before .if1 .left, c .before .before .before .before .before .before .before .before .before .before .before .before .before .before .before .before .before .before .before .before .pre .1), omega (arith, l .inv .4, c .before .before .before .before .before .before .before .before .before .loop-test .taken), omega (arith, l .inv .5, c .before .before .before .before .before .before .before .before .before .loop-test .taken))
+    let l = c .before .before .before .before .before .before .before .before .before .loop in
+    (lent-kept (l .inv .1) (l .inv .2) (c .before .before .before .before .before .before .before .before .before .before .before .before .before .before .before .before .before .before .before .before .pre .0), omega (arith, l .inv .6 .0, l .inv .6 .1), omega (arith, c .before .before .before .before .if1 .left, c .before .before .before .before .before .before .before .before .before .before .before .before .before .before .before .before .before .before .before .before .pre .1), omega (arith, l .inv .4, c .before .before .before .before .before .before .before .before .loop-test .taken), omega (arith, l .inv .5, c .before .before .before .before .before .before .before .before .loop-test .taken), l .inv .8)
 
 -- src/lib.rt:70:13
 same-length-5 : tie.Need-same-length-5 Inv-loop μ-loop
 same-length-5 c =
-    c .before .before .before .before .before .before .before .before .before .before .attempt2 .kept .1 .1 .1 .1 .1 .1 .1 .1 .0 ∙ c .before .before .before .before .before .before .before .before .before .before .before .before .before .before .before .before .before .before .before .before .before .loop .inv .1
+    c .before .before .before .before .before .before .before .before .before .before .attempt2 .kept .1 .1 .1 .1 .1 .1 .1 .1 .1 .0 ∙ c .before .before .before .before .before .before .before .before .before .before .before .before .before .before .before .before .before .before .before .before .loop .inv .1
 
 -- src/lib.rt:70:13
 same-length-6 : tie.Need-same-length-6 Inv-loop μ-loop
 same-length-6 c =
-    c .before .before .before .before .before .before .before .before .before .before .attempt2 .kept .1 .1 .1 .1 .1 .1 .1 .1 .1 .0 ∙ c .before .before .before .before .before .before .before .before .before .before .before .before .before .before .before .before .before .before .before .before .before .loop .inv .2
+    c .before .before .before .before .before .before .before .before .before .before .attempt2 .kept .1 .1 .1 .1 .1 .1 .1 .1 .1 .1 .0 ∙ c .before .before .before .before .before .before .before .before .before .before .before .before .before .before .before .before .before .before .before .before .loop .inv .2
 
 -- src/lib.rt:70:13
 same-length-7 : tie.Need-same-length-7 Inv-loop μ-loop
 same-length-7 c =
-    c .before .before .before .before .before .before .before .before .before .before .attempt2 .kept .1 .1 .1 .1 .1 .1 .1 .1 .1 .1 .0 ∙ c .before .before .before .before .before .before .before .before .before .before .before .before .before .before .before .before .before .before .before .before .before .loop .inv .3
+    c .before .before .before .before .before .before .before .before .before .before .attempt2 .kept .1 .1 .1 .1 .1 .1 .1 .1 .1 .1 .1 .0 ∙ c .before .before .before .before .before .before .before .before .before .before .before .before .before .before .before .before .before .before .before .before .loop .inv .3
 
 -- src/lib.rt:70:13
 same-length-8 : tie.Need-same-length-8 Inv-loop μ-loop
 same-length-8 c =
-    c .before .before .before .before .before .before .before .before .before .before .attempt2 .kept .1 .1 .1 .1 .1 .1 .1 .1 .1 .1 .1 .0 ∙ c .before .before .before .before .before .before .before .before .before .before .before .before .before .before .before .before .before .before .before .before .before .loop .inv .6 .1
+    c .before .before .before .before .before .before .before .before .before .before .attempt2 .kept .1 .1 .1 .1 .1 .1 .1 .1 .1 .1 .1 .1 .0 ∙ c .before .before .before .before .before .before .before .before .before .before .before .before .before .before .before .before .before .before .before .before .loop .inv .6 .1
 
 -- src/lib.rt:70:13
 returns-2 : tie.Need-returns-2 Inv-loop μ-loop
 returns-2 c =
     let a = c .before .before .before .before .before .before .before .before .before .before .before .before .before .before .before .before .before .before .before .before .before .before .before .before .before .before .before .before .before .before .before .args in
-    let l = c .before .before .before .before .before .before .before .before .before .before .before .before .before .before .before .before .before .before .before .before .before .loop in
+    let l = c .before .before .before .before .before .before .before .before .before .before .before .before .before .before .before .before .before .before .before .before .loop in
     let r = c .before .before .before .before .before .before .before .before .before .before .attempt2 in
     let k = (simOf (now (a .phases)) (now (a .rules)) (now (a .tables)) (a .n) (length (now (a .work)))) in
     let x = toBag (now (a .bag)) in
     let whole = advancing k (suc (a .t .0)) (length (now (a .trace))) (a .t .0) x (progressOf (now (a .trace)) (a .from)) in
-    let tr = r .last .1 .1 .1 .1 .1 .1 .1 .1 .1 .1 .1 .0 in
-    let next : c .before .before .before .before .before .before .before .before .before .before .before .before .before .before .before .before .before .before .next-moment .result .0 ≡ nextOf (k .next (l .g .state)) (a .t .0) = c .before .before .before .before .before .before .before .before .before .before .before .before .before .before .before .before .before .before .next-moment .ensures ∙ ap (λ (u : Time). nextOf u (a .t .0)) (c .before .before .before .before .before .before .before .before .before .before .before .before .before .before .before .before .before .before .before .next-due .ensures) in
-    let tried = subst (λ (m : ℕ). Attempted (c .before .before .before .before .before .before .before .before .before .before .before .before .before .before .before .before .before .before .next-moment .result .0) (l .g) (l .trace) tr (instant (simOf (now (a .phases)) (now (a .rules)) (now (a .tables)) (a .n) m) (c .before .before .before .before .before .before .before .before .before .before .before .before .before .before .before .before .before .before .next-moment .result .0) (toBag (take 0 (now (a .bag)))) (l .g .state)) (r .result)) (l .inv .1) (r .ensures) in
-    ends-stop k (a .t .0) x whole (now (a .trace)) (l .trace) (l .g) (l .left) (c .before .before .before .before .before .before .before .before .before .before .before .before .before .before .before .before .before .before .before .before .loop-test .taken) (l .inv .7) (l .inv .6) tr (r .result) (c .before .before .before .before .before .before .before .before .before .before .before .before .before .before .before .before .before .before .next-moment .result .0) next (toBag (take 0 (now (a .bag)))) (bag-none (now (a .bag))) tried (c .before .before .before .before .before .before .before .before .before .before .before .before .before .before .before .if1 .left) (c .if2 .taken)
+    let tr = r .last .1 .1 .1 .1 .1 .1 .1 .1 .1 .1 .1 .1 .0 in
+    let next : c .before .before .before .before .before .before .before .before .before .before .before .before .before .before .before .before .before .before .next-moment .result .0 ≡ nextOf (k .next (l .g .state)) (a .t .0) = c .before .before .before .before .before .before .before .before .before .before .before .before .before .before .before .before .before .before .next-moment .ensures ∙ ap (λ (u : Time). nextOf u (a .t .0)) (l .inv .8) in
+    let tried = subst (λ (m : ℕ). Attempted (c .before .before .before .before .before .before .before .before .before .before .before .before .before .before .before .before .before .before .next-moment .result .0) (l .g) (l .trace) tr (instant (simOf (now (a .phases)) (now (a .rules)) (now (a .tables)) (a .n) m) (c .before .before .before .before .before .before .before .before .before .before .before .before .before .before .before .before .before .before .next-moment .result .0) (toBag (take 0 (now (a .bag)))) (l .g .state)) (r .result)) (l .inv .1) (r .ensures .0) in
+    ends-stop k (a .t .0) x whole (now (a .trace)) (l .trace) (l .g) (l .left) (c .before .before .before .before .before .before .before .before .before .before .before .before .before .before .before .before .before .before .before .loop-test .taken) (l .inv .7) (l .inv .6) tr (r .result) (c .before .before .before .before .before .before .before .before .before .before .before .before .before .before .before .before .before .before .next-moment .result .0) next (toBag (take 0 (now (a .bag)))) (bag-none (now (a .bag))) tried (c .before .before .before .before .before .before .before .before .before .before .before .before .before .before .before .if1 .left) (c .if2 .taken)
 
 -- src/lib.rt:73:16
 sub-left : tie.Need-sub-left Inv-loop μ-loop
 sub-left c =
-    omega (arith, c .before .before .before .before .before .before .before .before .before .before .before .before .before .before .before .before .before .before .before .before .before .loop-test .taken)
+    omega (arith, c .before .before .before .before .before .before .before .before .before .before .before .before .before .before .before .before .before .before .before .before .loop-test .taken)
 
 -- src/lib.rt:63:5
 loop-less : tie.Need-loop-less Inv-loop μ-loop
 loop-less c =
-    omega (arith, c .before .before .before .before .before .before .before .before .before .before .before .before .before .before .before .before .before .before .before .before .before .loop-test .taken)
+    omega (arith, c .before .before .before .before .before .before .before .before .before .before .before .before .before .before .before .before .before .before .before .before .loop-test .taken)
 
 -- src/lib.rt:63:5
 loop-again : tie.Need-loop-again Inv-loop μ-loop
 loop-again c =
     let a = c .before .before .before .before .before .before .before .before .before .before .before .before .before .before .before .before .before .before .before .before .before .before .before .before .before .before .before .before .before .before .before .before .args in
-    let l = c .before .before .before .before .before .before .before .before .before .before .before .before .before .before .before .before .before .before .before .before .before .before .loop in
+    let l = c .before .before .before .before .before .before .before .before .before .before .before .before .before .before .before .before .before .before .before .before .before .loop in
     let r = c .before .before .before .before .before .before .before .before .before .before .before .attempt2 in
     let k = (simOf (now (a .phases)) (now (a .rules)) (now (a .tables)) (a .n) (length (now (a .work)))) in
     let x = toBag (now (a .bag)) in
     let whole = advancing k (suc (a .t .0)) (length (now (a .trace))) (a .t .0) x (progressOf (now (a .trace)) (a .from)) in
-    let tr = r .last .1 .1 .1 .1 .1 .1 .1 .1 .1 .1 .1 .0 in
-    let next : c .before .before .before .before .before .before .before .before .before .before .before .before .before .before .before .before .before .before .before .next-moment .result .0 ≡ nextOf (k .next (l .g .state)) (a .t .0) = c .before .before .before .before .before .before .before .before .before .before .before .before .before .before .before .before .before .before .before .next-moment .ensures ∙ ap (λ (u : Time). nextOf u (a .t .0)) (c .before .before .before .before .before .before .before .before .before .before .before .before .before .before .before .before .before .before .before .before .next-due .ensures) in
-    let tried = subst (λ (m : ℕ). Attempted (c .before .before .before .before .before .before .before .before .before .before .before .before .before .before .before .before .before .before .before .next-moment .result .0) (l .g) (l .trace) tr (instant (simOf (now (a .phases)) (now (a .rules)) (now (a .tables)) (a .n) m) (c .before .before .before .before .before .before .before .before .before .before .before .before .before .before .before .before .before .before .before .next-moment .result .0) (toBag (take 0 (now (a .bag)))) (l .g .state)) (r .result)) (l .inv .1) (r .ensures) in
-    let on = goes-on k (a .t .0) x whole (now (a .trace)) (l .trace) (l .g) (l .left) (c .before .before .before .before .before .before .before .before .before .before .before .before .before .before .before .before .before .before .before .before .before .loop-test .taken) (l .inv .7) (l .inv .6) tr (r .result) (c .before .before .before .before .before .before .before .before .before .before .before .before .before .before .before .before .before .before .before .next-moment .result .0) next (toBag (take 0 (now (a .bag)))) (bag-none (now (a .bag))) tried (c .before .before .before .before .before .before .before .before .before .before .before .before .before .before .before .before .if1 .left) (c .before .if2 .left) in (
+    let tr = r .last .1 .1 .1 .1 .1 .1 .1 .1 .1 .1 .1 .1 .0 in
+    let next : c .before .before .before .before .before .before .before .before .before .before .before .before .before .before .before .before .before .before .before .next-moment .result .0 ≡ nextOf (k .next (l .g .state)) (a .t .0) = c .before .before .before .before .before .before .before .before .before .before .before .before .before .before .before .before .before .before .before .next-moment .ensures ∙ ap (λ (u : Time). nextOf u (a .t .0)) (l .inv .8) in
+    let tried = subst (λ (m : ℕ). Attempted (c .before .before .before .before .before .before .before .before .before .before .before .before .before .before .before .before .before .before .before .next-moment .result .0) (l .g) (l .trace) tr (instant (simOf (now (a .phases)) (now (a .rules)) (now (a .tables)) (a .n) m) (c .before .before .before .before .before .before .before .before .before .before .before .before .before .before .before .before .before .before .before .next-moment .result .0) (toBag (take 0 (now (a .bag)))) (l .g .state)) (r .result)) (l .inv .1) (r .ensures .0) in
+    let on = goes-on k (a .t .0) x whole (now (a .trace)) (l .trace) (l .g) (l .left) (c .before .before .before .before .before .before .before .before .before .before .before .before .before .before .before .before .before .before .before .before .loop-test .taken) (l .inv .7) (l .inv .6) tr (r .result) (c .before .before .before .before .before .before .before .before .before .before .before .before .before .before .before .before .before .before .before .next-moment .result .0) next (toBag (take 0 (now (a .bag)))) (bag-none (now (a .bag))) tried (c .before .before .before .before .before .before .before .before .before .before .before .before .before .before .before .before .if1 .left) (c .before .if2 .left) in (
       omega arith,
-      r .kept .1 .1 .1 .1 .1 .1 .1 .1 .0 ∙ l .inv .1,
-      r .kept .1 .1 .1 .1 .1 .1 .1 .1 .1 .0 ∙ l .inv .2,
-      r .kept .1 .1 .1 .1 .1 .1 .1 .1 .1 .1 .0 ∙ l .inv .3,
-      omega (arith, c .before .before .before .before .before .before .before .before .before .before .before .before .before .before .before .before .before .before .before .before .before .loop-test .taken, r .ensures .instants, l .inv .4),
-      omega (arith, c .before .before .before .before .before .before .before .before .before .before .before .before .before .before .before .before .before .before .before .before .before .loop-test .taken, r .ensures .steps, l .inv .5),
+      r .kept .1 .1 .1 .1 .1 .1 .1 .1 .1 .0 ∙ l .inv .1,
+      r .kept .1 .1 .1 .1 .1 .1 .1 .1 .1 .1 .0 ∙ l .inv .2,
+      r .kept .1 .1 .1 .1 .1 .1 .1 .1 .1 .1 .1 .0 ∙ l .inv .3,
+      omega (arith, c .before .before .before .before .before .before .before .before .before .before .before .before .before .before .before .before .before .before .before .before .loop-test .taken, r .ensures .0 .instants, l .inv .4),
+      omega (arith, c .before .before .before .before .before .before .before .before .before .before .before .before .before .before .before .before .before .before .before .before .loop-test .taken, r .ensures .0 .steps, l .inv .5),
       on .0,
       on .1,
+      r .ensures .1,
     )
 
 -- src/lib.rt:54:1
@@ -201,7 +202,7 @@ same-length-12 c =
 -- src/lib.rt:54:1
 returns-3 : tie.Need-returns-3 Inv-loop μ-loop
 returns-3 c =
-    let a = c .before .before .before .before .before .before .before .before .before .before .before .args in
+    let a = c .before .before .before .before .before .before .before .before .before .before .before .before .args in
     let l = c .before .loop in
     let k = (simOf (now (a .phases)) (now (a .rules)) (now (a .tables)) (a .n) (length (now (a .work)))) in
     (sym (no-turn k (length (now (a .trace))) (a .t .0) (toBag (now (a .bag))) (l .left) (progressOf (l .trace) (l .g)) (omega arith)) ∙ l .inv .7, l .inv .6)
@@ -212,9 +213,9 @@ advance-on-spec =
     (tie.spec
     Inv-loop
     μ-loop
+    due-of-requires
     add-left
     loop-holds
-    next-due-requires
     next-moment-requires
     attempt-requires
     finish-requires

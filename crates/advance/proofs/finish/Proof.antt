@@ -17,8 +17,8 @@ returns c =
     rw (ne-eqb (c .before .before .args .e .number) 0 (c .if1 .taken))
 
 -- src/lib.rt:47:26
-add-t6 : tie.Need-add-t6
-add-t6 c = search needs
+add-t7 : tie.Need-add-t7
+add-t7 c = search needs
 
 -- src/lib.rt:40:1
 returns-2 : tie.Need-returns-2
@@ -29,4 +29,4 @@ returns-2 c =
     rw (eq-eqb (a .e .number) 0 (c .before .before .if1 .left), o)
 
 pub finish-spec : {M : Type 1} → statement M
-finish-spec = tie.close (tie.spec returns add-t6 returns-2)
+finish-spec = tie.close (tie.spec returns add-t7 returns-2)

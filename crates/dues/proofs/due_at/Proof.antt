@@ -12,14 +12,14 @@ size16-requires c κs = search needs
 row-word-requires : tie.Need-row-word-requires
 row-word-requires c κs = search needs
 
-phase-of-requires : tie.Need-phase-of-requires
-phase-of-requires c κs = search needs
+phase-at-requires : tie.Need-phase-at-requires
+phase-at-requires c κs = search needs
 
 phase-in-requires : tie.Need-phase-in-requires
 phase-in-requires c κs = search needs
 
-last-of-requires : tie.Need-last-of-requires
-last-of-requires c κs = search needs
+last-at-requires : tie.Need-last-at-requires
+last-at-requires c κs = search needs
 
 due-after-requires : tie.Need-due-after-requires
 due-after-requires c κs = search needs
@@ -27,7 +27,7 @@ due-after-requires c κs = search needs
 returns : tie.Need-returns
 unfolding dueAtPosition dueIn dueAfter
 returns c =
-    rw (c .before .last-of .ensures, c .before .before .before .before .before .size16 .ensures, ap (λ k. k .advance) (c .before .before .phase-in .ensures), c .before .before .before .phase-of .ensures, c .before .before .before .before .row-word .ensures, c .before .before .before .before .before .size16 .ensures) at (c .due-after .ensures)
+    rw (c .before .last-at .ensures, c .before .before .before .before .before .size16 .ensures, ap (λ k. k .advance) (c .before .before .phase-in .ensures), c .before .before .before .phase-at .ensures, c .before .before .before .before .row-word .ensures, c .before .before .before .before .before .size16 .ensures) at (c .due-after .ensures)
 
 pub due-at-spec : {M : Type 1} → statement M
 due-at-spec =
@@ -35,8 +35,8 @@ due-at-spec =
     (tie.spec
     size16-requires
     row-word-requires
-    phase-of-requires
+    phase-at-requires
     phase-in-requires
-    last-of-requires
+    last-at-requires
     due-after-requires
     returns)

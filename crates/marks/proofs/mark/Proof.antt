@@ -7,6 +7,7 @@ use denote.Ref.{now}
 use Rattle.pull_laws.specs.TableStep.{marked}
 use Rattle.pull_laws.specs.Tables.{countAt}
 use Rattle.model_records.specs.Values.{phasesIn}
+use Rattle.run_state.specs.Held.{held}
 use Rattle.marks.proofs.Laws.{raised-any}
 use Rattle.marks.proofs.mark.Statement.{statement}
 use Rattle.marks.proofs.mark.Tie as tie
@@ -22,10 +23,10 @@ same-length c = search needs
 
 returns : tie.Need-returns
 returns c =
-    let a = c .before .before .before .before .before .before .before .before .before .before .before .args in
+    let a = c .before .before .before .before .before .before .before .before .before .before .before .before .before .args in
     let ps = phasesIn (now (a .phases)) in
     let t = now (a .tables) in
-    (rw (c .before .before .before .before .before .before .mark-atomics .ensures) at (c .before .before .mark-parents .ensures)) ∙ raised-any ps t (getD t countAt 0 - 1) (marked ps t (a .at .0) (a .st) (a .n) 0 (now (a .marks)))
+    (rw (c .before .before .before .before .before .before .mark-atomics .ensures) at (c .before .before .mark-parents .ensures)) ∙ raised-any ps t (getD t countAt 0 - 1) (marked ps t (a .at .0) (held (now (a .phase)) (now (a .last))) (a .n) 0 (now (a .marks)))
 
 pub mark-spec : {M : Type 1} → statement M
 mark-spec = tie.close (tie.spec mark-atomics-requires mark-parents-requires same-length returns)

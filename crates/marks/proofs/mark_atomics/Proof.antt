@@ -8,15 +8,16 @@ use lib.ListN.{length}
 use denote.Ref.{now}
 use Rattle.pull_laws.specs.TableStep.{marked}
 use Rattle.model_records.specs.Values.{phasesIn}
+use Rattle.run_state.specs.Held.{held}
 use Rattle.marks.proofs.Laws.{marked-more, marked-none}
 use Rattle.marks.proofs.mark_atomics.Statement.{statement}
 use Rattle.marks.proofs.mark_atomics.Tie as tie
 
 abbrev Inv-loop : tie.InvT-loop
-Inv-loop phases tables n st at marks₀ i₀ marks i = (i ≤ n) × (length marks ≡ length marks₀) × (marked (phasesIn phases) tables (at .0) st (n - i) i marks ≡ marked (phasesIn phases) tables (at .0) st n 0 marks₀)
+Inv-loop phases tables n phase last at marks₀ i₀ marks i = (i ≤ n) × (length marks ≡ length marks₀) × (marked (phasesIn phases) tables (at .0) (held phase last) (n - i) i marks ≡ marked (phasesIn phases) tables (at .0) (held phase last) n 0 marks₀)
 
 abbrev μ-loop : tie.MeasureT-loop
-μ-loop phases tables n st at marks₀ i₀ marks i = n - i
+μ-loop phases tables n phase last at marks₀ i₀ marks i = n - i
 
 loop-holds : tie.Need-loop-holds Inv-loop μ-loop
 loop-holds c =
@@ -45,9 +46,9 @@ loop-less c = search needs
 
 loop-again : tie.Need-loop-again Inv-loop μ-loop
 loop-again c =
-    let a = c .before .before .before .before .before .before .before .before .before .before .before .args in
+    let a = c .before .before .before .before .before .before .before .before .before .before .before .before .before .args in
     let l = c .before .before .before .before .before .before .before .loop in
-    (omega arith, c .before .before .put-mark .kept .0 ∙ l .inv .1, rw (c .before .before .put-mark .ensures, c .before .before .before .row-word .ensures, c .before .before .before .before .before .mark-of .ensures) (marked-more (phasesIn (now (a .phases))) (now (a .tables)) (a .at .0) (a .st) (a .n) (l .i) (l .marks) (omega arith) ∙ l .inv .2))
+    (omega arith, c .before .before .put-mark .kept .0 ∙ l .inv .1, rw (c .before .before .put-mark .ensures, c .before .before .before .row-word .ensures, c .before .before .before .before .before .mark-of .ensures) (marked-more (phasesIn (now (a .phases))) (now (a .tables)) (a .at .0) (held (now (a .phase)) (now (a .last))) (a .n) (l .i) (l .marks) (omega arith) ∙ l .inv .2))
 
 same-length : tie.Need-same-length Inv-loop μ-loop
 same-length c =
@@ -55,9 +56,9 @@ same-length c =
 
 returns : tie.Need-returns Inv-loop μ-loop
 returns c =
-    let a = c .before .before .before .before .before .args in
+    let a = c .before .before .before .before .before .before .before .args in
     let l = c .before .loop in
-    marked-none (phasesIn (now (a .phases))) (now (a .tables)) (a .at .0) (a .st) (a .n) (l .i) (l .marks) (omega arith) ∙ l .inv .2
+    marked-none (phasesIn (now (a .phases))) (now (a .tables)) (a .at .0) (held (now (a .phase)) (now (a .last))) (a .n) (l .i) (l .marks) (omega arith) ∙ l .inv .2
 
 pub mark-atomics-spec : {M : Type 1} → statement M
 mark-atomics-spec =

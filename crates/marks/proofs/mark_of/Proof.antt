@@ -16,8 +16,8 @@ row-word-requires c κs = search needs
 size16-requires : tie.Need-size16-requires
 size16-requires c κs = search needs
 
-phase-of-requires : tie.Need-phase-of-requires
-phase-of-requires c κs = search needs
+phase-at-requires : tie.Need-phase-at-requires
+phase-at-requires c κs = search needs
 
 mark-for-requires : tie.Need-mark-for-requires
 mark-for-requires c κs = search needs
@@ -25,7 +25,7 @@ mark-for-requires c κs = search needs
 returns : tie.Need-returns
 unfolding markOf recordOf
 returns c =
-    rw (← c .before .before .before .before .before .before .due-at .ensures, ← c .before .before .before .before .before .is-now .ensures, c .before .before .before .before .if1 .taken) (rw (c .before .before .before .row-word .ensures, c .before .phase-of .ensures, c .before .before .size16 .ensures) at (c .mark-for .ensures))
+    rw (← c .before .before .before .before .before .before .due-at .ensures, ← c .before .before .before .before .before .is-now .ensures, c .before .before .before .before .if1 .taken) (rw (c .before .before .before .row-word .ensures, c .before .phase-at .ensures, c .before .before .size16 .ensures) at (c .mark-for .ensures))
 
 returns-2 : tie.Need-returns-2
 unfolding markOf recordOf
@@ -40,7 +40,7 @@ mark-of-spec =
     is-now-requires
     row-word-requires
     size16-requires
-    phase-of-requires
+    phase-at-requires
     mark-for-requires
     returns
     returns-2)

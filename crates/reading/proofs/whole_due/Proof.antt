@@ -57,8 +57,8 @@ slice-aggregate-next-due c = search needs
 -- src/lib.rt:70:56
 load-requires : tie.Need-load-requires
 load-requires c κs =
-    let a = c .before .before .before .before .before .before .before .before .before .before .args in
-    omega (arith, c .before .before .before .before .before .before .before .before .before .before .pre .2, few-atomics (a .file .now) (a .n) (λ i. c .before .before .before .before .before .before .before .before .before .shared-slice-known .given i .fits) (c .before .before .before .before .before .before .before .before .before .before .pre .0))
+    let a = c .before .before .before .before .before .before .before .before .args in
+    omega (arith, c .before .before .before .before .before .before .before .before .pre .2, few-atomics (a .file .now) (a .n) (λ i. c .before .before .before .before .before .before .before .shared-slice-known .given i .fits) (c .before .before .before .before .before .before .before .before .pre .0))
 
 -- src/lib.rt:70:5
 next-due-requires : tie.Need-next-due-requires
@@ -67,11 +67,17 @@ next-due-requires c κs = search needs
 -- src/lib.rt:63:1
 returns : tie.Need-returns
 returns c =
-    let a = c .before .before .before .before .before .before .before .before .before .before .before .before .args in
-    let st = c .before .load .result in
+    let a = c .before .before .before .before .before .before .before .before .before .before .before .before .before .before .before .before .args in
+    let st = c .before .before .before .before .before .before .before .load .result in
     c .next-due .ensures
-    ∙ ap₂ (λ (p : Bytes) (t : List ℕ). tableNext (phasesIn p) t st) (c .before .before .before .phases-of .ensures) (c .before .before .before .before .before .fill-tables .ensures ∙ same-tables (replicate {A = ℕ} tableSize 0) (c .before .before .before .before .before .before .before .before .before .components-of .ensures) (c .before .before .before .before .before .before .before .before .rules-of .ensures) (c .before .before .before .before .before .before .before .couplings-of .ensures))
-    ∙ due-whole (a .file .now) (a .n) (λ i. c .before .before .before .before .before .before .before .before .before .before .before .shared-slice-known .given i .fits) (c .before .before .before .before .before .before .before .before .before .before .before .before .pre .0) (a .run .now) (replicate {A = ℕ} tableSize 0) st (a .count) (c .before .before .before .before .before .before .before .before .before .before .before .before .pre .1) (length-replicate {A = ℕ} tableSize 0) (c .before .before .before .before .before .before .before .before .before .before .before .before .pre .2) (c .before .load .ensures .0) (c .before .load .ensures .1) (c .before .load .ensures .2)
+    ∙ ap₂ (λ (p : Bytes) (t : List ℕ). tableNext (phasesIn p) t st) (c .before .before .before .before .phases-of .ensures) (c .before .before .before .before .before .before .before .before .before .fill-tables .ensures ∙ same-tables (replicate {A = ℕ} tableSize 0) (c .before .before .before .before .before .before .before .before .before .before .before .before .before .components-of .ensures) (c .before .before .before .before .before .before .before .before .before .before .before .before .rules-of .ensures) (c .before .before .before .before .before .before .before .before .before .before .before .couplings-of .ensures))
+    ∙ due-whole (a .file .now) (a .n) (λ i. c .before .before .before .before .before .before .before .before .before .before .before .before .before .before .before .shared-slice-known .given i .fits) (c .before .before .before .before .before .before .before .before .before .before .before .before .before .before .before .before .pre .0) (a .run .now) (replicate {A = ℕ} tableSize 0) st (a .count) (c .before .before .before .before .before .before .before .before .before .before .before .before .before .before .before .before .pre .1) (length-replicate {A = ℕ} tableSize 0) (c .before .before .before .before .before .before .before .before .before .before .before .before .before .before .before .before .pre .2) (c .before .before .before .before .before .before .before .load .ensures .0) (c .before .before .before .before .before .before .before .load .ensures .1) (c .before .before .before .before .before .before .before .load .ensures .2)
+
+slice-aggregate-next-due-2 : tie.Need-slice-aggregate-next-due-2
+slice-aggregate-next-due-2 c = search needs
+
+slice-aggregate-next-due-3 : tie.Need-slice-aggregate-next-due-3
+slice-aggregate-next-due-3 c = search needs
 
 pub whole-due-spec : {M : Type 1} → statement M
 whole-due-spec =
@@ -82,8 +88,10 @@ whole-due-spec =
     couplings-of-requires
     slice-aggregate-fill-tables
     fill-tables-requires
+    load-requires
     phases-of-requires
     slice-aggregate-next-due
-    load-requires
+    slice-aggregate-next-due-2
+    slice-aggregate-next-due-3
     next-due-requires
     returns)

@@ -1,52 +1,74 @@
 -- What `collect_bag` leaves at the front of the buffer is the bag, as much as has room; the transition is the definition's with it.
 use borrow.Author.Needs.{needs}
 use native.Mathlib.Omega.{arith}
-use mathlib.Core.Path.{sym}
-use lib.Seq.{length-take-le}
-use denote.Ref.{now}
-use Rattle.pull_laws.specs.TableStep.{isUp}
-use Rattle.model_records.specs.Values.{phasesIn}
-use Rattle.definition.specs.Engine.{toBag}
 use Rattle.simulator.proofs.Laws.{into-held}
+use Rattle.definition.specs.Engine.{toBag}
+use Rattle.model_records.specs.Values.{phasesIn}
+use Rattle.pull_laws.specs.TableStep.{isUp}
+use denote.Ref.{now}
+use lib.Seq.{length-take-le}
+use mathlib.Core.Path.{sym}
 use Rattle.simulator.proofs.change_one.Statement.{statement}
 use Rattle.simulator.proofs.change_one.Tie as tie
+use Rattle.simulator.proofs.change_one.Reads as reads
+use Rattle.simulator.proofs.change_one.Lts as lts
+use Rattle.bag_keys.proofs.key_at.Reads as key-at-reads
+use Rattle.collect.proofs.collect_bag.Reads as collect-bag-reads
+use Rattle.little_endian.proofs.size16.Reads as size16-reads
+use Rattle.transitions.proofs.transition.Reads as transition-reads
 
+-- src/lib.rt:42:9
 collect-bag-requires : tie.Need-collect-bag-requires
 collect-bag-requires c κs = search needs
 
+-- src/lib.rt:43:29
 size16-requires : tie.Need-size16-requires
 size16-requires c κs = search needs
 
+-- src/lib.rt:43:15
 key-at-requires : tie.Need-key-at-requires
 key-at-requires c κs = search needs
 
+-- src/lib.rt:44:15
 slice-reshare-prefix-bag : tie.Need-slice-reshare-prefix-bag
 slice-reshare-prefix-bag c =
-    let a = c .before .before .before .before .before .before .before .before .before .before .before .before .before .args in
+    let a = c .before .before .before .before .before .before .before .before .before .before .before .before .before .before .before .args in
     let m = c .before .before .before .before .collect-bag in
     let f = into-held (phasesIn (now (a .phases))) (now (a .tables)) (now (a .marks)) (now (a .reached)) (toBag (now (a .given))) (a .c) (now (a .work)) (m .last .1 .1 .1 .1 .1 .1 .0) (m .result) (m .ensures) in
     omega (arith, f .position, f .size)
 
+-- src/lib.rt:44:9
 slice-aggregate-bag : tie.Need-slice-aggregate-bag
 slice-aggregate-bag c =
-    let a = c .before .before .before .before .before .before .before .before .before .before .before .before .before .before .args in
+    let a = c .before .before .before .before .before .before .before .before .before .before .before .before .before .before .before .before .args in
     let m = c .before .before .before .before .before .collect-bag in
     let f = into-held (phasesIn (now (a .phases))) (now (a .tables)) (now (a .marks)) (now (a .reached)) (toBag (now (a .given))) (a .c) (now (a .work)) (m .last .1 .1 .1 .1 .1 .1 .0) (m .result) (m .ensures) in
     sym (length-take-le (m .result) (m .last .1 .1 .1 .1 .1 .1 .0) (omega (arith, f .position, f .size)))
 
+-- src/lib.rt:45:5
 transition-requires : tie.Need-transition-requires
 transition-requires c κs = search needs
 
+-- src/lib.rt:26:1
 same-length : tie.Need-same-length
 same-length c = search needs
 
+-- src/lib.rt:26:1
+same-length-2 : tie.Need-same-length-2
+same-length-2 c = search needs
+
+-- src/lib.rt:26:1
+same-length-3 : tie.Need-same-length-3
+same-length-3 c = search needs
+
+-- src/lib.rt:26:1
 returns : tie.Need-returns
 unfolding isUp
 returns c =
-    let a = c .before .before .before .before .before .before .before .before .before .before .before .before .before .before .before .args in
-    let m = c .before .before .before .before .before .before .collect-bag in
+    let a = c .before .before .before .before .before .before .before .before .before .before .before .before .before .before .before .before .before .before .before .before .before .before .before .args in
+    let m = c .before .before .before .before .before .before .before .before .before .before .before .before .collect-bag in
     let f = into-held (phasesIn (now (a .phases))) (now (a .tables)) (now (a .marks)) (now (a .reached)) (toBag (now (a .given))) (a .c) (now (a .work)) (m .last .1 .1 .1 .1 .1 .1 .0) (m .result) (m .ensures) in
-    rw (c .before .before .key-at .ensures, c .before .before .before .size16 .ensures, f .held) at (c .transition .ensures)
+    rw (c .before .before .before .before .before .before .before .before .key-at .ensures, c .before .before .before .before .before .before .before .before .before .size16 .ensures, f .held) at (c .before .before .before .before .transition .ensures)
 
 pub change-one-spec : {M : Type 1} → statement M
 change-one-spec =
@@ -59,4 +81,6 @@ change-one-spec =
     slice-aggregate-bag
     transition-requires
     same-length
+    same-length-2
+    same-length-3
     returns)

@@ -1,62 +1,90 @@
 -- The marks and flags over zeros are the definition's, and then the step is the definition's with them.
 use borrow.Author.Needs.{needs}
-use Prim.Native.Nat.{min}
-use mathlib.Core.Path.{_∙_, ap}
-use mathlib.Core.List.{map}
-use lib.ListN.{length}
-use denote.Ref.{now}
-use Rattle.pull_laws.specs.TableStep.{rootKeys}
-use Rattle.pull_laws.specs.Put.{messageOf}
-use Rattle.model_records.specs.Values.{phasesIn, rulesIn}
-use Rattle.definition.specs.Engine.{toBag}
-use Rattle.definition.specs.Model.{messageLe}
-use Rattle.definition.specs.Lists.{sortBy}
+use native.Mathlib.Omega.{arith}
 use Rattle.simulator.proofs.Laws.{step-is, whole-bag, count-bag}
+use Rattle.definition.specs.Lists.{sortBy}
+use Rattle.definition.specs.Model.{messageLe}
+use Rattle.definition.specs.Engine.{toBag}
+use Rattle.run_state.specs.Held.{held}
+use Rattle.model_records.specs.Values.{phasesIn, rulesIn}
+use Rattle.pull_laws.specs.Put.{messageOf}
+use Rattle.pull_laws.specs.TableStep.{rootKeys}
+use denote.Ref.{now}
+use lib.ListN.{length}
+use mathlib.Core.List.{map}
+use mathlib.Core.Path.{_∙_, ap}
+use Prim.Native.Nat.{min}
 use Rattle.simulator.proofs.step_once.Statement.{statement}
 use Rattle.simulator.proofs.step_once.Tie as tie
+use Rattle.simulator.proofs.step_once.Reads as reads
+use Rattle.simulator.proofs.step_once.Lts as lts
+use Rattle.little_endian.proofs.front.Reads as front-reads
+use Rattle.marks.proofs.mark.Reads as mark-reads
+use Rattle.marks.proofs.reach.Reads as reach-reads
+use Rattle.simulator.proofs.step_marked.Reads as step-marked-reads
 
+-- src/lib.rt:161:9
 front-requires : tie.Need-front-requires
 front-requires c κs = search needs
 
+-- src/lib.rt:164:53
 slice-aggregate-mark : tie.Need-slice-aggregate-mark
 slice-aggregate-mark c = search needs
 
+-- src/lib.rt:164:5
 mark-requires : tie.Need-mark-requires
 mark-requires c κs = search needs
 
+-- src/lib.rt:165:26
 slice-aggregate-reach : tie.Need-slice-aggregate-reach
 slice-aggregate-reach c = search needs
 
+-- src/lib.rt:165:39
 slice-aggregate-reach-2 : tie.Need-slice-aggregate-reach-2
 slice-aggregate-reach-2 c = search needs
 
+-- src/lib.rt:165:5
 reach-requires : tie.Need-reach-requires
 reach-requires c κs = search needs
 
+-- src/lib.rt:170:9
 slice-aggregate-step-marked : tie.Need-slice-aggregate-step-marked
 slice-aggregate-step-marked c = search needs
 
+-- src/lib.rt:171:9
 slice-aggregate-step-marked-2 : tie.Need-slice-aggregate-step-marked-2
 slice-aggregate-step-marked-2 c = search needs
 
+-- src/lib.rt:166:5
 step-marked-requires : tie.Need-step-marked-requires
 step-marked-requires c κs = search needs
 
+-- src/lib.rt:142:1
 same-length : tie.Need-same-length
 same-length c = search needs
 
+-- src/lib.rt:142:1
 same-length-2 : tie.Need-same-length-2
 same-length-2 c = search needs
 
+-- src/lib.rt:142:1
+same-length-3 : tie.Need-same-length-3
+same-length-3 c = search needs
+
+-- src/lib.rt:142:1
+same-length-4 : tie.Need-same-length-4
+same-length-4 c = search needs
+
+-- src/lib.rt:142:1
 returns : tie.Need-returns
 returns c =
-    let a = c .before .before .before .before .before .before .before .before .before .before .before .before .before .before .before .before .before .before .before .before .before .before .before .args in
+    let a = c .before .before .before .before .before .before .before .before .before .before .before .before .before .before .before .before .before .before .before .before .before .before .before .before .before .before .before .before .before .before .before .before .before .args in
     let ps = phasesIn (now (a .phases)) in
     let t = now (a .tables) in
-    let es = c .before .before .before .before .before .before .before .before .before .before .before .before .before .before .mark .last .1 .1 .1 .1 .1 .0 in
-    let fs = c .before .before .before .before .before .before .before .before .before .before .reach .last .1 .1 .1 .0 in
-    let s = c .before .before .before .before .step-marked .ensures in
-    rw (← c .before .before .before .before .before .before .before .before .before .before .before .before .before .before .before .before .front .ensures, step-is ps t (rulesIn (now (a .rules))) (a .n) (length (now (a .work))) (a .at .0) (toBag (now (c .before .before .before .before .before .before .before .before .before .before .before .before .before .before .before .before .front .result))) (a .st) es fs (c .before .before .before .before .before .before .before .before .before .before .before .before .before .before .mark .ensures) (c .before .before .before .before .before .before .before .before .before .before .reach .ensures))
+    let es = c .before .before .before .before .before .before .before .before .before .before .before .before .before .before .before .before .before .before .before .before .mark .last .1 .1 .1 .1 .1 .1 .0 in
+    let fs = c .before .before .before .before .before .before .before .before .before .before .before .before .before .before .before .before .reach .last .1 .1 .1 .0 in
+    let s = c .before .before .before .before .before .before .before .before .step-marked .ensures in
+    rw (← c .before .before .before .before .before .before .before .before .before .before .before .before .before .before .before .before .before .before .before .before .before .before .before .before .front .ensures, step-is ps t (rulesIn (now (a .rules))) (a .n) (length (now (a .work))) (a .at .0) (toBag (now (c .before .before .before .before .before .before .before .before .before .before .before .before .before .before .before .before .before .before .before .before .before .before .before .before .front .result))) (held (now (a .phase)) (now (a .last))) es fs (c .before .before .before .before .before .before .before .before .before .before .before .before .before .before .before .before .before .before .before .before .mark .ensures) (c .before .before .before .before .before .before .before .before .before .before .before .before .before .before .before .before .reach .ensures))
     (s .0, s .1 ∙ ap (min (length (now (a .keys)))) (count-bag (rootKeys ps t es fs)), λ h. s .2 ∙ ap (λ l. sortBy messageLe (map messageOf l)) (whole-bag (length (now (a .keys))) (rootKeys ps t es fs) h))
 
 pub step-once-spec : {M : Type 1} → statement M
@@ -74,4 +102,6 @@ step-once-spec =
     step-marked-requires
     same-length
     same-length-2
+    same-length-3
+    same-length-4
     returns)

@@ -1,79 +1,140 @@
 -- Due or not, with an empty bag or not: the four cases of the definition.
 use borrow.Author.Needs.{needs}
-use mathlib.Core.Path.{_∙_}
-use denote.Ref.{now}
-use Rattle.pull_laws.specs.TableStep.{decidedIn}
-use Rattle.model_records.specs.Values.{phasesIn, rulesIn}
+use native.Mathlib.Omega.{arith}
 use Rattle.transitions.proofs.Laws.{internal-case, still-case, confluent-case, external-case}
+use Rattle.run_state.specs.Held.{held}
+use Rattle.model_records.specs.Values.{phasesIn, rulesIn}
+use Rattle.pull_laws.specs.TableStep.{decidedIn}
+use denote.Ref.{now}
+use mathlib.Core.Path.{_∙_}
 use Rattle.transitions.proofs.transition.Statement.{statement}
 use Rattle.transitions.proofs.transition.Tie as tie
+use Rattle.transitions.proofs.transition.Reads as reads
+use Rattle.transitions.proofs.transition.Lts as lts
+use Rattle.clock.proofs.Moment.since.Reads as since-reads
+use Rattle.little_endian.proofs.size.Reads as size-reads
+use Rattle.run_state.proofs.last_at.Reads as last-at-reads
+use Rattle.run_state.proofs.phase_at.Reads as phase-at-reads
+use Rattle.run_state.proofs.put_at.Reads as put-at-reads
+use Rattle.transitions.proofs.confluent.Reads as confluent-reads
+use Rattle.transitions.proofs.decided.Reads as decided-reads
+use Rattle.transitions.proofs.next_of.Reads as next-of-reads
 
+-- src/lib.rt:95:9
 size-requires : tie.Need-size-requires
 size-requires c κs = search needs
 
-phase-of-requires : tie.Need-phase-of-requires
-phase-of-requires c κs = search needs
+-- src/lib.rt:96:9
+phase-at-requires : tie.Need-phase-at-requires
+phase-at-requires c κs = search needs
 
+-- src/lib.rt:99:54
 next-of-requires : tie.Need-next-of-requires
 next-of-requires c κs = search needs
 
-with-requires : tie.Need-with-requires
-with-requires c κs = search needs
+-- src/lib.rt:99:13
+put-at-requires : tie.Need-put-at-requires
+put-at-requires c κs = search needs
 
+-- src/lib.rt:101:9
+same-length : tie.Need-same-length
+same-length c = search needs
+
+-- src/lib.rt:101:9
+same-length-2 : tie.Need-same-length-2
+same-length-2 c = search needs
+
+-- src/lib.rt:101:9
 returns : tie.Need-returns
 returns c =
-    let a = c .before .before .before .before .before .before .before .before .before .before .args in
-    rw (c .before .before .if2 .taken) ((rw (c .before .next-of .ensures, c .before .before .before .before .phase-of .ensures, c .before .before .before .before .before .size .ensures) at (c .with .ensures)) ∙ internal-case (phasesIn (now (a .phases))) (now (a .tables)) (rulesIn (now (a .rules))) (a .at .0) (a .st) (a .i) (a .c) (now (a .bag)) (c .before .before .before .if1 .taken))
+    let a = c .before .before .before .before .before .before .before .before .before .before .before .before .before .before .before .before .before .before .before .args in
+    rw (c .before .before .before .before .before .before .before .before .if2 .taken) ((rw (c .before .before .before .before .before .before .before .next-of .ensures, c .before .before .before .before .before .before .before .before .before .before .phase-at .ensures, c .before .before .before .before .before .before .before .before .before .before .before .before .size .ensures) at (c .before .before .before .before .put-at .ensures)) ∙ internal-case (phasesIn (now (a .phases))) (now (a .tables)) (rulesIn (now (a .rules))) (a .at .0) (held (now (a .phase)) (now (a .last))) (a .i) (a .c) (now (a .bag)) (c .before .before .before .before .before .before .before .before .before .if1 .taken))
 
+-- src/lib.rt:101:9
+same-length-3 : tie.Need-same-length-3
+same-length-3 c = search needs
+
+-- src/lib.rt:101:9
 returns-2 : tie.Need-returns-2
 returns-2 c =
-    let a = c .before .before .before .before .before .before .before .before .args in
-    rw (c .if2 .left) (still-case (phasesIn (now (a .phases))) (now (a .tables)) (rulesIn (now (a .rules))) (a .at .0) (a .st) (a .i) (a .c) (now (a .bag)) (c .before .if1 .taken))
+    let a = c .before .before .before .before .before .before .before .before .before .before .before .args in
+    rw (c .if2 .left) (still-case (phasesIn (now (a .phases))) (now (a .tables)) (rulesIn (now (a .rules))) (a .at .0) (held (now (a .phase)) (now (a .last))) (a .i) (a .c) (now (a .bag)) (c .before .if1 .taken))
 
+-- src/lib.rt:108:13
 confluent-requires : tie.Need-confluent-requires
 confluent-requires c κs = search needs
 
-with-requires-2 : tie.Need-with-requires-2
-with-requires-2 c κs = search needs
+-- src/lib.rt:104:9
+put-at-requires-2 : tie.Need-put-at-requires-2
+put-at-requires-2 c κs = search needs
 
+-- src/lib.rt:111:9
+same-length-4 : tie.Need-same-length-4
+same-length-4 c = search needs
+
+-- src/lib.rt:111:9
+same-length-5 : tie.Need-same-length-5
+same-length-5 c = search needs
+
+-- src/lib.rt:111:9
 returns-3 : tie.Need-returns-3
 returns-3 c =
-    let a = c .before .before .before .before .before .before .before .before .before .before .args in
-    rw (c .before .before .if3 .taken) ((rw (c .before .confluent .ensures, c .before .before .before .before .phase-of .ensures, c .before .before .before .before .before .size .ensures) at (c .with2 .ensures)) ∙ confluent-case (phasesIn (now (a .phases))) (now (a .tables)) (rulesIn (now (a .rules))) (a .at .0) (a .st) (a .i) (a .c) (now (a .bag)) (c .before .before .before .if1 .left))
+    let a = c .before .before .before .before .before .before .before .before .before .before .before .before .before .before .before .before .before .before .before .args in
+    rw (c .before .before .before .before .before .before .before .before .if3 .taken) ((rw (c .before .before .before .before .before .before .before .confluent .ensures, c .before .before .before .before .before .before .before .before .before .before .phase-at .ensures, c .before .before .before .before .before .before .before .before .before .before .before .before .size .ensures) at (c .before .before .before .before .put-at2 .ensures)) ∙ confluent-case (phasesIn (now (a .phases))) (now (a .tables)) (rulesIn (now (a .rules))) (a .at .0) (held (now (a .phase)) (now (a .last))) (a .i) (a .c) (now (a .bag)) (c .before .before .before .before .before .before .before .before .before .if1 .left))
 
-last-of-requires : tie.Need-last-of-requires
-last-of-requires c κs = search needs
+-- src/lib.rt:113:28
+last-at-requires : tie.Need-last-at-requires
+last-at-requires c κs = search needs
 
+-- src/lib.rt:113:9
 since-requires : tie.Need-since-requires
 since-requires c κs = search needs
 
+-- src/lib.rt:118:9
 decided-requires : tie.Need-decided-requires
 decided-requires c κs = search needs
 
-with-requires-3 : tie.Need-with-requires-3
-with-requires-3 c κs = search needs
+-- src/lib.rt:114:5
+put-at-requires-3 : tie.Need-put-at-requires-3
+put-at-requires-3 c κs = search needs
 
+-- src/lib.rt:81:1
+same-length-6 : tie.Need-same-length-6
+same-length-6 c = search needs
+
+-- src/lib.rt:81:1
+same-length-7 : tie.Need-same-length-7
+same-length-7 c = search needs
+
+-- src/lib.rt:81:1
 returns-4 : tie.Need-returns-4
 unfolding decidedIn
 returns-4 c =
-    let a = c .before .before .before .before .before .before .before .before .before .before .before .before .args in
-    rw (c .before .before .before .before .if3 .left) ((rw (c .before .decided .ensures, c .before .before .since .ensures, c .before .before .before .last-of .ensures, c .before .before .before .before .before .before .phase-of .ensures, c .before .before .before .before .before .before .before .size .ensures) at (c .with3 .ensures)) ∙ external-case (phasesIn (now (a .phases))) (now (a .tables)) (rulesIn (now (a .rules))) (a .at .0) (a .st) (a .i) (a .c) (now (a .bag)) (c .before .before .before .before .before .if1 .left))
+    let a = c .before .before .before .before .before .before .before .before .before .before .before .before .before .before .before .before .before .before .before .before .before .before .args in
+    rw (c .before .before .before .before .before .before .before .before .before .before .before .if3 .left) ((rw (c .before .before .before .before .before .before .before .decided .ensures, c .before .before .before .before .before .before .before .before .since .ensures, c .before .before .before .before .before .before .before .before .before .last-at .ensures, c .before .before .before .before .before .before .before .before .before .before .before .before .before .phase-at .ensures, c .before .before .before .before .before .before .before .before .before .before .before .before .before .before .before .size .ensures) at (c .before .before .before .before .put-at3 .ensures)) ∙ external-case (phasesIn (now (a .phases))) (now (a .tables)) (rulesIn (now (a .rules))) (a .at .0) (held (now (a .phase)) (now (a .last))) (a .i) (a .c) (now (a .bag)) (c .before .before .before .before .before .before .before .before .before .before .before .before .if1 .left))
 
 pub transition-spec : {M : Type 1} → statement M
 transition-spec =
     tie.close
     (tie.spec
     size-requires
-    phase-of-requires
+    phase-at-requires
     next-of-requires
-    with-requires
+    put-at-requires
+    same-length
+    same-length-2
     returns
+    same-length-3
     returns-2
     confluent-requires
-    with-requires-2
+    put-at-requires-2
+    same-length-4
+    same-length-5
     returns-3
-    last-of-requires
+    last-at-requires
     since-requires
     decided-requires
-    with-requires-3
+    put-at-requires-3
+    same-length-6
+    same-length-7
     returns-4)

@@ -1,0 +1,21 @@
+use borrow.Author.Needs.{needs}
+use native.Mathlib.Omega.{arith}
+use Rattle.pull_laws.specs.Tables.{atomicAt}
+use Rattle.dues.proofs.is_atomic.Statement.{statement}
+use Rattle.dues.proofs.is_atomic.Tie as tie
+use Rattle.dues.proofs.is_atomic.Reads as reads
+use Rattle.dues.proofs.is_atomic.Lts as lts
+use Rattle.dues.proofs.row_word.Reads as row-word-reads
+
+-- src/lib.rt:71:5
+row-word-requires : tie.Need-row-word-requires
+row-word-requires c κs = search needs
+
+-- src/lib.rt:68:1
+returns : tie.Need-returns
+unfolding atomicAt
+returns c =
+    rw (c .row-word .ensures)
+
+pub is-atomic-spec : {M : Type 1} → statement M
+is-atomic-spec = tie.close (tie.spec row-word-requires returns)
