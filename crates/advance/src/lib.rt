@@ -82,7 +82,7 @@ pub fn advance_on(
     scratch: &mut [u8],
     trace: &mut [u8],
 ) -> Ending
-    requires { ⌜ Lent n (length (now work)) (length (now keys)) × (t .0 ≤ maxMoment) × (from .used ≤ length (now trace))
+    requires { ⌜ Lent (length (now work)) (length (now keys)) × (t .0 ≤ maxMoment) × (from .used ≤ length (now trace))
         × (from .instants + suc (t .0) ≤ latest) × (from .steps + maxSteps * suc (t .0) ≤ latest) ⌝ }
     ensures { λ r. ⌜ (endedOf (now (trace .exit)) r ≡ advancing (simOf (now (phases .entry)) (now (rules .entry)) (now (tables .entry)) n (length (now (work .entry))))
         (suc (t .0)) (length (now (trace .entry))) (t .0) (toBag (now (bag .entry))) (progressOf (now (trace .entry)) from))
@@ -158,7 +158,7 @@ pub fn advance_from(
     scratch: &mut [u8],
     trace: &mut [u8],
 ) -> Answer
-    requires { ⌜ Lent n (length (now work)) (length (now keys)) × (t .0 ≤ maxMoment) × (n ≤ maxComponents) × (runLength n ≤ length (now run)) ⌝ }
+    requires { ⌜ Lent (length (now work)) (length (now keys)) × (t .0 ≤ maxMoment) × (n ≤ maxComponents) × (runLength n ≤ length (now run)) ⌝ }
     ensures { λ r. ⌜ outcomeOf (now (run .exit)) (now (trace .exit)) r ≡ advanced (now (run .entry)) (now (trace .entry))
         (ok (savedEnd n (advanceFrom (simOf (now (phases .entry)) (now (rules .entry)) (now (tables .entry)) n (length (now (work .entry))))
         (opening .0) st (length (now (trace .entry))) (t .0) (toBag (now (bag .entry)))))) ⌝ }

@@ -67,7 +67,7 @@ pub fn attempt(
     scratch: &mut [u8],
     trace: &mut [u8],
 ) -> Ending
-    requires { ⌜ Lent n (length (now work)) (length (now keys)) × (g .used ≤ length (now trace))
+    requires { ⌜ Lent (length (now work)) (length (now keys)) × (g .used ≤ length (now trace))
         × (at .0 < latest) × (g .instants < latest) × (g .steps + maxSteps ≤ latest)
         × (timeOf due ≡ simOf (now phases) (now rules) (now tables) n (length (now work)) .next (g .state)) ⌝ }
     ensures { λ r. ⌜ Attempted (at .0) g (now (trace .entry)) (now (trace .exit))

@@ -78,22 +78,14 @@ pub sofar-none : {S : Type 0} (i : Instant S) (now from : ℕ) (out : Bytes) →
 unfolding after over all records recordsFrom traceBytes concat
 sofar-none i now from out = record { bags = []; count = refl; split = refl; overs = refl; sized = λ h. omega arith; put = λ h l. refl }
 
--- What the code has of a step: the state, how many messages it put out up to one past the limit, and their keys where they are in bounds.
+-- What the code has of a step: the state, how many messages it put out, and their keys.
 abbrev pub Gives : {S : Type 0} → Stepped S → S → ℕ → List ℕ → Type 0
-Gives r s count keys =
-    (s ≡ r .state) × (count ≡ min (suc maxRootBag) (length (r .out)))
-    × (count ≤ maxRootBag → map messageOf (take count keys) ≡ sortBy messageLe (r .out))
+Gives r s count keys = (s ≡ r .state) × (count ≡ length (r .out)) × (map messageOf (take count keys) ≡ sortBy messageLe (r .out))
 
--- A buffer for the root's keys that has room for one more than the largest bag shows a larger one.
-pub gives-root : {S : Type 0} (r : Stepped S) (s : S) (count room : ℕ) (keys : List ℕ) → room ≡ suc maxRootBag
-    → (s ≡ r .state) × (count ≡ min room (length (r .out))) × (length (r .out) ≤ room → map messageOf (take count keys) ≡ sortBy messageLe (r .out)) → Gives r s count keys
-gives-root r s count room keys e h = (h .0, omega (arith, e, h .1), λ l. h .2 (omega (arith, e, h .1)))
-
--- The keys of a bag that is in bounds stand in the buffer.
-pub keys-hold : (count : ℕ) (ks : List ℕ) (x : Bag) → count ≡ min (suc maxRootBag) (length x)
-    → (count ≤ maxRootBag → map messageOf (take count ks) ≡ sortBy messageLe x) → count ≤ maxRootBag → count ≤ length ks
-keys-hold count ks x e f h =
-    let l : length (take count ks) ≡ length x = sym (length-map (take count ks) messageOf) ∙ ap length (f h) ∙ length-sort x in
+-- The keys of a bag stand in the buffer.
+pub keys-hold : (count : ℕ) (ks : List ℕ) (x : Bag) → count ≡ length x → map messageOf (take count ks) ≡ sortBy messageLe x → count ≤ length ks
+keys-hold count ks x e f =
+    let l : length (take count ks) ≡ length x = sym (length-map (take count ks) messageOf) ∙ ap length f ∙ length-sort x in
     omega (arith, length-take count ks)
 
 or-false : (a b : Bool) → (a || b) ≡ false → (a ≡ false) × (b ≡ false)
@@ -107,7 +99,7 @@ put-when now k count used ks out h l = rw (le-leb count maxRootBag h, le-leb (us
 
 -- One step more.
 module _ {S : Type 0} (whole rest : Instant S) (now from : ℕ) (out₀ out out′ : Bytes) (k used used′ : ℕ) (flag : Bool) (x : Bag) (ks : List ℕ) (count : ℕ)
-    (lo : length out ≡ length out₀) (ec : count ≡ min (suc maxRootBag) (length x)) (em : count ≤ maxRootBag → map messageOf (take count ks) ≡ sortBy messageLe x)
+    (lo : length out ≡ length out₀) (ec : count ≡ length x) (em : map messageOf (take count ks) ≡ sortBy messageLe x)
     (eu : used′ ≡ used + stepSize count) (eo : out′ ≡ stepPut now k ks count used out) (s : Sofar whole (stepped x rest) now from out₀ out k used flag) where
   abbrev xs : List Bag
   xs = s .bags ++ (x ∷ [])
@@ -116,11 +108,7 @@ module _ {S : Type 0} (whole rest : Instant S) (now from : ℕ) (out₀ out out�
   new = stepBytes now k (take count ks)
 
   same-test : ltb maxRootBag count ≡ ltb maxRootBag (length x)
-  same-test = go (ltb maxRootBag (length x)) refl
-    where
-      go : (b : Bool) → ltb maxRootBag (length x) ≡ b → ltb maxRootBag count ≡ ltb maxRootBag (length x)
-      go true e = rw e (lt-ltb maxRootBag count (omega (arith, ltb-true maxRootBag (length x) e)))
-      go false e = rw e (le-ltb maxRootBag count (omega (arith, ltb-false maxRootBag (length x) e)))
+  same-test = ap (ltb maxRootBag) ec
 
   module _ (h : (flag || ltb maxRootBag count) ≡ false) where
     before : flag ≡ false
@@ -130,10 +118,10 @@ module _ {S : Type 0} (whole rest : Instant S) (now from : ℕ) (out₀ out out�
     bounded = ltb-false maxRootBag count (or-false flag (ltb maxRootBag count) h .1)
 
     on : records now xs ≡ records now (s .bags) ++ new
-    on = records-snoc now (s .bags) x (take count ks) (em bounded) ∙ rw (← s .count)
+    on = records-snoc now (s .bags) x (take count ks) em ∙ rw (← s .count)
 
     size : length new ≡ stepSize count
-    size = length-step now k count ks (keys-hold count ks x ec em bounded)
+    size = length-step now k count ks (keys-hold count ks x ec em)
 
     sized-more : used′ ≡ from + length (records now xs)
     sized-more = rw on (omega (arith, eu, length-append (records now (s .bags)) new, size, s .sized before))
@@ -210,5 +198,5 @@ module _ {whole rest : Instant State} {now from : ℕ} {out₀ out : Bytes} {k u
       (rw (o, sofar .count, sofar .sized f), most, λ h l. sofar .put f (rw (sofar .sized f) l))
 
 -- Buffers of the same lengths are lent as well.
-pub lent-kept : {n w w₀ k k₀ : ℕ} → w ≡ w₀ → k ≡ k₀ → Lent n w₀ k₀ → Lent n w k
+pub lent-kept : {w w₀ k k₀ : ℕ} → w ≡ w₀ → k ≡ k₀ → Lent w₀ k₀ → Lent w k
 lent-kept e f h = rw (e, f) h

@@ -64,7 +64,7 @@ pub fn instant(
     out: &mut [u8],
     from: usize,
 ) -> Ran
-    requires { ⌜ Lent n (length (now work)) (length (now keys)) × (from ≤ length (now out))
+    requires { ⌜ Lent (length (now work)) (length (now keys)) × (from ≤ length (now out))
         × (timeOf due ≡ simOf (now phases) (now rules) (now tables) n (length (now work)) .next st) ⌝ }
     ensures { λ r. ⌜ Judged (at .0) from st (now (out .entry)) (now (out .exit))
         (instant (simOf (now (phases .entry)) (now (rules .entry)) (now (tables .entry)) n (length (now (work .entry)))) (at .0) (toBag (take len (now (bag .entry)))) st) r

@@ -34,7 +34,7 @@ use Rattle.run_state.specs.declared.State.{State}
 use Rattle.run_state.specs.Held.{entriesOf}
 use Rattle.pull_laws.specs.Put.{messageOf}
 use Rattle.pull_laws.specs.Tables.{numbersAt}
-use Rattle.pull_laws.specs.TableStep.{isUp, keysInto, tableStep}
+use Rattle.pull_laws.specs.TableStep.{isUp, keysInto, rootKeys, rootRoom, tableStep}
 use Rattle.pull_laws.specs.Tabled.{Tabled}
 use Rattle.pull_laws.proofs.Values.{hasValue}
 use Rattle.pull_laws.proofs.Ends.{root-same, pulled-same}
@@ -141,11 +141,27 @@ module _ (m : Model) (w : Sound m) (t : List ℕ) (h : Tabled m t) (st : State) 
           ∙ ap (map (entryAfter m now x (entries m w st))) (take-length (atomics (m .components)))
           ∙ sym (step-moved m w now x (entries m w st) is-ready)
 
+      -- the root's whole bag, which has at most 4 messages a route
+      root-whole : Same (map messageOf (rootKeys (m .phases) t marked flags)) (step m now x (entries m w st) .out)
+      root-whole p =
+          ap (λ l. count p (map messageOf l)) (root-keys m w st t h now (k .soon) x) ∙ root-same m w at now fresh p
+          ∙ ap (count p) (sym (step-out m w now x (entries m w st) is-ready))
+
+      root-few : length (rootKeys (m .phases) t marked flags) ≤ maxOutputs * length (routes m)
+      root-few =
+          omega (
+            arith,
+            length-map (rootKeys (m .phases) t marked flags) messageOf,
+            same-length (map messageOf (rootKeys (m .phases) t marked flags)) (step m now x (entries m w st) .out) root-whole,
+            ap length (step-out m w now x (entries m w st) is-ready),
+            root-bag m w at now is-ready,
+          )
+
       pub table-out : Same (after .out) (step m now x (entries m w st) .out)
       unfolding tableStep
       table-out p =
-          ap (λ l. count p (map messageOf l)) (root-keys m w st t h now (k .soon) x) ∙ root-same m w at now fresh p
-          ∙ ap (count p) (sym (step-out m w now x (entries m w st) is-ready))
+          let whole : take (rootRoom room) (rootKeys (m .phases) t marked flags) ≡ rootKeys (m .phases) t marked flags = take-all (rootRoom room) _ (omega (arith, root-few)) in
+          ap (λ l. count p (map messageOf l)) whole ∙ root-whole p
 
       pub table-room : SameRoom (after .state) st
       unfolding tableStep

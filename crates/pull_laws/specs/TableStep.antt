@@ -1,6 +1,6 @@
 -- One step on the tables of a call, in the code's own order: what is due is marked, each atomic's bag is pulled, and each changes. The laws
 -- in proofs/ say that this is the definition's step, where the tables are a model's. Assumes nothing.
-use Prim.Native.Nat.{ℕ, zero, suc, _+_, _-_, min}
+use Prim.Native.Nat.{ℕ, zero, suc, _+_, _-_, _/_, min}
 use mathlib.Core.List.{List, [], _∷_, map}
 use mathlib.Core.Option.{Option, none, some}
 use mathlib.Core.Bool.{Bool, true, false, _&&_, _||_, not, cond}
@@ -37,6 +37,11 @@ decidingIn rs first end c p e x = firstFrom (λ i. holds c p e x (getD rs i noRu
 -- A flag is up where a list does not hold 0.
 unfoldable pub isUp : List ℕ → ℕ → Bool
 isUp flags i = not (eqb (getD flags i 0) 0)
+
+-- A route carries at most 16 messages into an atomic and 4 to the root: where an atomic's bag has room for so many, the root's has room
+-- for a quarter.
+abbrev pub rootRoom : ℕ → ℕ
+rootRoom room = room / 4
 
 module _ (ps : List Phase) (t : List ℕ) where
   -- ---- phases, and when something is due
@@ -167,12 +172,12 @@ module _ (ps : List Phase) (t : List ℕ) where
         let c = getD t (numbersAt + i) 0 in
         changedFrom es fs room now x n (i + 1) (changedBy now st i c (isUp es c) (map messageOf (take room (keysInto es fs x c))))
 
-    -- The step of n atomics, where a bag has room for so many messages.
+    -- The step of n atomics, where an atomic's bag has room for so many messages.
     unfoldable pub tableStep : ℕ → ℕ → ℕ → Bag → State → Stepped State
     tableStep n room now x st =
         let es = marks n now st in
         let fs = reached es x in
-        record { out = map messageOf (rootKeys es fs); state = changedFrom es fs room now x n 0 st }
+        record { out = map messageOf (take (rootRoom room) (rootKeys es fs)); state = changedFrom es fs room now x n 0 st }
 
     abbrev pub tableSim : ℕ → ℕ → Simulator State
     tableSim n room = record { next = tableNext; step = tableStep n room }

@@ -1,11 +1,11 @@
 -- What the buffers hold after a bag was pulled and after it was sorted; one atomic more. Assumes nothing.
 use mathlib.Core.Path.{_≡_, refl, sym, ap, _∙_, subst}
 use mathlib.Core.List.{List, [], _++_, map}
-use Prim.Native.Nat.{ℕ, suc, _+_, _-_, _≤_, _<_}
+use Prim.Native.Nat.{ℕ, suc, _+_, _-_, _≤_, _<_, min}
 use native.Mathlib.Omega.{arith}
 use lib.Dec.{leb}
-use lib.ListN.{length, take, drop, getD, set, replicate, length-map}
-use lib.Seq.{take-at, take-all, length-take-le}
+use lib.ListN.{length, take, drop, getD, set, replicate, length-map, length-take}
+use lib.Seq.{take-at, length-take-le}
 use mathlib.Core.Bool.{cond}
 use Rattle.definition.specs.Lists.{isEmpty, sortBy}
 use Rattle.definition.specs.Limits.{maxComponents, maxAncestors, portCount}
@@ -18,7 +18,7 @@ use Rattle.route_laws.specs.Nodes.{inputNode, outputNode}
 use Rattle.pull_laws.specs.Put.{messageOf, putPorts, keysOf}
 use Rattle.definition.specs.Step.{Stepped}
 use Rattle.pull_laws.specs.Tables.{numbersAt, countAt}
-use Rattle.pull_laws.specs.TableStep.{isUp, marked, raised, marks, reachedFrom, reached, pulledInto, pulledBelow, keysInto, rootKeys, changedBy, changedFrom, tableStep}
+use Rattle.pull_laws.specs.TableStep.{isUp, marked, raised, marks, reachedFrom, reached, pulledInto, pulledBelow, keysInto, rootKeys, rootRoom, changedBy, changedFrom, tableStep}
 use Rattle.marks.proofs.Laws.{flags-any}
 use Rattle.pull_laws.proofs.Putting.{Front, bag-front}
 
@@ -78,15 +78,12 @@ module _ (ps : List Phase) (t : List ℕ) (rs : List Rule) (n room now : ℕ) (x
   flags-are = sym (f ∙ flags-any ps t es (getD t countAt 0 - 1) 1 (set (replicate maxComponents 0) 0 (cond (isEmpty x) 0 1)))
 
   build : List ℕ → List ℕ → Stepped State
-  build es fs = record { out = map messageOf (rootKeys ps t es fs); state = changedFrom ps t rs es fs room now x n 0 st }
+  build es fs = record { out = map messageOf (take (rootRoom room) (rootKeys ps t es fs)); state = changedFrom ps t rs es fs room now x n 0 st }
 
-  pub step-is : tableStep ps t rs n room now x st ≡ record { out = map messageOf (rootKeys ps t es fs); state = changedFrom ps t rs es fs room now x n 0 st }
+  pub step-is : tableStep ps t rs n room now x st ≡ record { out = map messageOf (take (rootRoom room) (rootKeys ps t es fs)); state = changedFrom ps t rs es fs room now x n 0 st }
   unfolding tableStep build
   step-is = ap (λ l. build l (reached ps t l x)) marks-are ∙ ap (build es) flags-are
 
--- a bag that has room stands whole
-pub whole-bag : (room : ℕ) (ks : List ℕ) → length (map messageOf ks) ≤ room → take room ks ≡ ks
-whole-bag room ks h = take-all room ks (rw (length-map ks messageOf) at h)
-
-pub count-bag : (ks : List ℕ) → length ks ≡ length (map messageOf ks)
-count-bag ks = sym (length-map ks messageOf)
+-- what has room of a bag
+pub count-bag : (room : ℕ) (ks : List ℕ) → min room (length ks) ≡ length (map messageOf (take room ks))
+count-bag room ks = sym (length-map (take room ks) messageOf ∙ length-take room ks)

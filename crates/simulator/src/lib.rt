@@ -11,7 +11,7 @@ ghost use Rattle.model_records.specs.Values.{phasesIn, rulesIn};
 ghost use Rattle.run_state.specs.Held.{held};
 ghost use Rattle.pull_laws.specs.Put.{messageOf};
 ghost use Rattle.pull_laws.specs.Tables.{numbersAt};
-ghost use Rattle.pull_laws.specs.TableStep.{isUp, keysInto, rootKeys, changedBy, changedFrom};
+ghost use Rattle.pull_laws.specs.TableStep.{isUp, keysInto, rootKeys, rootRoom, changedBy, changedFrom};
 ghost use Rattle.simulator.specs.Simulator.{tableStep};
 use bag_keys::key_at;
 use clock::Moment;
@@ -136,9 +136,9 @@ fn step_marked(
     root_bag(phases, tables, marks, reached, keys, work)
 }
 
-// One step of n atomics at a moment, their phases and last moments changed in place, with the given messages in the first `len` bytes of `bag`. A bag has room for as many messages as
-// `work` has words; the root's sorted output bag stands in `keys`, as much of it as has room there. What `work` and the rest of `keys`
-// hold afterwards is left open.
+// One step of n atomics at a moment, their phases and last moments changed in place, with the given messages in the first `len` bytes of
+// `bag`. An atomic's bag has room for as many messages as `work` has words, and the root's, which stands sorted in `keys`, for a
+// quarter. What `work` and the rest of `keys` hold afterwards is left open.
 pub fn step_once(
     phases: &[u8],
     rules: &[u8],
@@ -152,11 +152,10 @@ pub fn step_once(
     work: &mut [u32],
     keys: &mut [u32],
 ) -> usize
-    requires { ⌜ length (now keys) ≤ length (now work) ⌝ }
+    requires { ⌜ length (now keys) ≡ rootRoom (length (now work)) ⌝ }
     ensures { λ r. ⌜ (held (now (phase .exit)) (now (last .exit)) ≡ tableStep (now (phases .entry)) (now (rules .entry)) (now (tables .entry)) n (length (now (work .entry))) (at .0) (toBag (take len (now (bag .entry)))) (held (now (phase .entry)) (now (last .entry))) .state)
-        × (r ≡ min (length (now (keys .entry))) (length (tableStep (now (phases .entry)) (now (rules .entry)) (now (tables .entry)) n (length (now (work .entry))) (at .0) (toBag (take len (now (bag .entry)))) (held (now (phase .entry)) (now (last .entry))) .out)))
-        × (length (tableStep (now (phases .entry)) (now (rules .entry)) (now (tables .entry)) n (length (now (work .entry))) (at .0) (toBag (take len (now (bag .entry)))) (held (now (phase .entry)) (now (last .entry))) .out) ≤ length (now (keys .entry))
-        → map messageOf (take r (now (keys .exit))) ≡ sortBy messageLe (tableStep (now (phases .entry)) (now (rules .entry)) (now (tables .entry)) n (length (now (work .entry))) (at .0) (toBag (take len (now (bag .entry)))) (held (now (phase .entry)) (now (last .entry))) .out)) ⌝ }
+        × (r ≡ length (tableStep (now (phases .entry)) (now (rules .entry)) (now (tables .entry)) n (length (now (work .entry))) (at .0) (toBag (take len (now (bag .entry)))) (held (now (phase .entry)) (now (last .entry))) .out))
+        × (map messageOf (take r (now (keys .exit))) ≡ sortBy messageLe (tableStep (now (phases .entry)) (now (rules .entry)) (now (tables .entry)) n (length (now (work .entry))) (at .0) (toBag (take len (now (bag .entry)))) (held (now (phase .entry)) (now (last .entry))) .out)) ⌝ }
 {
     let given = little_endian::front(bag, len);
     let mut due = [0u32; MAX_COMPONENTS];

@@ -17,8 +17,9 @@ use Rattle.clock.specs.Times.{timeOf}
 use Rattle.run_state.specs.declared.State.{State}
 use Rattle.run_state.specs.Held.{held}
 use Rattle.trace_records.proofs.Records.{size-most}
+use Rattle.pull_laws.specs.TableStep.{rootRoom}
 use Rattle.instant.specs.Sim.{simOf}
-use Rattle.instant.proofs.Sofar.{Gives, gives-root, Sofar, sofar-none, sofar-more, keys-hold, rest-all, rest-stops, rest-jams, rest-more, judged-jams, judged-over, judged-stands}
+use Rattle.instant.proofs.Sofar.{Gives, Sofar, sofar-none, sofar-more, keys-hold, rest-all, rest-stops, rest-jams, rest-more, judged-jams, judged-over, judged-stands}
 use Rattle.instant.proofs.instant.Statement.{statement}
 use Rattle.instant.proofs.instant.Tie as tie
 use Rattle.instant.proofs.instant.Reads as reads
@@ -30,7 +31,7 @@ use Rattle.trace_records.proofs.put_step.Reads as put-step-reads
 
 abbrev Inv-loop : tie.InvT-loop
 Inv-loop phases rules tables n at bag len st due work₀ keys₀ out₀ from phase₀ last₀ next₀ given₀ used₀ over₀ k₀ work keys out phase last next given used over k =
-    (k ≤ maxSteps) × (length work ≡ length work₀) × (length keys ≡ length keys₀) × (length out ≡ length out₀) × (used ≤ from + 12303 * k) × (length phase ≡ maxComponents) × (length last ≡ maxComponents) × (timeOf next ≡ simOf phases rules tables n (length work₀) .next (held phase last)) × Sofar (instant (simOf phases rules tables n (length work₀)) (at .0) (toBag (take len bag)) st) (stepsAt (simOf phases rules tables n (length work₀)) (maxSteps - k) (at .0) (toBag (take given bag)) (held phase last)) (at .0) from out₀ out k used over
+    (k ≤ maxSteps) × (length work ≡ length work₀) × (length keys ≡ length keys₀) × (length out ≡ length out₀) × (used ≤ from + 12300 * k) × (length phase ≡ maxComponents) × (length last ≡ maxComponents) × (timeOf next ≡ simOf phases rules tables n (length work₀) .next (held phase last)) × Sofar (instant (simOf phases rules tables n (length work₀)) (at .0) (toBag (take len bag)) st) (stepsAt (simOf phases rules tables n (length work₀)) (maxSteps - k) (at .0) (toBag (take given bag)) (held phase last)) (at .0) from out₀ out k used over
 
 abbrev μ-loop : tie.MeasureT-loop
 μ-loop phases rules tables n at bag len st due work₀ keys₀ out₀ from phase₀ last₀ next₀ given₀ used₀ over₀ k₀ work keys out phase last next given used over k =
@@ -98,7 +99,7 @@ slice-aggregate-step-once-2 c =
 step-once-requires : tie.Need-step-once-requires Inv-loop μ-loop
 step-once-requires c κs =
     let l = c .before .before .before .before .before .before .before .loop in
-    omega (arith, l .inv .1, l .inv .2, c .before .before .before .before .before .before .before .before .before .before .before .before .before .before .before .before .before .pre .0 .2)
+    l .inv .2 ∙ c .before .before .before .before .before .before .before .before .before .before .before .before .before .before .before .before .before .pre .0 .1 ∙ ap rootRoom (sym (l .inv .1))
 
 -- src/lib.rt:104:9
 put-step-requires : tie.Need-put-step-requires Inv-loop μ-loop
@@ -106,8 +107,10 @@ put-step-requires c κs =
     let l = c .before .before .before .before .before .before .before .before .before .before .before .before .before .before .before .before .loop in
     let s = c .before .before .before .before .before .before .before .before .step-once in
     let keys = s .last .1 .1 .1 .1 .1 .1 .1 .1 .1 .1 .0 in
-    let e = gives-root _ _ _ _ keys (l .inv .2 ∙ c .before .before .before .before .before .before .before .before .before .before .before .before .before .before .before .before .before .before .before .before .before .before .before .before .before .before .pre .0 .1) (s .ensures) in
-    (λ h. keys-hold (s .result) keys _ (e .1) (e .2) h, omega (arith, l .inv .0, l .inv .4, e .1, c .before .before .before .before .before .before .before .before .before .before .before .before .before .before .before .before .before .before .before .before .before .before .before .before .before .before .pre .1, c .before .before .before .before .before .before .before .before .before .before .before .before .before .before .before .before .before .before .before .before .before .before .before .before .before .before .good .1 .1 .1 .1 .1 .1 .1 .1 .1 .1 .1 .0 .1))
+    let e = s .ensures in
+    let room = keys-hold (s .result) keys _ (e .1) (e .2) in
+    let most : s .result ≤ 4096 = omega (arith, room, s .kept .1 .1 .1 .1 .1 .1 .1 .1 .1 .1 .0, l .inv .2, c .before .before .before .before .before .before .before .before .before .before .before .before .before .before .before .before .before .before .before .before .before .before .before .before .before .before .pre .0 .1, c .before .before .before .before .before .before .before .before .before .before .before .before .before .before .before .before .before .before .before .before .before .before .before .before .before .before .pre .0 .0) in
+    (λ h. room, omega (arith, l .inv .0, l .inv .4, most, c .before .before .before .before .before .before .before .before .before .before .before .before .before .before .before .before .before .before .before .before .before .before .before .before .before .before .pre .1, c .before .before .before .before .before .before .before .before .before .before .before .before .before .before .before .before .before .before .before .before .before .before .before .before .before .before .good .1 .1 .1 .1 .1 .1 .1 .1 .1 .1 .1 .0 .1))
 
 -- src/lib.rt:105:41
 slice-aggregate-next-due : tie.Need-slice-aggregate-next-due Inv-loop μ-loop
@@ -142,7 +145,9 @@ loop-again c =
     let st = held (l .phase) (l .last) in
     let next = held (s .last .1 .1 .1 .1 .0) (s .last .1 .1 .1 .1 .1 .0) in
     let keys = s .last .1 .1 .1 .1 .1 .1 .1 .1 .1 .1 .0 in
-    let e = subst (λ (m : ℕ). Gives (simOf (now (a .phases)) (now (a .rules)) (now (a .tables)) (a .n) m .step (a .at .0) x st) next (s .result) keys) (l .inv .1) (gives-root _ _ _ _ keys (l .inv .2 ∙ c .before .before .before .before .before .before .before .before .before .before .before .before .before .before .before .before .before .before .before .before .before .before .before .before .before .before .before .before .before .before .before .before .pre .0 .1) (s .ensures)) in
+    let e = subst (λ (m : ℕ). Gives (simOf (now (a .phases)) (now (a .rules)) (now (a .tables)) (a .n) m .step (a .at .0) x st) next (s .result) keys) (l .inv .1) ((s .ensures)) in
+    let room = keys-hold (s .result) keys _ (e .1) (e .2) in
+    let most : s .result ≤ 4096 = omega (arith, room, s .kept .1 .1 .1 .1 .1 .1 .1 .1 .1 .1 .0, l .inv .2, c .before .before .before .before .before .before .before .before .before .before .before .before .before .before .before .before .before .before .before .before .before .before .before .before .before .before .before .before .before .before .before .before .pre .0 .1, c .before .before .before .before .before .before .before .before .before .before .before .before .before .before .before .before .before .before .before .before .before .before .before .before .before .before .before .before .before .before .before .before .pre .0 .0) in
     let g : goesOn k (a .at .0) x st ≡ true = ap (λ (u : Time). sameTime u (finite (a .at .0)) || not (isEmpty x)) (sym (l .inv .7)) ∙ sym (c .before .before .before .before .before .before .before .before .before .before .before .before .before .before .before .before .before .before .before .before .before .goes-on .ensures) ∙ c .before .before .before .before .before .before .before .before .before .before .before .before .before .before .before .before .before .before .before .before .if1 .taken in
     let h : l .k < maxSteps = omega (arith, c .before .before .before .before .before .before .before .before .before .before .before .before .before .before .before .before .before .before .before .if2 .left, l .inv .0) in
     let whole = instant k (a .at .0) (toBag (take (a .len) (now (a .bag)))) (a .st) in
@@ -152,7 +157,7 @@ loop-again c =
       s .kept .1 .1 .1 .1 .1 .1 .1 .1 .1 .0 ∙ l .inv .1,
       s .kept .1 .1 .1 .1 .1 .1 .1 .1 .1 .1 .0 ∙ l .inv .2,
       p .kept .0 ∙ l .inv .3,
-      omega (arith, p .ensures .0, size-most (s .result), e .1, l .inv .4),
+      omega (arith, p .ensures .0, size-most (s .result), most, l .inv .4),
       s .kept .1 .1 .1 .1 .0 ∙ l .inv .5,
       s .kept .1 .1 .1 .1 .1 .0 ∙ l .inv .6,
       c .next-due .ensures,

@@ -1,16 +1,16 @@
 -- The marks and flags over zeros are the definition's, and then the step is the definition's with them.
 use borrow.Author.Needs.{needs}
 use native.Mathlib.Omega.{arith}
-use Rattle.simulator.proofs.Laws.{step-is, whole-bag, count-bag}
+use Rattle.simulator.proofs.Laws.{step-is, count-bag}
 use Rattle.definition.specs.Lists.{sortBy}
 use Rattle.definition.specs.Model.{messageLe}
 use Rattle.definition.specs.Engine.{toBag}
 use Rattle.run_state.specs.Held.{held}
 use Rattle.model_records.specs.Values.{phasesIn, rulesIn}
 use Rattle.pull_laws.specs.Put.{messageOf}
-use Rattle.pull_laws.specs.TableStep.{rootKeys}
+use Rattle.pull_laws.specs.TableStep.{rootKeys, rootRoom}
 use denote.Ref.{now}
-use lib.ListN.{length}
+use lib.ListN.{length, take}
 use mathlib.Core.List.{map}
 use mathlib.Core.Path.{_∙_, ap}
 use Prim.Native.Nat.{min}
@@ -83,9 +83,10 @@ returns c =
     let t = now (a .tables) in
     let es = c .before .before .before .before .before .before .before .before .before .before .before .before .before .before .before .before .before .before .before .before .mark .last .1 .1 .1 .1 .1 .1 .0 in
     let fs = c .before .before .before .before .before .before .before .before .before .before .before .before .before .before .before .before .reach .last .1 .1 .1 .0 in
+    let full = c .before .before .before .before .before .before .before .before .before .before .before .before .before .before .before .before .before .before .before .before .before .before .before .before .before .before .before .before .before .before .before .before .before .pre in
     let s = c .before .before .before .before .before .before .before .before .step-marked .ensures in
     rw (← c .before .before .before .before .before .before .before .before .before .before .before .before .before .before .before .before .before .before .before .before .before .before .before .before .front .ensures, step-is ps t (rulesIn (now (a .rules))) (a .n) (length (now (a .work))) (a .at .0) (toBag (now (c .before .before .before .before .before .before .before .before .before .before .before .before .before .before .before .before .before .before .before .before .before .before .before .before .front .result))) (held (now (a .phase)) (now (a .last))) es fs (c .before .before .before .before .before .before .before .before .before .before .before .before .before .before .before .before .before .before .before .before .mark .ensures) (c .before .before .before .before .before .before .before .before .before .before .before .before .before .before .before .before .reach .ensures))
-    (s .0, s .1 ∙ ap (min (length (now (a .keys)))) (count-bag (rootKeys ps t es fs)), λ h. s .2 ∙ ap (λ l. sortBy messageLe (map messageOf l)) (whole-bag (length (now (a .keys))) (rootKeys ps t es fs) h))
+    (s .0, s .1 ∙ ap (λ n. min n (length (rootKeys ps t es fs))) full ∙ count-bag (rootRoom (length (now (a .work)))) (rootKeys ps t es fs), s .2 ∙ ap (λ n. sortBy messageLe (map messageOf (take n (rootKeys ps t es fs)))) full)
 
 pub step-once-spec : {M : Type 1} → statement M
 step-once-spec =
