@@ -84,12 +84,13 @@ pub fn component_at(components: &[u8], i: usize) -> Component
 {
     if i < components.len() / COMPONENT_SIZE {
         let at = COMPONENT_SIZE * i;
+        let r = &components[at..at + COMPONENT_SIZE];
         Component {
-            kind: little_endian::byte_at(components, at),
-            parent: little_endian::byte_at(components, at + 1),
-            phases: little_endian::byte_at(components, at + 2),
-            initial: little_endian::byte_at(components, at + 3),
-            order: little_endian::byte_at(components, at + 4),
+            kind: little_endian::byte_at(r, 0),
+            parent: little_endian::byte_at(r, 1),
+            phases: little_endian::byte_at(r, 2),
+            initial: little_endian::byte_at(r, 3),
+            order: little_endian::byte_at(r, 4),
         }
     } else {
         Component {
@@ -107,18 +108,19 @@ pub fn phase_at(phases: &[u8], i: usize) -> Phase
 {
     if i < phases.len() / PHASE_SIZE {
         let at = PHASE_SIZE * i;
+        let r = &phases[at..at + PHASE_SIZE];
         Phase {
-            advance: little_endian::u32_at(phases, at),
-            next: little_endian::byte_at(phases, at + 4),
-            count: little_endian::byte_at(phases, at + 5),
-            port0: little_endian::byte_at(phases, at + 6),
-            value0: little_endian::u16_at(phases, at + 7),
-            port1: little_endian::byte_at(phases, at + 9),
-            value1: little_endian::u16_at(phases, at + 10),
-            port2: little_endian::byte_at(phases, at + 12),
-            value2: little_endian::u16_at(phases, at + 13),
-            port3: little_endian::byte_at(phases, at + 15),
-            value3: little_endian::u16_at(phases, at + 16),
+            advance: little_endian::u32_at(r, 0),
+            next: little_endian::byte_at(r, 4),
+            count: little_endian::byte_at(r, 5),
+            port0: little_endian::byte_at(r, 6),
+            value0: little_endian::u16_at(r, 7),
+            port1: little_endian::byte_at(r, 9),
+            value1: little_endian::u16_at(r, 10),
+            port2: little_endian::byte_at(r, 12),
+            value2: little_endian::u16_at(r, 13),
+            port3: little_endian::byte_at(r, 15),
+            value3: little_endian::u16_at(r, 16),
         }
     } else {
         Phase {
@@ -142,16 +144,17 @@ pub fn rule_at(rules: &[u8], i: usize) -> Rule
 {
     if i < rules.len() / RULE_SIZE {
         let at = RULE_SIZE * i;
+        let r = &rules[at..at + RULE_SIZE];
         Rule {
-            component: little_endian::byte_at(rules, at),
-            phase: little_endian::byte_at(rules, at + 1),
-            next: little_endian::byte_at(rules, at + 2),
-            port: little_endian::byte_at(rules, at + 3),
-            low: little_endian::u16_at(rules, at + 4),
-            high: little_endian::u16_at(rules, at + 6),
-            least: little_endian::u16_at(rules, at + 8),
-            low_elapsed: little_endian::u32_at(rules, at + 10),
-            high_elapsed: little_endian::u32_at(rules, at + 14),
+            component: little_endian::byte_at(r, 0),
+            phase: little_endian::byte_at(r, 1),
+            next: little_endian::byte_at(r, 2),
+            port: little_endian::byte_at(r, 3),
+            low: little_endian::u16_at(r, 4),
+            high: little_endian::u16_at(r, 6),
+            least: little_endian::u16_at(r, 8),
+            low_elapsed: little_endian::u32_at(r, 10),
+            high_elapsed: little_endian::u32_at(r, 14),
         }
     } else {
         Rule {
@@ -173,11 +176,12 @@ pub fn coupling_at(couplings: &[u8], i: usize) -> Coupling
 {
     if i < couplings.len() / COUPLING_SIZE {
         let at = COUPLING_SIZE * i;
+        let r = &couplings[at..at + COUPLING_SIZE];
         Coupling {
-            source: little_endian::byte_at(couplings, at),
-            source_port: little_endian::byte_at(couplings, at + 1),
-            target: little_endian::byte_at(couplings, at + 2),
-            target_port: little_endian::byte_at(couplings, at + 3),
+            source: little_endian::byte_at(r, 0),
+            source_port: little_endian::byte_at(r, 1),
+            target: little_endian::byte_at(r, 2),
+            target_port: little_endian::byte_at(r, 3),
         }
     } else {
         Coupling {

@@ -2,20 +2,18 @@
 use borrow.Author.Needs.{needs}
 use native.Mathlib.Omega.{arith}
 use Rattle.component_tables.specs.Columns.{ruleNames}
-use Rattle.model_records.proofs.Fields.{rule-in}
+use Rattle.byte_laws.proofs.Rows.{number-row}
 use Rattle.model_records.specs.Values.{rulesIn}
-use Rattle.byte_laws.proofs.Records.{length-records}
+use Rattle.byte_laws.proofs.Records.{length-records, record-in}
 use Rattle.definition.specs.Records.{toRule}
-use Rattle.definition.specs.Bytes.{number}
+use Rattle.definition.specs.Model.{noRule}
+use native.Mathlib.Nat.{add-zero}
+use Rattle.definition.specs.Bytes.{row}
 use denote.Ref.{now}
+use lib.ListN.{getD}
 use mathlib.Core.Path.{_≡_, sym, ap, _∙_}
-use Prim.Native.Nat.{_*_}
 use Rattle.component_tables.proofs.rule_name.Statement.{statement}
 use Rattle.component_tables.proofs.rule_name.Tie as tie
-use Rattle.component_tables.proofs.rule_name.Reads as reads
-use Rattle.component_tables.proofs.rule_name.Lts as lts
-use Rattle.little_endian.proofs.byte_at.Reads as byte-at-reads
-use Rattle.little_endian.proofs.size16.Reads as size16-reads
 
 size16-requires : tie.Need-size16-requires
 size16-requires c κs = search needs
@@ -27,11 +25,12 @@ byte-at-requires : tie.Need-byte-at-requires
 byte-at-requires c κs = search needs
 
 returns : tie.Need-returns
-unfolding ruleNames rulesIn
+unfolding ruleNames rulesIn toRule
 returns c =
     let a = c .before .before .before .args in
     let n = length-records 18 toRule (now (a .rules)) in
-    c .byte-at .ensures ∙ ap (λ k. number 1 (18 * k) (now (a .rules))) (c .before .size16 .ensures) ∙ sym (ap (λ k. k .component) (rule-in (a .i) (now (a .rules)) (omega (arith, c .before .before .before .pre))))
+    let e : getD (rulesIn (now (a .rules))) (a .i) noRule ≡ toRule (row 18 (a .i) (now (a .rules))) = record-in 18 toRule (now (a .rules)) (a .i) noRule (omega (arith, c .before .before .before .pre)) in
+    rw (c .byte-at .ensures, c .before .size16 .ensures) (sym (ap (λ k. k .component) e ∙ rw (number-row 1 0 18 (a .i) (now (a .rules)) (omega arith), add-zero)))
 
 pub rule-name-spec : {M : Type 1} → statement M
 rule-name-spec = tie.close (tie.spec size16-requires mul-byte-at byte-at-requires returns)
