@@ -1,11 +1,13 @@
 // Reading one record yields either the record or the number of its refusal: the lines that each kind of record must keep.
 ghost use mathlib.Core.Path.{_≡_};
+ghost use mathlib.Core.Bool.{_&&_};
 ghost use lib.ListN.{getD};
 ghost use Rattle.definition.specs.Bytes.{numberOf};
 ghost use Rattle.definition.specs.Model.{noPhase, noRule, noCoupling, componentAt, messageLe, couplingLe};
 ghost use Rattle.definition.specs.Records.{coupledFields, atomicFields, kindFields, rootWithin, componentFits, usedFit, unusedFit, phaseFields, ruleFields, related, couplingFields, notFalling, couplingFits};
 ghost use Rattle.model_records.specs.Values.{componentOf, phaseOf, ruleOf, couplingOf, componentsIn, phasesIn, rulesIn, couplingsIn};
-ghost use Rattle.model_checks.specs.Reads.{checked, componentRead, phaseRead, ruleRead, couplingRead};
+ghost use Rattle.sort.specs.Keys.{messageOf};
+ghost use Rattle.model_checks.specs.Reads.{rowOf, checked, componentRead, phaseRead, ruleRead, couplingRead};
 use limits::MAX_ADVANCE;
 use limits::MAX_ANCESTORS;
 use limits::MAX_OUTPUTS;
@@ -13,13 +15,13 @@ use limits::MAX_OWN_PHASES;
 use limits::NEVER_FIELD;
 use limits::PORT_COUNT;
 use little_endian::size;
+use little_endian::size16;
 use model_records::Component;
 use model_records::Coupling;
 use model_records::Phase;
 use model_records::Rule;
 use model_records::component_at;
 use model_records::coupling_at;
-use model_records::is_child;
 
 pub enum ComponentRead {
     Is(Component),
@@ -101,37 +103,47 @@ pub fn component_refusal(r: ComponentRead) -> u16
 
 // ---- phases
 
+// A message as one number: two messages stand in the order of their keys.
+fn message_key(p: u8, v: u16) -> usize
+    ensures { λ r. ⌜ messageOf r ≡ record { port = p; value = v } ⌝ }
+{
+    size(p) * 65536 + size16(v)
+}
+
 // Message (p, v) does not stand behind (q, w).
 fn message_le(p: u8, v: u16, q: u8, w: u16) -> bool
     ensures { λ r. ⌜ r ≡ messageLe (record { port = p; value = v }) (record { port = q; value = w }) ⌝ }
 {
-    (p < q) | ((p == q) & (v <= w))
+    message_key(p, v) <= message_key(q, w)
 }
 
-// Used slots have ports, and never fall.
-fn used_fit(k: Phase) -> bool
-    ensures { λ r. ⌜ r ≡ usedFit (phaseOf k) ⌝ }
+// Used slots have ports, and never fall; unused slots are zero. A phase is tested by the lines of its own count alone.
+fn slots_fit(k: Phase) -> bool
+    ensures { λ r. ⌜ r ≡ (usedFit (phaseOf k) && unusedFit (phaseOf k)) ⌝ }
 {
     let n = k.count;
-    let ports = ((n <= 0) | (k.port0 < PORT_COUNT))
-        & ((n <= 1) | (k.port1 < PORT_COUNT))
-        & ((n <= 2) | (k.port2 < PORT_COUNT))
-        & ((n <= 3) | (k.port3 < PORT_COUNT));
-    let order = ((n <= 1) | message_le(k.port0, k.value0, k.port1, k.value1))
-        & ((n <= 2) | message_le(k.port1, k.value1, k.port2, k.value2))
-        & ((n <= 3) | message_le(k.port2, k.value2, k.port3, k.value3));
-    ports & order
-}
-
-// Unused slots are zero.
-fn unused_fit(k: Phase) -> bool
-    ensures { λ r. ⌜ r ≡ unusedFit (phaseOf k) ⌝ }
-{
-    let n = k.count;
-    ((0 < n) | ((k.port0 == 0) & (k.value0 == 0)))
-        & ((1 < n) | ((k.port1 == 0) & (k.value1 == 0)))
-        & ((2 < n) | ((k.port2 == 0) & (k.value2 == 0)))
-        & ((3 < n) | ((k.port3 == 0) & (k.value3 == 0)))
+    let unused3 = (k.port3 == 0) & (k.value3 == 0);
+    let unused2 = (k.port2 == 0) & (k.value2 == 0);
+    let unused1 = (k.port1 == 0) & (k.value1 == 0);
+    if n == 0 {
+        return (k.port0 == 0) & (k.value0 == 0) & unused1 & unused2 & unused3;
+    }
+    let port0 = k.port0 < PORT_COUNT;
+    if n == 1 {
+        return port0 & (unused1 & unused2 & unused3);
+    }
+    let ports1 = port0 & (k.port1 < PORT_COUNT);
+    let rises1 = message_le(k.port0, k.value0, k.port1, k.value1);
+    if n == 2 {
+        return (ports1 & rises1) & (unused2 & unused3);
+    }
+    let ports2 = ports1 & (k.port2 < PORT_COUNT);
+    let rises2 = rises1 & message_le(k.port1, k.value1, k.port2, k.value2);
+    if n == 3 {
+        return (ports2 & rises2) & unused3;
+    }
+    let ports3 = ports2 & (k.port3 < PORT_COUNT);
+    ports3 & (rises2 & message_le(k.port2, k.value2, k.port3, k.value3))
 }
 
 fn phase_fields(bound: u8, k: Phase) -> bool
@@ -140,8 +152,7 @@ fn phase_fields(bound: u8, k: Phase) -> bool
     ((k.advance <= MAX_ADVANCE) | (k.advance == NEVER_FIELD))
         & (k.next < bound)
         & (k.count <= MAX_OUTPUTS)
-        & used_fit(k)
-        & unused_fit(k)
+        & slots_fit(k)
 }
 
 // Phase record i, whose atomic has `bound` phases.
@@ -207,9 +218,14 @@ pub fn rule_refusal(r: RuleRead) -> u16
 fn are_related(components: &[u8], s: usize, t: usize) -> bool
     ensures { λ r. ⌜ r ≡ related (componentsIn (now (components .entry))) s t ⌝ }
 {
-    is_child(components, s, t)
-        | model_records::is_sibling(components, s, t)
-        | is_child(components, t, s)
+    let k = component_at(components, s);
+    let l = component_at(components, t);
+    let over_s = size(k.parent);
+    let over_t = size(l.parent);
+    let under_s = !(t == 0) & (over_t == s);
+    let under_t = !(s == 0) & (over_s == t);
+    let siblings = !(s == t) & !(s == 0) & (!(t == 0) & (over_t == over_s));
+    under_s | siblings | under_t
 }
 
 fn coupling_fields(components: &[u8], k: Coupling) -> bool
@@ -225,14 +241,21 @@ fn coupling_fields(components: &[u8], k: Coupling) -> bool
         & are_related(components, s, t)
 }
 
+// A row of four bytes as one number.
+fn coupling_key(k: Coupling) -> usize
+    ensures { λ r. ⌜ rowOf r ≡ couplingOf k ⌝ }
+{
+    size(k.source) * 16777216
+        + size(k.source_port) * 65536
+        + size(k.target) * 256
+        + size(k.target_port)
+}
+
 // The order of four-byte rows.
 fn coupling_le(k: Coupling, l: Coupling) -> bool
     ensures { λ r. ⌜ r ≡ couplingLe (couplingOf k) (couplingOf l) ⌝ }
 {
-    let ports = (k.target_port < l.target_port) | (k.target_port == l.target_port);
-    let targets = (k.target < l.target) | ((k.target == l.target) & ports);
-    let sources = (k.source_port < l.source_port) | ((k.source_port == l.source_port) & targets);
-    (k.source < l.source) | ((k.source == l.source) & sources)
+    coupling_key(k) <= coupling_key(l)
 }
 
 fn not_falling(couplings: &[u8], i: usize) -> bool
