@@ -1,2 +1,3 @@
 -- Laws of the tables by node and by link.
 pub mod Loops
+pub mod Order

@@ -50,7 +50,7 @@ module _ (src tgt : ℕ → ℕ) where
   down-end n j t h = let e : n + 1 - j ≡ 0 = omega arith in rw e
 
 module _ (src tgt src′ tgt′ : ℕ → ℕ) where
-  up-cong : (n : ℕ) (t : List ℕ) → ((j : ℕ) → 0 < j → j ≤ n → src j ≡ src′ j) → ((j : ℕ) → 0 < j → j ≤ n → tgt j ≡ tgt′ j)
+  pub up-cong : (n : ℕ) (t : List ℕ) → ((j : ℕ) → 0 < j → j ≤ n → src j ≡ src′ j) → ((j : ℕ) → 0 < j → j ≤ n → tgt j ≡ tgt′ j)
       → spreadUp src tgt n t ≡ spreadUp src′ tgt′ n t
   unfolding spreadUp
   up-cong zero t h k = refl
@@ -58,26 +58,10 @@ module _ (src tgt src′ tgt′ : ℕ → ℕ) where
       rw (h (suc n) (omega arith) (omega arith), k (suc n) (omega arith) (omega arith))
       (up-cong n (spread (src′ (suc n)) (tgt′ (suc n)) t) (λ j a b. h j a (omega arith)) (λ j a b. k j a (omega arith)))
 
-  down-cong : (m i : ℕ) (t : List ℕ) → ((j : ℕ) → i ≤ j → j < i + m → src j ≡ src′ j) → ((j : ℕ) → i ≤ j → j < i + m → tgt j ≡ tgt′ j)
+  pub down-cong : (m i : ℕ) (t : List ℕ) → ((j : ℕ) → i ≤ j → j < i + m → src j ≡ src′ j) → ((j : ℕ) → i ≤ j → j < i + m → tgt j ≡ tgt′ j)
       → spreadDown src tgt m i t ≡ spreadDown src′ tgt′ m i t
   unfolding spreadDown
   down-cong zero i t h k = refl
   down-cong (suc m) i t h k =
       rw (h i (omega arith) (omega arith), k i (omega arith) (omega arith))
       (down-cong m (i + 1) (spread (src′ i) (tgt′ i) t) (λ j a b. h j (omega arith) (omega arith)) (λ j a b. k j (omega arith) (omega arith)))
-
-  pub link-cong : (cs : List Component) (n : ℕ) (t : List ℕ) → ((j : ℕ) → 0 < j → j ≤ n → src j ≡ src′ j) → ((j : ℕ) → 0 < j → j ≤ n → tgt j ≡ tgt′ j)
-      → byLink src tgt cs n t ≡ byLink src′ tgt′ cs n t
-  unfolding byLink
-  link-cong cs n t h k =
-      let chains = linked firstAt (portNodes * maxComponents) nextAt tgt n t in
-      let chains′ = linked firstAt (portNodes * maxComponents) nextAt tgt′ n t in
-      let a : chains ≡ chains′ = linked-cong firstAt (portNodes * maxComponents) nextAt tgt tgt′ n t k in
-      let b : column (sourceAt + 1) (λ i. src (1 + i)) n 0 chains ≡ column (sourceAt + 1) (λ i. src′ (1 + i)) n 0 chains′ =
-      column-cong (sourceAt + 1) (λ i. src (1 + i)) (λ i. src′ (1 + i)) n 0 chains (λ i p q. h (1 + i) (omega arith) (omega arith))
-      ∙ ap (column (sourceAt + 1) (λ i. src′ (1 + i)) n 0) a in
-      let mark : List ℕ → List ℕ = column liveAt (sourceFlag cs) (portNodes * length cs) 0 in
-      ap (λ s. spreadDown src tgt n 1 (spreadUp src tgt n (mark s))) b
-      ∙ ap (spreadDown src tgt n 1) (up-cong n (mark (column (sourceAt + 1) (λ i. src′ (1 + i)) n 0 chains′)) h k)
-      ∙ down-cong n 1 (spreadUp src′ tgt′ n (mark (column (sourceAt + 1) (λ i. src′ (1 + i)) n 0 chains′)))
-      (λ j p q. h j (omega arith) (omega arith)) (λ j p q. k j (omega arith) (omega arith))

@@ -21,6 +21,10 @@ endOf Target cs k = targetNumber cs k
 unfoldable pub linkEnd : End → List Component → List Coupling → ℕ → ℕ
 linkEnd which cs ks j = endOf which cs (getD ks (j - 1) noCoupling)
 
+-- The node where link j begins, as a table has it.
+abbrev pub sourceIn : List ℕ → ℕ → ℕ
+sourceIn t j = getD t (sourceAt + j) 0
+
 -- A table holds f of each of the first n links.
 abbrev pub Held : (ℕ → ℕ) → ℕ → List ℕ → Type 0
 Held f n t = (j : ℕ) → 0 < j → j ≤ n → getD t j 0 ≡ f j

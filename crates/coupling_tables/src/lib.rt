@@ -5,9 +5,9 @@ ghost use Prim.Native.Nat.{_+_, _*_, _<_, _≤_};
 ghost use lib.ListN.{length, getD};
 ghost use Rattle.definition.specs.Limits.{maxComponents, maxCouplings};
 ghost use Rattle.model_records.specs.Values.{couplingOf, componentsIn, couplingsIn};
-ghost use Rattle.pull_laws.specs.Tables.{portNodes, inputNode, outputNode, sourceNumber, targetNumber, liveAt, tableSize};
+ghost use Rattle.pull_laws.specs.Tables.{portNodes, inputNode, outputNode, sourceNumber, targetNumber, liveAt, sourceAt, tableSize};
 ghost use Rattle.table_words.specs.Writes.{column};
-ghost use Rattle.coupling_tables.specs.Links.{endOf, linkEnd, Held, sourceFlag, spread, spreadUp, spreadDown, byLink, byCoupling};
+ghost use Rattle.coupling_tables.specs.Links.{sourceIn, linkEnd, Held, sourceFlag, spread, spreadUp, spreadDown, byCoupling};
 use limits::MAX_NODES;
 use limits::PORT_COUNT;
 use limits::PORT_NODES;
@@ -18,7 +18,7 @@ use table_words::LIVE_AT;
 use table_words::NEXT_AT;
 use table_words::SOURCE_AT;
 
-// The two ends of a coupling.
+// The two ends of a coupling, as the contracts name them.
 pub enum End {
     Source,
     Target,
@@ -67,15 +67,6 @@ fn target_node(components: &[u8], k: Coupling) -> u16
     }
 }
 
-fn end_node(components: &[u8], k: Coupling, which: End) -> u16
-    ensures { λ r. ⌜ r ≡ endOf which (componentsIn (now (components .entry))) (couplingOf k) ⌝ }
-{
-    match which {
-        End::Source => source_node(components, k),
-        End::Target => target_node(components, k),
-    }
-}
-
 fn link_count(couplings: &[u8]) -> u16
     requires { ⌜ length (couplingsIn (now couplings)) ≤ maxCouplings ⌝ }
     ensures { λ r. ⌜ r ≡ length (couplingsIn (now (couplings .entry))) ⌝ }
@@ -83,17 +74,19 @@ fn link_count(couplings: &[u8]) -> u16
     model_records::coupling_count(couplings) as u16
 }
 
-// The node of each link.
-fn put_ends(components: &[u8], couplings: &[u8], which: End, out: &mut [u16])
-    requires { ⌜ (length (couplingsIn (now couplings)) ≤ maxCouplings) × (length (now out) ≡ maxCouplings + 1) ⌝ }
-    ensures { λ _. ⌜ Held (linkEnd which (componentsIn (now (components .entry))) (couplingsIn (now (couplings .entry)))) (length (couplingsIn (now (couplings .entry)))) (now (out .exit)) ⌝ }
+// The node where each link begins, in its table, and the node where it ends; each coupling is read once.
+fn put_ends(components: &[u8], couplings: &[u8], targets: &mut [u16], t: &mut [u16])
+    requires { ⌜ (length (couplingsIn (now couplings)) ≤ maxCouplings) × (length (now targets) ≡ maxCouplings + 1) × (length (now t) ≡ tableSize) ⌝ }
+    ensures { λ _. ⌜ Held (linkEnd End.Target (componentsIn (now (components .entry))) (couplingsIn (now (couplings .entry)))) (length (couplingsIn (now (couplings .entry)))) (now (targets .exit))
+        × (now (t .exit) ≡ column (sourceAt + 1) (λ i. linkEnd End.Source (componentsIn (now (components .entry))) (couplingsIn (now (couplings .entry))) (1 + i)) (length (couplingsIn (now (couplings .entry)))) 0 (now (t .entry))) ⌝ }
 {
     let n = model_records::coupling_count(couplings);
     let mut i: usize = 0;
     while i < n {
         let k = model_records::coupling_at(couplings, i);
+        t[SOURCE_AT + 1 + i] = source_node(components, k);
         i = i + 1;
-        out[i] = end_node(components, k, which);
+        targets[i] = target_node(components, k);
     }
 }
 
@@ -137,49 +130,38 @@ fn spread_one(x: usize, y: usize, t: &mut [u16])
 }
 
 // Along link j.
-fn spread_link(sources: &[u16], targets: &[u16], j: u16, t: &mut [u16])
-    requires { ⌜ length (now t) ≡ tableSize ⌝ }
-    ensures { λ _. ⌜ now (t .exit) ≡ spread (getD (now (sources .entry)) j 0) (getD (now (targets .entry)) j 0) (now (t .entry)) ⌝ }
+fn spread_link(targets: &[u16], j: u16, t: &mut [u16])
+    requires { ⌜ (j ≤ maxCouplings) × (length (now targets) ≡ maxCouplings + 1) × (length (now t) ≡ tableSize) ⌝ }
+    ensures { λ _. ⌜ now (t .exit) ≡ spread (sourceIn (now (t .entry)) j) (getD (now (targets .entry)) j 0) (now (t .entry)) ⌝ }
 {
-    let x = little_endian::size16(table_words::word_at(sources, little_endian::size16(j)));
-    let y = little_endian::size16(table_words::word_at(targets, little_endian::size16(j)));
+    let at = little_endian::size16(j);
+    let x = little_endian::size16(t[SOURCE_AT + at]);
+    let y = little_endian::size16(targets[at]);
     spread_one(x, y, t);
 }
 
 // Outputs, from the deepest components up.
-fn spread_up(sources: &[u16], targets: &[u16], n: u16, t: &mut [u16])
-    requires { ⌜ length (now t) ≡ tableSize ⌝ }
-    ensures { λ _. ⌜ now (t .exit) ≡ spreadUp (λ j. getD (now (sources .entry)) j 0) (λ j. getD (now (targets .entry)) j 0) n (now (t .entry)) ⌝ }
+fn spread_up(targets: &[u16], n: u16, t: &mut [u16])
+    requires { ⌜ (n ≤ maxCouplings) × (length (now targets) ≡ maxCouplings + 1) × (length (now t) ≡ tableSize) ⌝ }
+    ensures { λ _. ⌜ now (t .exit) ≡ spreadUp (sourceIn (now (t .entry))) (λ j. getD (now (targets .entry)) j 0) n (now (t .entry)) ⌝ }
 {
     let mut j = n;
     while 0 < j {
-        spread_link(sources, targets, j, t);
+        spread_link(targets, j, t);
         j = j - 1;
     }
 }
 
 // Inputs, from the root down.
-fn spread_down(sources: &[u16], targets: &[u16], n: u16, t: &mut [u16])
-    requires { ⌜ (n ≤ maxCouplings) × (length (now t) ≡ tableSize) ⌝ }
-    ensures { λ _. ⌜ now (t .exit) ≡ spreadDown (λ j. getD (now (sources .entry)) j 0) (λ j. getD (now (targets .entry)) j 0) n 1 (now (t .entry)) ⌝ }
+fn spread_down(targets: &[u16], n: u16, t: &mut [u16])
+    requires { ⌜ (n ≤ maxCouplings) × (length (now targets) ≡ maxCouplings + 1) × (length (now t) ≡ tableSize) ⌝ }
+    ensures { λ _. ⌜ now (t .exit) ≡ spreadDown (sourceIn (now (t .entry))) (λ j. getD (now (targets .entry)) j 0) n 1 (now (t .entry)) ⌝ }
 {
     let mut j: u16 = 1;
     while j < n + 1 {
-        spread_link(sources, targets, j, t);
+        spread_link(targets, j, t);
         j = j + 1;
     }
-}
-
-// Every table by node and by link, from the nodes of n links.
-fn fill_links(components: &[u8], sources: &[u16], targets: &[u16], n: u16, t: &mut [u16])
-    requires { ⌜ (length (componentsIn (now components)) ≤ maxComponents) × (n ≤ maxCouplings) × (length (now sources) ≡ maxCouplings + 1) × (length (now t) ≡ tableSize) ⌝ }
-    ensures { λ _. ⌜ now (t .exit) ≡ byLink (λ j. getD (now (sources .entry)) j 0) (λ j. getD (now (targets .entry)) j 0) (componentsIn (now (components .entry))) n (now (t .entry)) ⌝ }
-{
-    table_words::link_all(targets, n, FIRST_AT, MAX_NODES, NEXT_AT, t);
-    table_words::copy_words(sources, 1, little_endian::size16(n), SOURCE_AT + 1, t);
-    mark_sources(components, t);
-    spread_up(sources, targets, n, t);
-    spread_down(sources, targets, n, t);
 }
 
 // Every table by node and by link.
@@ -187,10 +169,11 @@ pub fn fill_couplings(components: &[u8], couplings: &[u8], t: &mut [u16])
     requires { ⌜ (length (componentsIn (now components)) ≤ maxComponents) × (length (couplingsIn (now couplings)) ≤ maxCouplings) × (length (now t) ≡ tableSize) ⌝ }
     ensures { λ _. ⌜ now (t .exit) ≡ byCoupling (componentsIn (now (components .entry))) (couplingsIn (now (couplings .entry))) (now (t .entry)) ⌝ }
 {
-    let mut sources = [0u16; LINKS];
     let mut targets = [0u16; LINKS];
-    put_ends(components, couplings, End::Source, &mut sources);
-    put_ends(components, couplings, End::Target, &mut targets);
+    put_ends(components, couplings, &mut targets, t);
     let n = link_count(couplings);
-    fill_links(components, &sources, &targets, n, t);
+    table_words::link_all(&targets, n, FIRST_AT, MAX_NODES, NEXT_AT, t);
+    mark_sources(components, t);
+    spread_up(&targets, n, t);
+    spread_down(&targets, n, t);
 }

@@ -27,12 +27,13 @@ use Rattle.table_words.proofs.Chains.{having, linked-else, linked-long}
 use Rattle.component_tables.specs.declared.Field.the-variants.{Parent}
 use Rattle.component_tables.specs.Columns.{fieldAt, ruleNames, ruleStarts, ruleEnds, byComponent, byRule, byParent}
 use Rattle.coupling_tables.specs.declared.End.the-variants.{Source, Target}
+use Rattle.coupling_tables.proofs.Order.{up-within}
 use Rattle.coupling_tables.specs.Links.{linkEnd, isSource, sourceFlag, spreadUp, spreadDown, byLink, byCoupling}
 use Rattle.tables.specs.Filled.{filled}
 use Rattle.tables.proofs.Rows.{atomic-known, place-right, components-within, numbers-hold, positions-hold, kinds-hold, orders-hold, phases-hold, parents-hold}
 use Rattle.tables.proofs.Ranges.{starts-within, ends-within, starts-right, ends-right, ends-in}
 use Rattle.tables.proofs.Links.{linked-rows, child-links, coupling-links}
-use Rattle.tables.proofs.Live.{nodes, Closed, up-within, down-within, up-keeps, down-keeps, spread-closed}
+use Rattle.tables.proofs.Live.{nodes, Closed, down-within, up-keeps, down-keeps, spread-closed}
 use Rattle.tables.proofs.Kin.{src-in, tgt-in, up-order, down-order, down-input, source-component, source-in}
 
 module _ (cs : List Component) (rs : List Rule) (ks : List Coupling) (t : List ℕ) (long : length t ≡ tableSize) (some : 0 < length cs) (few : length cs ≤ maxComponents)

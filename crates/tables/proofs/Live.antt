@@ -14,8 +14,9 @@ use Rattle.laws.proofs.Sorting.{clash}
 use Rattle.pull_laws.specs.Tables.{isOutput, liveAt}
 use Rattle.pull_laws.specs.Tabled.{isLive}
 use Rattle.table_words.specs.Writes.{putIn}
-use Rattle.table_words.proofs.Columns.{Within, within-none, within-both, within-put}
+use Rattle.table_words.proofs.Columns.{Within, within-none, within-both}
 use Rattle.coupling_tables.specs.Links.{spread, spreadUp, spreadDown}
+use Rattle.coupling_tables.proofs.Order.{spread-within, up-within}
 use Rattle.tables.proofs.Ranges.{put-row}
 
 -- how many nodes there is room for
@@ -27,14 +28,6 @@ abbrev pub Roomy : List ℕ → Type 0
 Roomy t = liveAt + nodes ≤ length t
 
 -- ---- one link
-
-pub spread-within : (x y : ℕ) (t : List ℕ) → Within liveAt (liveAt + nodes) t (spread x y t)
-unfolding spread
-spread-within x y t = go (isLive t x)
-  where
-    go : (b : Bool) → Within liveAt (liveAt + nodes) t (cond b (putIn liveAt nodes y 1 t) t)
-    go true = within-put liveAt nodes y 1 t
-    go false = within-none liveAt (liveAt + nodes) t
 
 spread-row : (x y z : ℕ) (t : List ℕ) → z < nodes → Roomy t → isLive (spread x y t) z ≡ cond (isLive t x) (cond (eqb y z) true (isLive t z)) (isLive t z)
 unfolding spread
@@ -84,12 +77,6 @@ module _ (x y z : ℕ) (t : List ℕ) (h : z < nodes) (l : Roomy t) where
 -- ---- all links
 
 module _ (src tgt : ℕ → ℕ) where
-  pub up-within : (j : ℕ) (t : List ℕ) → Within liveAt (liveAt + nodes) t (spreadUp src tgt j t)
-  unfolding spreadUp
-  up-within zero t = within-none liveAt (liveAt + nodes) t
-  up-within (suc j) t =
-      within-both (omega arith) (omega arith) (omega arith) (omega arith) (spread-within (src (suc j)) (tgt (suc j)) t) (up-within j (spread (src (suc j)) (tgt (suc j)) t))
-
   pub down-within : (d j : ℕ) (t : List ℕ) → Within liveAt (liveAt + nodes) t (spreadDown src tgt d j t)
   unfolding spreadDown
   down-within zero j t = within-none liveAt (liveAt + nodes) t
@@ -188,5 +175,5 @@ module _ (src tgt : ℕ → ℕ) where
     -- both passes
     pub spread-closed : (t : List ℕ) → Roomy t → (i : ℕ) → 0 < i → i ≤ m → Closed (spreadDown src tgt m 1 (spreadUp src tgt m t)) i
     spread-closed t r =
-        let s = up-within m t .long in
+        let s = up-within src tgt m t .long in
         down-closed m 1 (spreadUp src tgt m t) (omega arith) (omega arith) (omega arith) (up-closed m t (omega arith) r (λ i a b. absurd (omega arith))) (λ i a b. absurd (omega arith))

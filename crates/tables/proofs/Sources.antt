@@ -19,9 +19,10 @@ use Rattle.pull_laws.specs.TableStep.{anyOf}
 use Rattle.pull_laws.specs.Tabled.{isLive, mayLead}
 use Rattle.table_words.proofs.Columns.{column-at}
 use Rattle.coupling_tables.specs.declared.End.the-variants.{Source, Target}
+use Rattle.coupling_tables.proofs.Order.{up-within}
 use Rattle.coupling_tables.specs.Links.{linkEnd, isSource, sourceFlag}
 use Rattle.tables.proofs.Rows.{kinds-hold}
-use Rattle.tables.proofs.Live.{nodes, up-within, up-keeps, down-keeps, spread-closed}
+use Rattle.tables.proofs.Live.{nodes, up-keeps, down-keeps, spread-closed}
 use Rattle.tables.proofs.Kin.{src-in, tgt-in, up-order, down-order, down-input}
 use Rattle.tables.proofs.Holding.{t0, t5, sources, marked, up, down, l0, lm, ls, live-kept, kept1, rows-hold}
 

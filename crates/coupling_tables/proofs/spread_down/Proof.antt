@@ -1,29 +1,31 @@
--- The invariant is that the links left, over the table as it stands, give the whole (down-more). Assumes nothing.
+-- The invariant is that only flags have changed, and that the links left, over the table as it stands, give the whole (down-more).
+-- Assumes nothing.
 use borrow.Author.Needs.{needs}
 use native.Mathlib.Omega.{arith}
-use Rattle.coupling_tables.proofs.Loops.{down-more, down-end}
-use Rattle.coupling_tables.specs.Links.{spreadDown}
-use lib.ListN.{length, getD}
+use Prim.Native.Nat.{ℕ, _≤_, _<_, _-_, _+_, _*_}
+use mathlib.Core.Path.{_≡_, refl, sym, ap, subst, _∙_}
 use denote.Ref.{now}
-use mathlib.Core.Path.{_≡_, refl, sym, ap, _∙_}
-use Prim.Native.Nat.{ℕ, _≤_, _<_, _-_, _+_}
+use lib.ListN.{getD}
+use Rattle.definition.specs.Limits.{maxComponents}
+use Rattle.pull_laws.specs.Tables.{portNodes, liveAt, sourceAt}
+use Rattle.table_words.proofs.Columns.{Within, within-none, within-both}
+use Rattle.coupling_tables.specs.Links.{sourceIn, spread, spreadDown}
+use Rattle.coupling_tables.proofs.Order.{spread-within}
+use Rattle.coupling_tables.proofs.Loops.{down-more, down-end}
 use Rattle.coupling_tables.proofs.spread_down.Statement.{statement}
 use Rattle.coupling_tables.proofs.spread_down.Tie as tie
-use Rattle.coupling_tables.proofs.spread_down.Reads as reads
-use Rattle.coupling_tables.proofs.spread_down.Lts as lts
-use Rattle.coupling_tables.proofs.spread_link.Reads as spread-link-reads
 
 abbrev Inv-loop : tie.InvT-loop
-Inv-loop sources targets n t₀ j₀ t j = (0 < j) × (j ≤ n + 1) × (length t ≡ length t₀) × (spreadDown (λ j. getD sources j 0) (λ j. getD targets j 0) (n + 1 - j) j t ≡ spreadDown (λ j. getD sources j 0) (λ j. getD targets j 0) n 1 t₀)
+Inv-loop targets n t₀ j₀ t j = (0 < j) × (j ≤ n + 1) × Within liveAt (liveAt + portNodes * maxComponents) t₀ t × (spreadDown (sourceIn t₀) (λ j. getD targets j 0) (n + 1 - j) j t ≡ spreadDown (sourceIn t₀) (λ j. getD targets j 0) n 1 t₀)
 
 abbrev μ-loop : tie.MeasureT-loop
-μ-loop sources targets n t₀ j₀ t j = n + 1 - j
+μ-loop targets n t₀ j₀ t j = n + 1 - j
 
 loop-holds : tie.Need-loop-holds Inv-loop μ-loop
 loop-holds c =
-    let a = c .before .before .before .args in
+    let a = c .before .before .args in
     let z : a .n + 1 - 1 ≡ a .n = omega arith in
-    (omega arith, omega arith, refl, rw z)
+    (omega arith, omega arith, within-none liveAt (liveAt + portNodes * maxComponents) _, rw z)
 
 add-loop : tie.Need-add-loop Inv-loop μ-loop
 add-loop c = search needs
@@ -39,22 +41,23 @@ loop-less c = search needs
 
 loop-again : tie.Need-loop-again Inv-loop μ-loop
 loop-again c =
-    let a = c .before .before .before .before .before .before .before .before .before .args in
+    let a = c .before .before .before .before .before .before .before .before .args in
     let l = c .before .before .before .before .before .loop in
-    let src : ℕ → ℕ = λ j. getD (now (a .sources)) j 0 in
+    let src = sourceIn (now (a .t)) in
     let tgt : ℕ → ℕ = λ j. getD (now (a .targets)) j 0 in
+    let s = c .before .before .spread-link .ensures ∙ ap (λ x. spread x (tgt (l .j)) (l .t)) (l .inv .2 .above (sourceAt + l .j) (omega arith)) in
     let z : a .n + 1 - (l .j + 1) ≡ a .n - l .j = omega arith in
-    (omega arith, omega arith, c .before .before .spread-link .kept .1 .1 .1 .0 ∙ l .inv .2, rw z (ap (spreadDown src tgt (a .n - l .j) (l .j + 1)) (c .before .before .spread-link .ensures) ∙ down-more src tgt (a .n) (l .j) (l .t) (omega arith) ∙ l .inv .3))
+    (omega arith, omega arith, subst (λ u. Within liveAt (liveAt + portNodes * maxComponents) (now (a .t)) u) (sym s) (within-both (omega arith) (omega arith) (omega arith) (omega arith) (l .inv .2) (spread-within (src (l .j)) (tgt (l .j)) (l .t))), rw z (ap (spreadDown src tgt (a .n - l .j) (l .j + 1)) s ∙ down-more src tgt (a .n) (l .j) (l .t) (omega arith) ∙ l .inv .3))
 
 same-length : tie.Need-same-length Inv-loop μ-loop
 same-length c =
-    c .before .loop .inv .2
+    c .before .loop .inv .2 .long
 
 returns : tie.Need-returns Inv-loop μ-loop
 returns c =
-    let a = c .before .before .before .before .before .args in
+    let a = c .before .before .before .before .args in
     let l = c .before .loop in
-    sym (down-end (λ j. getD (now (a .sources)) j 0) (λ j. getD (now (a .targets)) j 0) (a .n) (l .j) (l .t) (omega arith)) ∙ l .inv .3
+    sym (down-end (sourceIn (now (a .t))) (λ j. getD (now (a .targets)) j 0) (a .n) (l .j) (l .t) (omega arith)) ∙ l .inv .3
 
 pub spread-down-spec : {M : Type 1} → statement M
 spread-down-spec =
