@@ -1,21 +1,17 @@
 -- One turn of each loop that fills tables by node or by link, its end, and that only the nodes of the links count. Assumes nothing.
 use mathlib.Core.Path.{_≡_, refl, sym, ap, _∙_}
-use Prim.Native.Nat.{ℕ, zero, suc, _+_, _-_, _*_, _<_, _≤_}
+use Prim.Native.Nat.{ℕ, zero, suc, _+_, _-_, _*_, _/_, _%_, _<_, _≤_}
 use mathlib.Core.List.{List, [], _∷_}
-use mathlib.Core.Bool.{Bool, true, false}
+use mathlib.Core.Bool.{Bool, true, false, cond}
 use native.Mathlib.Omega.{arith}
 use lib.ListN.{length, getD, set}
 use lib.Seq.{getD-set-same, getD-set-other}
-use lib.Dec.{ltb}
-use borrow.Author.Tests.{ltb-true, ltb-false}
-use Rattle.definition.specs.Limits.{maxComponents}
-use Rattle.definition.specs.Model.{Component, Coupling, noCoupling}
-use Rattle.pull_laws.specs.Tables.{portNodes, firstAt, liveAt, nextAt, sourceAt}
-use Rattle.table_words.specs.Writes.{column, linked}
-use Rattle.table_words.proofs.Columns.{column-cong}
-use Rattle.table_words.proofs.Chains.{linked-cong}
+use lib.Dec.{ltb, eqb}
+use borrow.Author.Tests.{ltb-true, ltb-false, eqb-true, eqb-false, lt-ltb, le-ltb}
+use Rattle.definition.specs.Model.{Component, Coupling, noCoupling, isAtomic}
+use Rattle.pull_laws.specs.Tables.{isOutput, isRootNode, nodeComponent}
 use Rattle.coupling_tables.specs.declared.End.{End}
-use Rattle.coupling_tables.specs.Links.{endOf, linkEnd, Held, sourceFlag, spread, spreadUp, spreadDown, byLink}
+use Rattle.coupling_tables.specs.Links.{endOf, linkEnd, Held, isSource, sourceFlag, spread, spreadUp, spreadDown}
 
 -- one link more is held
 pub held-more : (f : ℕ → ℕ) (i v : ℕ) (t : List ℕ) → i + 1 < length t → v ≡ f (i + 1) → Held f i t → Held f (i + 1) (set t (i + 1) v)
@@ -65,3 +61,22 @@ module _ (src tgt src′ tgt′ : ℕ → ℕ) where
   down-cong (suc m) i t h k =
       rw (h i (omega arith) (omega arith), k i (omega arith) (omega arith))
       (down-cong m (i + 1) (spread (src′ i) (tgt′ i) t) (λ j a b. h j (omega arith) (omega arith)) (λ j a b. k j (omega arith) (omega arith)))
+
+-- ---- the ports of component c
+
+same-zero : (c k : ℕ) → k < 4 → ltb (8 * c + k) 8 ≡ eqb c 0
+same-zero c k h = go (eqb c 0) refl
+  where
+    go : (b : Bool) → eqb c 0 ≡ b → ltb (8 * c + k) 8 ≡ b
+    go true e = lt-ltb (8 * c + k) 8 (omega (arith, eqb-true c 0 e))
+    go false e = le-ltb (8 * c + k) 8 (omega (arith, eqb-false c 0 e))
+
+pub input-flag : (cs : List Component) (c k : ℕ) → k < 4 → sourceFlag cs (8 * c + k) ≡ cond (eqb c 0) 1 0
+unfolding sourceFlag isSource isOutput isRootNode
+input-flag cs c k h = rw (lt-ltb ((8 * c + k) % 8) 4 (omega arith), same-zero c k h)
+
+pub output-flag : (cs : List Component) (c k : ℕ) → k < 4 → sourceFlag cs (8 * c + 4 + k) ≡ cond (isAtomic cs c) 1 0
+unfolding sourceFlag isSource isOutput nodeComponent
+output-flag cs c k h =
+    let e : (8 * c + 4 + k) / 8 ≡ c = omega arith in
+    rw (le-ltb ((8 * c + 4 + k) % 8) 4 (omega arith), e)

@@ -96,26 +96,22 @@ fn flag(b: bool) -> u16
     if b { 1 } else { 0 }
 }
 
-fn source_flag(components: &[u8], x: usize) -> u16
-    ensures { λ r. ⌜ r ≡ sourceFlag (componentsIn (now (components .entry))) x ⌝ }
-{
-    if !(x % PORT_NODES < PORT_COUNT as usize) {
-        flag(model_records::is_atomic(components, x / PORT_NODES))
-    } else {
-        flag(x < PORT_NODES)
-    }
-}
-
-// The sources are live, and nothing else yet.
+// The sources are live, and nothing else yet: the root's inputs and the atomics' outputs, four ports at once.
 fn mark_sources(components: &[u8], t: &mut [u16])
     requires { ⌜ (length (componentsIn (now components)) ≤ maxComponents) × (length (now t) ≡ tableSize) ⌝ }
     ensures { λ _. ⌜ now (t .exit) ≡ column liveAt (sourceFlag (componentsIn (now (components .entry)))) (portNodes * length (componentsIn (now (components .entry)))) 0 (now (t .entry)) ⌝ }
 {
-    let n = PORT_NODES * model_records::component_count(components);
-    let mut x: usize = 0;
-    while x < n {
-        t[LIVE_AT + x] = source_flag(components, x);
-        x = x + 1;
+    let n = model_records::component_count(components);
+    let mut c: usize = 0;
+    while c < n {
+        let x = PORT_NODES * c;
+        table_words::put_four(t, LIVE_AT + x, flag(c == 0));
+        table_words::put_four(
+            t,
+            LIVE_AT + (x + 4),
+            flag(model_records::is_atomic(components, c)),
+        );
+        c = c + 1;
     }
 }
 

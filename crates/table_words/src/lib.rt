@@ -80,16 +80,15 @@ pub fn put_in(t: &mut [u16], at: usize, size: usize, k: usize, v: u16)
     }
 }
 
-// The first n words of a slice as a column.
-pub fn copy_words(words: &[u16], from: usize, n: usize, at: usize, t: &mut [u16])
-    requires { ⌜ (from + n ≤ length (now words)) × (at + n ≤ length (now t)) ⌝ }
-    ensures { λ _. ⌜ now (t .exit) ≡ column at (λ i. getD (now (words .entry)) (from + i) 0) n 0 (now (t .entry)) ⌝ }
+// Four words alike.
+pub fn put_four(t: &mut [u16], at: usize, v: u16)
+    requires { ⌜ at + 4 ≤ length (now t) ⌝ }
+    ensures { λ _. ⌜ now (t .exit) ≡ column at (λ _. v) 4 0 (now (t .entry)) ⌝ }
 {
-    let mut i: usize = 0;
-    while i < n {
-        t[at + i] = words[from + i];
-        i = i + 1;
-    }
+    t[at] = v;
+    t[at + 1] = v;
+    t[at + 2] = v;
+    t[at + 3] = v;
 }
 
 // Link j before the links of key k.

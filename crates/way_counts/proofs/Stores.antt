@@ -1,23 +1,31 @@
--- Stores in a table of ways: one entry more that is right, and a coupling taken keeps the table's length. Assumes nothing.
+-- Stores in a table of ways: the ends among a component's ports, and a coupling taken keeps the table's length. Assumes nothing.
 use mathlib.Core.Path.{_≡_, refl}
 use mathlib.Core.List.{List}
 use mathlib.Core.Bool.{Bool, true, false, cond}
-use Prim.Native.Nat.{ℕ, _+_, _<_}
+use Prim.Native.Nat.{ℕ, _+_, _*_, _/_, _%_, _<_}
 use native.Mathlib.Omega.{arith}
 use lib.Dec.{eqb}
-use lib.ListN.{length, getD, set, length-set}
-use lib.Seq.{getD-set-same, getD-set-other}
-use borrow.Author.Tests.{eqb-true, eqb-false}
-use Rattle.definition.specs.Model.{Component, Coupling, isChild}
+use lib.ListN.{length, length-set}
+use borrow.Author.Tests.{lt-ltb, le-ltb}
+use Rattle.definition.specs.Model.{Component, Coupling, isAtomic, isChild}
+use Rattle.route_laws.specs.Ways.{endAt}
 use Rattle.route_laws.specs.Taken.{taken, takenDown, takenUp}
 
-pub right-more : (f : ℕ → ℕ) (table : List ℕ) (x v : ℕ) → x < length table → ((y : ℕ) → y < x → getD table y 0 ≡ f y) → v ≡ f x
-    → (y : ℕ) → y < x + 1 → getD (set table x v) y 0 ≡ f y
-right-more f table x v l h e y i = go (eqb y x) refl
-  where
-    go : (b : Bool) → eqb y x ≡ b → getD (set table x v) y 0 ≡ f y
-    go true w = let s = eqb-true y x w in rw (s, getD-set-same table x v 0 l) e
-    go false w = let s = eqb-false y x w in rw (getD-set-other table x y v 0 s) (h y (omega arith))
+-- ---- the ports of component c
+
+pub input-end : (cs : List Component) (c k : ℕ) → k < 4 → endAt cs (8 * c + k) ≡ cond (isAtomic cs c) 1 0
+unfolding endAt
+input-end cs c k h =
+    let e : (8 * c + k) / 8 ≡ c = omega arith in
+    rw (lt-ltb ((8 * c + k) % 8) 4 (omega arith), e)
+
+pub output-end : (cs : List Component) (c k : ℕ) → k < 4 → endAt cs (8 * c + 4 + k) ≡ cond (eqb c 0) 1 0
+unfolding endAt
+output-end cs c k h =
+    let e : (8 * c + 4 + k) / 8 ≡ c = omega arith in
+    rw (le-ltb ((8 * c + 4 + k) % 8) 4 (omega arith), e)
+
+-- ---- a coupling taken
 
 module _ (cs : List Component) (k : Coupling) (table : List ℕ) where
   length-taken : length (taken cs k table) ≡ length table

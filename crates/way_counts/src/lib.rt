@@ -2,6 +2,7 @@
 // last to the first for the ways down, and one from the first to the last for the others.
 ghost use mathlib.Core.Path.{_≡_};
 ghost use Prim.Native.Nat.{ℕ, _+_, _*_, _<_, _≤_, min};
+ghost use mathlib.Core.Bool.{cond};
 ghost use lib.ListN.{length, getD};
 ghost use Rattle.model_records.specs.Values.{couplingOf, componentsIn, couplingsIn};
 ghost use Rattle.route_laws.specs.Nodes.{portNodes, sourceNumber, targetNumber};
@@ -14,6 +15,7 @@ use little_endian::size;
 use model_records::Coupling;
 use model_records::coupling_at;
 use model_records::is_child;
+use table_words::put_four;
 
 fn wide(x: u16) -> u32
     ensures { λ r. ⌜ r ≡ x ⌝ }
@@ -73,34 +75,26 @@ pub fn target_node(components: &[u8], k: Coupling) -> usize
     }
 }
 
-// One where node x is an end, an atomic's input or the root's output.
-fn end_at(components: &[u8], x: usize) -> u16
-    ensures { λ r. ⌜ r ≡ endAt (componentsIn (now (components .entry))) x ⌝ }
+fn one_if(b: bool) -> u16
+    ensures { λ r. ⌜ r ≡ cond b 1 0 ⌝ }
 {
-    let c = x / PORT_NODES;
-    if x % PORT_NODES < size(PORT_COUNT) {
-        if model_records::is_atomic(components, c) {
-            1
-        } else {
-            0
-        }
-    } else {
-        if c == 0 { 1 } else { 0 }
-    }
+    if b { 1 } else { 0 }
 }
 
 // ---- the passes
 
-// The ends alone.
+// The ends alone, an atomic's inputs and the root's outputs, four ports at once.
 fn start_ways(components: &[u8], table: &mut [u16])
     requires { ⌜ portNodes * length (componentsIn (now components)) ≤ length (now table) ⌝ }
     ensures { λ _. ⌜ ((x : ℕ) → x < portNodes * length (componentsIn (now (components .entry))) → getD (now (table .exit)) x 0 ≡ endAt (componentsIn (now (components .entry))) x) ⌝ }
 {
-    let end = PORT_NODES * model_records::component_count(components);
-    let mut x: usize = 0;
-    while x < end {
-        table[x] = end_at(components, x);
-        x = x + 1;
+    let n = model_records::component_count(components);
+    let mut c: usize = 0;
+    while c < n {
+        let x = PORT_NODES * c;
+        put_four(table, x, one_if(model_records::is_atomic(components, c)));
+        put_four(table, x + 4, one_if(c == 0));
+        c = c + 1;
     }
 }
 

@@ -1,54 +1,84 @@
--- `way_counts::start_ways` meets its contract. Invariant: the entries below x are right; one more is right-more. Assumes nothing.
+-- `way_counts::start_ways` meets its contract. Invariant: the entries left to write, over what stands now, make the whole column; four
+-- ports more are four-more, at the ends of input-end and output-end. Assumes nothing.
 use borrow.Author.Needs.{needs}
 use native.Mathlib.Omega.{arith}
-use Prim.Native.Nat.{ℕ, _≤_, _<_, _-_, _*_}
-use mathlib.Core.Path.{_≡_, refl}
+use Prim.Native.Nat.{_≤_, _-_, _+_, _*_}
+use mathlib.Core.Path.{_≡_, refl, sym, ap, _∙_}
+use mathlib.Core.Bool.{cond}
+use native.Mathlib.Nat.{sub-zero}
 use denote.Ref.{now}
-use lib.ListN.{length, getD, length-set}
-use Rattle.route_laws.specs.Ways.{endAt}
+use lib.ListN.{length}
 use Rattle.model_records.specs.Values.{componentsIn}
-use Rattle.way_counts.proofs.Stores.{right-more}
+use Rattle.definition.specs.Model.{isAtomic}
+use Rattle.route_laws.specs.Nodes.{portNodes}
+use Rattle.route_laws.specs.Ways.{endAt}
+use Rattle.table_words.specs.Writes.{column}
+use Rattle.table_words.proofs.Columns.{column-rows}
+use Rattle.table_words.proofs.Loops.{four-more, column-end}
+use Rattle.way_counts.proofs.Stores.{input-end, output-end}
 use Rattle.way_counts.proofs.start_ways.Statement.{statement}
 use Rattle.way_counts.proofs.start_ways.Tie as tie
 
 abbrev Inv-loop : tie.InvT-loop
-Inv-loop components table₀ end x₀ table x = (x ≤ end) × (length table ≡ length table₀) × ((y : ℕ) → y < x → getD table y 0 ≡ endAt (componentsIn components) y)
+Inv-loop components table₀ n c₀ table c = (c ≤ n) × (length table ≡ length table₀) × (column 0 (endAt (componentsIn components)) (portNodes * n - portNodes * c) (portNodes * c) table ≡ column 0 (endAt (componentsIn components)) (portNodes * n) 0 table₀)
 
 abbrev μ-loop : tie.MeasureT-loop
-μ-loop components table₀ end x₀ table x = end - x
+μ-loop components table₀ n c₀ table c = n - c
 
 component-count-requires : tie.Need-component-count-requires Inv-loop μ-loop
 component-count-requires c κs = search needs
 
-mul-end : tie.Need-mul-end Inv-loop μ-loop
-mul-end c =
-    omega (arith, c .component-count .ensures, c .before .before .before .pre)
-
 loop-holds : tie.Need-loop-holds Inv-loop μ-loop
 loop-holds c =
-    (omega arith, refl, λ y i. absurd (omega arith))
+    (omega arith, refl, rw sub-zero)
 
-end-at-requires : tie.Need-end-at-requires Inv-loop μ-loop
-end-at-requires c κs = search needs
+mul-x : tie.Need-mul-x Inv-loop μ-loop
+mul-x c =
+    omega (arith, c .before .before .component-count .ensures, c .before .before .before .before .before .pre)
 
-mul-table : tie.Need-mul-table Inv-loop μ-loop
-mul-table c = search needs
+is-atomic-requires : tie.Need-is-atomic-requires Inv-loop μ-loop
+is-atomic-requires c κs = search needs
 
-slice-write-table : tie.Need-slice-write-table Inv-loop μ-loop
-slice-write-table c =
-    omega (arith, c .before .before .before .component-count .ensures, c .before .before .before .before .before .before .pre, c .before .before .loop .inv .1)
+one-if-requires : tie.Need-one-if-requires Inv-loop μ-loop
+one-if-requires c κs = search needs
 
-add-x : tie.Need-add-x Inv-loop μ-loop
-add-x c =
-    omega (arith, c .before .before .before .component-count .ensures, c .before .before .before .before .before .before .pre)
+put-four-requires : tie.Need-put-four-requires Inv-loop μ-loop
+put-four-requires c κs =
+    omega (arith, c .before .before .before .before .before .component-count .ensures, c .before .before .before .before .before .before .before .before .pre, c .before .before .before .before .loop .inv .1)
+
+add-put-four : tie.Need-add-put-four Inv-loop μ-loop
+add-put-four c =
+    omega (arith, c .before .before .before .before .before .before .before .before .before .component-count .ensures, c .before .before .before .before .before .before .before .before .before .before .before .before .pre)
+
+one-if-requires-2 : tie.Need-one-if-requires-2 Inv-loop μ-loop
+one-if-requires-2 c κs = search needs
+
+put-four-requires-2 : tie.Need-put-four-requires-2 Inv-loop μ-loop
+put-four-requires-2 c κs =
+    omega (arith, c .before .before .before .before .before .before .before .before .before .before .component-count .ensures, c .before .before .before .before .before .before .before .before .before .before .before .before .before .pre, c .before .before .before .before .before .before .before .before .before .loop .inv .1, c .before .before .before .before .put-four .kept .0)
+
+add-c : tie.Need-add-c Inv-loop μ-loop
+add-c c =
+    omega (arith, c .before .before .before .before .before .before .before .before .before .before .before .before .before .component-count .ensures, c .before .before .before .before .before .before .before .before .before .before .before .before .before .before .before .before .pre)
 
 loop-less : tie.Need-loop-less Inv-loop μ-loop
 loop-less c = search needs
 
 loop-again : tie.Need-loop-again Inv-loop μ-loop
 loop-again c =
-    let l = c .before .before .loop in
-    (omega arith, simp length-set (l .inv .1), right-more (endAt (componentsIn (now (c .before .before .before .before .before .before .args .components)))) (l .table) (l .x) (c .end-at .result) (omega (arith, c .before .before .before .component-count .ensures, c .before .before .before .before .before .before .pre, l .inv .1)) (l .inv .2) (c .end-at .ensures))
+    let a = c .before .before .before .before .before .before .before .before .before .before .before .before .before .before .before .before .args in
+    let l = c .before .before .before .before .before .before .before .before .before .before .before .before .loop in
+    let cs = componentsIn (now (a .components)) in
+    let f = endAt cs in
+    let n = portNodes * c .before .before .before .before .before .before .before .before .before .before .before .before .before .component-count .result in
+    let x = portNodes * l .c in
+    let e : portNodes * (l .c + 1) ≡ x + 4 + 4 = omega arith in
+    let y : x ≡ 0 + x = omega arith in
+    let z : x + 4 ≡ 0 + (x + 4) = omega arith in
+    let v : c .before .before .before .before .before .before .before .before .one-if .result ≡ cond (isAtomic cs (l .c)) 1 0 = rw (← c .before .before .before .before .before .before .before .before .before .is-atomic .ensures) (c .before .before .before .before .before .before .before .before .one-if .ensures) in
+    let one = c .before .before .before .before .before .before .before .put-four .ensures ∙ ap (λ i. column i (λ _. c .before .before .before .before .before .before .before .before .one-if .result) 4 0 (l .table)) y in
+    let two = c .before .before .put-four2 .ensures ∙ ap (λ i. column i (λ _. c .before .before .before .one-if2 .result) 4 0 (c .before .before .before .before .before .before .before .put-four .last .0)) z in
+    (omega arith, c .before .before .put-four2 .kept .0 ∙ c .before .before .before .before .before .before .before .put-four .kept .0 ∙ l .inv .1, ap (λ i. column 0 f (n - i) i (c .before .before .put-four2 .last .0)) e ∙ ap (column 0 f (n - (x + 4 + 4)) (x + 4 + 4)) two ∙ four-more 0 f n (x + 4) (c .before .before .before .one-if2 .result) (c .before .before .before .before .before .before .before .put-four .last .0) (omega arith) (λ k h. output-end cs (l .c) k h ∙ sym (c .before .before .before .one-if2 .ensures)) ∙ ap (column 0 f (n - (x + 4)) (x + 4)) one ∙ four-more 0 f n x (c .before .before .before .before .before .before .before .before .one-if .result) (l .table) (omega arith) (λ k h. input-end cs (l .c) k h ∙ sym v) ∙ l .inv .2)
 
 same-length : tie.Need-same-length Inv-loop μ-loop
 same-length c =
@@ -56,8 +86,12 @@ same-length c =
 
 returns : tie.Need-returns Inv-loop μ-loop
 returns c =
-    let e : c .before .loop .x ≡ 8 * length (componentsIn (now (c .before .before .before .before .before .args .components))) = omega (arith, c .before .before .component-count .ensures) in
-    rw e at (c .before .loop .inv .2)
+    let a = c .before .before .before .before .before .args in
+    let l = c .before .loop in
+    let f = endAt (componentsIn (now (a .components))) in
+    let n = portNodes * c .before .before .component-count .result in
+    let e = sym (column-end 0 f n (portNodes * l .c) (l .table) (omega arith)) ∙ l .inv .2 in
+    λ x h. column-rows f n (l .table) (now (a .table)) e (omega (arith, c .before .before .component-count .ensures, c .before .before .before .before .before .pre)) x (omega (arith, c .before .before .component-count .ensures))
 
 pub start-ways-spec : {M : Type 1} → statement M
 start-ways-spec =
@@ -66,12 +100,15 @@ start-ways-spec =
     Inv-loop
     μ-loop
     component-count-requires
-    mul-end
     loop-holds
-    end-at-requires
-    mul-table
-    slice-write-table
-    add-x
+    mul-x
+    is-atomic-requires
+    one-if-requires
+    put-four-requires
+    add-put-four
+    one-if-requires-2
+    put-four-requires-2
+    add-c
     loop-less
     loop-again
     same-length
