@@ -1,7 +1,7 @@
 -- The definitions of the record tests in the order in which the code takes them. Assumes nothing.
-use mathlib.Core.Path.{_≡_, refl}
+use mathlib.Core.Path.{_≡_, refl, sym}
 use mathlib.Core.List.{List}
-use mathlib.Core.Bool.{Bool, true, false}
+use mathlib.Core.Bool.{Bool, true, false, not}
 use Prim.Native.Nat.{ℕ, zero, suc, _-_, _<_}
 use native.Mathlib.Omega.{arith}
 use lib.ListN.{getD}
@@ -18,6 +18,14 @@ keeps b n a e = rw e
 pub breaks : {A : Type 0} (b : Bool) (n : ℕ) (a : A) → b ≡ false → checked b n a ≡ refused n
 unfolding checked
 breaks b n a e = rw e
+
+pub not-yes : (b : Bool) → not b ≡ true → b ≡ false
+not-yes true e = sym e
+not-yes false e = refl
+
+pub not-no : (b : Bool) → not b ≡ false → b ≡ true
+not-no true e = refl
+not-no false e = sym e
 
 -- ---- going up to the root
 

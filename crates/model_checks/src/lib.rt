@@ -214,7 +214,7 @@ pub fn rule_refusal(r: RuleRead) -> u16
 
 // ---- couplings
 
-// Source is the target's parent, its sibling, or its child.
+// Source is the target's parent, its sibling, or its child. Branches, since a file that is kept takes the same ones again and again.
 fn are_related(components: &[u8], s: usize, t: usize) -> bool
     ensures { λ r. ⌜ r ≡ related (componentsIn (now (components .entry))) s t ⌝ }
 {
@@ -222,10 +222,19 @@ fn are_related(components: &[u8], s: usize, t: usize) -> bool
     let l = component_at(components, t);
     let over_s = size(k.parent);
     let over_t = size(l.parent);
-    let under_s = !(t == 0) & (over_t == s);
-    let under_t = !(s == 0) & (over_s == t);
-    let siblings = !(s == t) & !(s == 0) & (!(t == 0) & (over_t == over_s));
-    under_s | siblings | under_t
+    if t == 0 {
+        return !(s == 0) & (over_s == 0);
+    }
+    if over_t == s {
+        return true;
+    }
+    if s == 0 {
+        return false;
+    }
+    if over_s == t {
+        return true;
+    }
+    !(s == t) & (over_t == over_s)
 }
 
 fn coupling_fields(components: &[u8], k: Coupling) -> bool
@@ -234,11 +243,16 @@ fn coupling_fields(components: &[u8], k: Coupling) -> bool
     let n = model_records::component_count(components);
     let s = size(k.source);
     let t = size(k.target);
-    (s < n)
-        & (t < n)
-        & (k.source_port < PORT_COUNT)
-        & (k.target_port < PORT_COUNT)
-        & are_related(components, s, t)
+    if n <= s {
+        return false;
+    }
+    if n <= t {
+        return false;
+    }
+    if !((k.source_port < PORT_COUNT) & (k.target_port < PORT_COUNT)) {
+        return false;
+    }
+    are_related(components, s, t)
 }
 
 // A row of four bytes as one number.
