@@ -1,23 +1,24 @@
--- Laws of putting: one list after another, the four slots of a phase, one given message more. Assumes nothing.
-use mathlib.Core.Path.{_≡_, refl, sym, ap, _∙_}
-use mathlib.Core.List.{List, [], _∷_, _++_, append-nil}
-use mathlib.Core.Bool.{Bool, true, false, _&&_, cond}
-use Prim.Native.Nat.{ℕ, suc, _+_, _-_, _*_, _/_, _<_}
+-- Laws of putting: one list after another, one message more of a bag, of the slots of a phase record, of the given bytes. Assumes nothing.
+use mathlib.Core.Path.{_≡_, refl, sym, _∙_}
+use mathlib.Core.List.{List, [], _∷_, _++_}
+use mathlib.Core.Bool.{Bool, true, false, cond}
+use Prim.Native.Nat.{ℕ, zero, suc, _+_, _-_, _*_, _/_, _≤_, _<_, min}
 use native.Mathlib.Omega.{arith}
-use native.Mathlib.Nat.{sub-zero, add-zero}
+use native.Mathlib.Nat.{add-zero}
 use native.Mathlib.Numerals.{add-one}
-use lib.Dec.{ltb, eqb}
-use lib.ListN.{length, take, drop, getD}
-use lib.Seq.{take-nil, drop-cons, drop-length}
-use borrow.Author.Tests.{ltb-true, ltb-false}
-use Rattle.definition.specs.Bytes.{Bytes, number}
+use lib.Dec.{eqb}
+use lib.ListN.{length, take, drop, getD, length-take}
+use lib.Seq.{drop-cons, drop-length, getD-take}
+use Rattle.definition.specs.Bytes.{Bytes, number, row}
 use Rattle.definition.specs.Limits.{messageSize}
-use Rattle.definition.specs.Model.{Message, Bag, Phase, noMessage, slots, outputs}
-use Rattle.definition.specs.Records.{messageAt}
+use Rattle.definition.specs.Model.{Message, Bag, noMessage, noPhase, slots, outputs}
+use Rattle.definition.specs.Records.{messageAt, toPhase}
 use Rattle.definition.specs.Engine.{toBag}
 use Rattle.byte_laws.specs.Parts.{recordsIn}
 use Rattle.byte_laws.proofs.Rows.{number-row}
 use Rattle.byte_laws.proofs.Records.{record-in, length-records}
+use Rattle.model_records.specs.Values.{phasesIn}
+use Rattle.model_records.proofs.Fields.{phase-out}
 use Rattle.pull_laws.specs.Put.{put1, puts, valuesOn}
 use Rattle.bag_keys.specs.Sent.{wantedValue}
 
@@ -30,7 +31,6 @@ pub puts-none : (port : ℕ) (st : List ℕ × ℕ) → puts port [] st ≡ st
 unfolding puts
 puts-none port st = refl
 
--- one message more
 values-one : (q : ℕ) (x : Message) (xs : Bag) → valuesOn q (x ∷ xs) ≡ wantedValue (eqb q (x .port)) (x .value) ++ valuesOn q xs
 unfolding valuesOn wantedValue
 values-one q x xs = go (eqb q (x .port))
@@ -39,41 +39,55 @@ values-one q x xs = go (eqb q (x .port))
     go true = refl
     go false = refl
 
--- ---- the slots of a phase
+module _ (xs : Bag) (q port i : ℕ) (st : List ℕ × ℕ) where
+  -- one message more
+  bag-more : (x : Message) → i < length xs → getD xs i noMessage ≡ x
+      → puts port (valuesOn q (drop (i + 1) xs)) (puts port (wantedValue (eqb q (x .port)) (x .value)) st) ≡ puts port (valuesOn q (drop i xs)) st
+  bag-more x h e = rw (add-one i, drop-cons xs i noMessage h, e, values-one, puts-append)
 
--- slot i, where n are used
-values-slot : (q i n : ℕ) (x : Message) (xs : Bag)
-    → valuesOn q (take (n - i) (x ∷ xs)) ≡ wantedValue (ltb i n && eqb q (x .port)) (x .value) ++ valuesOn q (take (n - (i + 1)) xs)
-unfolding valuesOn wantedValue
-values-slot q i n x xs = go (ltb i n) refl
+  pub bag-none : i ≡ length xs → puts port (valuesOn q (drop i xs)) st ≡ st
+  unfolding valuesOn puts
+  bag-none e = rw (e, drop-length)
+
+-- ---- the slots of a phase record
+
+pub length-outputs : (r : Bytes) → length (outputs (toPhase r)) ≡ min (number 1 5 r) 4
+unfolding outputs slots toPhase
+length-outputs r = length-take (number 1 5 r) (slots (toPhase r))
+
+slot-at : (r : Bytes) (j : ℕ) → j < 4
+    → getD (slots (toPhase r)) j noMessage ≡ record { port = number 1 (6 + messageSize * j) r; value = number 2 (6 + messageSize * j + 1) r }
+unfolding slots toPhase messageAt
+slot-at r zero h = refl
+slot-at r (suc zero) h = refl
+slot-at r (suc (suc zero)) h = refl
+slot-at r (suc (suc (suc zero))) h = refl
+slot-at r (suc (suc (suc (suc j)))) h = absurd (omega arith)
+
+output-at : (r : Bytes) (j : ℕ) → j < length (outputs (toPhase r))
+    → getD (outputs (toPhase r)) j noMessage ≡ record { port = number 1 (6 + messageSize * j) r; value = number 2 (6 + messageSize * j + 1) r }
+output-at r j h =
+    let used : j < number 1 5 r = omega (arith, length-outputs r) in
+    let four : j < 4 = omega (arith, length-outputs r) in
+    of-slots used ∙ slot-at r j four
   where
-    go : (b : Bool) → ltb i n ≡ b → valuesOn q (take (n - i) (x ∷ xs)) ≡ wantedValue (b && eqb q (x .port)) (x .value) ++ valuesOn q (take (n - (i + 1)) xs)
-    go true e = let s : n - i ≡ suc (n - (i + 1)) = omega (arith, ltb-true i n e) in rw s (values-one q x (take (n - (i + 1)) xs))
-    go false e =
-        let z : n - i ≡ 0 = omega (arith, ltb-false i n e) in
-        let w : n - (i + 1) ≡ 0 = omega arith in
-        rw (z, w)
+    of-slots : j < number 1 5 r → getD (outputs (toPhase r)) j noMessage ≡ getD (slots (toPhase r)) j noMessage
+    of-slots used = unfold outputs toPhase in getD-take (number 1 5 r) (slots (toPhase r)) j noMessage used
 
-module _ (q n : ℕ) where
-  abbrev pub slotValue : ℕ → Message → List ℕ
-  slotValue i x = wantedValue (ltb i n && eqb q (x .port)) (x .value)
+pub slot-more : (r : Bytes) (q port j : ℕ) (st : List ℕ × ℕ) → j < length (outputs (toPhase r))
+    → puts port (valuesOn q (drop (j + 1) (outputs (toPhase r))))
+    (puts port (wantedValue (eqb q (number 1 (6 + messageSize * j) r)) (number 2 (6 + messageSize * j + 1) r)) st)
+    ≡ puts port (valuesOn q (drop j (outputs (toPhase r)))) st
+slot-more r q port j st h = bag-more (outputs (toPhase r)) q port j st _ h (output-at r j h)
 
-  four-values : (a b c d : Message) → valuesOn q (take n (a ∷ b ∷ c ∷ d ∷ [])) ≡ slotValue 0 a ++ (slotValue 1 b ++ (slotValue 2 c ++ slotValue 3 d))
-  four-values a b c d =
-      ap (λ m. valuesOn q (take m (a ∷ b ∷ c ∷ d ∷ []))) (sym (sub-zero n)) ∙ values-slot q 0 n a (b ∷ c ∷ d ∷ [])
-      ∙ ap (λ l. slotValue 0 a ++ l) (values-slot q 1 n b (c ∷ d ∷ [])
-      ∙ ap (λ l. slotValue 1 b ++ l) (values-slot q 2 n c (d ∷ [])
-      ∙ ap (λ l. slotValue 2 c ++ l) (values-slot q 3 n d [] ∙ ap (λ l. slotValue 3 d ++ valuesOn q l) (take-nil (n - 4)) ∙ end)))
-    where
-      end : slotValue 3 d ++ valuesOn q [] ≡ slotValue 3 d
-      end = unfold valuesOn in append-nil (slotValue 3 d)
+-- The record cut out of the slice is the phase of that number.
+pub sent-in : (s : Bytes) (i : ℕ) → i < length s / 18 → toPhase (take (18 * i + 18 - 18 * i) (drop (18 * i) s)) ≡ getD (phasesIn s) i noPhase
+unfolding phasesIn row
+sent-in s i h = let e : 18 * i + 18 - 18 * i ≡ 18 = omega arith in rw e (sym (record-in 18 toPhase s i noPhase h))
 
-pub four-slots : (k : Phase) (q port : ℕ) (st : List ℕ × ℕ)
-    → puts port (valuesOn q (outputs k)) st
-    ≡ puts port (slotValue q (k .count) 3 (k .slot3)) (puts port (slotValue q (k .count) 2 (k .slot2))
-    (puts port (slotValue q (k .count) 1 (k .slot1)) (puts port (slotValue q (k .count) 0 (k .slot0)) st)))
-unfolding outputs slots
-four-slots k q port st = rw (four-values q (k .count) (k .slot0) (k .slot1) (k .slot2) (k .slot3), puts-append, puts-append, puts-append)
+pub sent-out : (s : Bytes) (q i port : ℕ) (st : List ℕ × ℕ) → length s / 18 ≤ i → puts port (valuesOn q (outputs (getD (phasesIn s) i noPhase))) st ≡ st
+unfolding noPhase outputs valuesOn puts
+sent-out s q i port st h = rw (phase-out i s h)
 
 -- ---- the given messages
 
@@ -91,9 +105,7 @@ given-at s i h =
 pub given-more : (s : Bytes) (q port i : ℕ) (st : List ℕ × ℕ) → i < length s / messageSize
     → puts port (valuesOn q (drop (i + 1) (toBag s))) (puts port (wantedValue (eqb q (number 1 (messageSize * i) s)) (number 2 (messageSize * i + 1) s)) st)
     ≡ puts port (valuesOn q (drop i (toBag s))) st
-given-more s q port i st h =
-    rw (add-one i, drop-cons (toBag s) i noMessage (rw (length-given s) h), given-at s i h, values-one, puts-append)
+given-more s q port i st h = bag-more (toBag s) q port i st _ (rw (length-given s) h) (given-at s i h)
 
 pub given-none : (s : Bytes) (q port i : ℕ) (st : List ℕ × ℕ) → i ≡ length s / messageSize → puts port (valuesOn q (drop i (toBag s))) st ≡ st
-unfolding valuesOn puts
-given-none s q port i st e = rw (e, ← length-given s, drop-length)
+given-none s q port i st e = bag-none (toBag s) q port i st (e ∙ sym (length-given s))

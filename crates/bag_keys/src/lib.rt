@@ -1,16 +1,25 @@
 // Messages put as keys into a lent buffer, one after the other: a key is the port times 65,536 and the value, and the port is that of
 // the end where the message arrives. A buffer that is full takes no more, so that nothing is asked of its length.
 ghost use mathlib.Core.Path.{_≡_};
-ghost use lib.ListN.{getD};
+ghost use lib.ListN.{length, getD};
 ghost use Rattle.definition.specs.Engine.{toBag};
 ghost use Rattle.definition.specs.Model.{outputs};
-ghost use Rattle.model_records.specs.Values.{phaseOf, phasesIn};
+ghost use Rattle.definition.specs.Records.{toPhase};
+ghost use Rattle.model_records.specs.Values.{phasesIn};
 ghost use Rattle.pull_laws.specs.Put.{put1, puts, valuesOn};
 ghost use Rattle.bag_keys.specs.Sent.{sentOn, wantedValue};
-use model_records::Phase;
+use limits::PHASE_SIZE;
+use little_endian::size;
 
-// Port (1) and value (2) of a given message.
+// Port (1) and value (2) of a message.
 pub const MESSAGE_SIZE: usize = 3;
+
+// A phase record: advance (4), next phase (1), output count (1), and four slots, each a message.
+const COUNT_AT: usize = 5;
+
+const SLOTS_AT: usize = 6;
+
+const SLOTS: usize = 4;
 
 // A key or a mark; past the end stand zeros.
 pub fn key_at(keys: &[u32], at: usize) -> u32
@@ -42,49 +51,46 @@ fn put_wanted(wanted: bool, value: u16, own: u8, buf: &mut [u32], at: usize) -> 
     }
 }
 
-// The used slots of a phase on port q.
-fn put_outputs(phase: Phase, q: u8, own: u8, buf: &mut [u32], at: usize) -> usize
-    ensures { λ r. ⌜ (now (buf .exit), r) ≡ puts own (valuesOn q (outputs (phaseOf phase))) (now (buf .entry), at) ⌝ }
+// How many slots a phase record uses.
+fn used_slots(phase: &[u8]) -> usize
+    ensures { λ r. ⌜ r ≡ length (outputs (toPhase (now (phase .entry)))) ⌝ }
 {
-    let a = put_wanted(
-        (0 < phase.count) & (q == phase.port0),
-        phase.value0,
-        own,
-        buf,
-        at,
-    );
-    let b = put_wanted(
-        (1 < phase.count) & (q == phase.port1),
-        phase.value1,
-        own,
-        buf,
-        a,
-    );
-    let c = put_wanted(
-        (2 < phase.count) & (q == phase.port2),
-        phase.value2,
-        own,
-        buf,
-        b,
-    );
-    put_wanted(
-        (3 < phase.count) & (q == phase.port3),
-        phase.value3,
-        own,
-        buf,
-        c,
-    )
+    let count = size(little_endian::byte_at(phase, COUNT_AT));
+    if count < SLOTS { count } else { SLOTS }
 }
 
-// What an atomic with this mark puts out on port q.
+// The used slots of a phase record on port q.
+fn put_slots(phase: &[u8], q: u8, own: u8, buf: &mut [u32], at: usize) -> usize
+    ensures { λ r. ⌜ (now (buf .exit), r) ≡ puts own (valuesOn q (outputs (toPhase (now (phase .entry))))) (now (buf .entry), at) ⌝ }
+{
+    let n = used_slots(phase);
+    let mut next = at;
+    let mut j: usize = 0;
+    while j < n {
+        let slot = SLOTS_AT + MESSAGE_SIZE * j;
+        let port = little_endian::byte_at(phase, slot);
+        let value = little_endian::u16_at(phase, slot + 1);
+        next = put_wanted(q == port, value, own, buf, next);
+        j = j + 1;
+    }
+    next
+}
+
+// What an atomic with this mark puts out on port q. Its phase record is cut out as a slice of a known length, so that a field is read
+// without a test of where the slice ends.
 pub fn put_sent(phases: &[u8], mark: u32, q: u8, own: u8, buf: &mut [u32], at: usize) -> usize
     ensures { λ r. ⌜ (now (buf .exit), r) ≡ puts own (sentOn (phasesIn (now (phases .entry))) mark q) (now (buf .entry), at) ⌝ }
 {
     if mark == 0 {
         return at;
     }
-    let phase = model_records::phase_at(phases, (mark - 1) as usize);
-    put_outputs(phase, q, own, buf, at)
+    let i = (mark - 1) as usize;
+    if phases.len() / PHASE_SIZE <= i {
+        return at;
+    }
+    let from = PHASE_SIZE * i;
+    let phase = &phases[from..from + PHASE_SIZE];
+    put_slots(phase, q, own, buf, at)
 }
 
 // What is given at the root's input port q.
