@@ -2,18 +2,18 @@
 -- Assumes nothing.
 use mathlib.Core.Path.{_≡_, refl, sym, _∙_}
 use mathlib.Core.List.{List, [], map}
-use mathlib.Core.Bool.{Bool, true, false, _&&_, true≢false}
-use Prim.Native.Nat.{ℕ, zero, suc, _+_, _-_, _≤_, _<_}
+use mathlib.Core.Bool.{Bool, true, false, _&&_, not, true≢false}
+use Prim.Native.Nat.{ℕ, zero, suc, _+_, _-_, _*_, _/_, _%_, _≤_, _<_}
 use native.Mathlib.Omega.{arith}
-use lib.Dec.{ltb}
+use lib.Dec.{ltb, leb, eqb}
 use lib.ListN.{getD}
-use borrow.Author.Tests.{ltb-true, ltb-false, lt-ltb, ne-eqb, eq-eqb}
-use Rattle.definition.specs.Limits.{maxCouplings}
+use borrow.Author.Tests.{ltb-true, ltb-false, lt-ltb, le-ltb, leb-true, eqb-false, ne-eqb, eq-eqb}
+use Rattle.definition.specs.Limits.{maxCouplings, portCount}
 use Rattle.definition.specs.Model.{Bag, Phase}
 use Rattle.pull_laws.specs.Pull.{joined, coupledOut, inputIn}
 use Rattle.pull_laws.specs.Put.{valuesOn, puts, putPorts}
-use Rattle.pull_laws.specs.Tables.{sourceAt, nextAt, firstAt, links, chainRows, nodeComponent, nodePort, isRootNode}
-use Rattle.pull_laws.specs.TableStep.{mayCome, isOpen, openRows, sentBy, pulledBelow, pulledInto, givenBy}
+use Rattle.pull_laws.specs.Tables.{sourceAt, nextAt, firstAt, liveAt, links, chainRows, portNodes, inputNode, nodeComponent, nodePort, isRootNode, isOutput}
+use Rattle.pull_laws.specs.TableStep.{isUp, mayCome, isOpen, openRows, sentBy, pulledBelow, pulledInto, givenBy}
 use Rattle.bag_keys.specs.Sent.{sentOn}
 use Rattle.bag_keys.proofs.Laws.{puts-append, puts-none}
 use Rattle.collect.specs.Turns.{pulledChild, pulledFrom}
@@ -60,6 +60,14 @@ chain-end F t port (suc n) link st h = go (ltb 0 link) refl h
 
 -- ---- open and shut
 
+not-root : (x : ℕ) → portNodes ≤ x → isRootNode x ≡ false
+unfolding isRootNode
+not-root x h = le-ltb x portNodes h
+
+and-false : (b : Bool) → (b && false) ≡ false
+and-false true = refl
+and-false false = refl
+
 module _ (ps : List Phase) (t es fs : List ℕ) where
   -- which nodes are open does not depend on the phases
   open-any : (x : ℕ) → isOpen [] t es fs x ≡ isOpen ps t es fs x
@@ -83,6 +91,13 @@ module _ (ps : List Phase) (t es fs : List ℕ) where
   unfolding coupledOut
   coupled-none x = refl
 
+  node-unreached : (c q : ℕ) → q < portCount → eqb (getD fs c 0) 0 ≡ true → isOpen [] t es fs (inputNode c q) ≡ false
+  unfolding isOpen mayCome isOutput nodeComponent isUp inputNode
+  node-unreached c q k e =
+      let m : (portNodes * c + q) % portNodes ≡ q = omega arith in
+      let n : (portNodes * c + q) / portNodes ≡ c = omega arith in
+      rw (m, n, lt-ltb q portCount k, e) (and-false (not (eqb (getD t (liveAt + (portNodes * c + q)) 0) 0)))
+
   module _ (b : Bag) where
     pub input-root : (d x : ℕ) → isRootNode x ≡ true → pulledInto ps t es fs b d x ≡ valuesOn (nodePort x) b
     unfolding inputIn givenBy
@@ -101,6 +116,36 @@ module _ (ps : List Phase) (t es fs : List ℕ) where
     unfolding inputIn openRows joined
     input-shut zero x r o = rw r
     input-shut (suc d) x r o = rw (r, sym (open-any x) ∙ o)
+
+    -- an input node of a component other than the root that is seen to be closed
+    pub input-closed : (d x : ℕ) → (leb portNodes x && not (isOpen [] t es fs x)) ≡ true → pulledInto ps t es fs b d x ≡ []
+    input-closed d x h = go (leb portNodes x) refl (isOpen [] t es fs x) refl h
+      where
+        go : (u : Bool) → leb portNodes x ≡ u → (v : Bool) → isOpen [] t es fs x ≡ v → (u && not v) ≡ true → pulledInto ps t es fs b d x ≡ []
+        go true e false f k = input-shut d x (not-root x (leb-true portNodes x e)) f
+        go true e true f k = absurd (true≢false (sym k))
+        go false e v f k = absurd (true≢false (sym k))
+
+    port-unreached : (d c q : ℕ) → 0 < c → q < portCount → eqb (getD fs c 0) 0 ≡ true → pulledInto ps t es fs b d (inputNode c q) ≡ []
+    port-unreached d c q h k e = input-shut d (inputNode c q) (not-root (inputNode c q) away) (node-unreached c q k e)
+      where
+        away : portNodes ≤ inputNode c q
+        away = unfold inputNode in omega arith
+
+    -- the ports of a component other than the root that nothing may reach
+    pub unreached : (d c n q : ℕ) (st : List ℕ × ℕ) → (not (eqb c 0) && eqb (getD fs c 0) 0) ≡ true → q + n ≤ portCount
+        → putPorts (λ p. pulledInto ps t es fs b d (inputNode c p)) n q st ≡ st
+    unfolding putPorts
+    unreached d c zero q st h k = refl
+    unreached d c (suc n) q st h k = rw (port-unreached d c q (here .0) (omega arith) (here .1), puts-none q st) (unreached d c n (q + 1) st h (omega arith))
+      where
+        here : (0 < c) × (eqb (getD fs c 0) 0 ≡ true)
+        here = both (eqb c 0) refl (eqb (getD fs c 0) 0) refl h
+          where
+            both : (u : Bool) → eqb c 0 ≡ u → (v : Bool) → eqb (getD fs c 0) 0 ≡ v → (not u && v) ≡ true → (0 < c) × (eqb (getD fs c 0) 0 ≡ true)
+            both false e true f z = (omega (arith, eqb-false c 0 e), f)
+            both false e false f z = absurd (true≢false (sym z))
+            both true e v f z = absurd (true≢false (sym z))
 
     pub input-none : (x : ℕ) → isRootNode x ≡ false → pulledInto ps t es fs b 0 x ≡ []
     unfolding inputIn

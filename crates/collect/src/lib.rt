@@ -10,8 +10,9 @@ ghost use Rattle.model_records.specs.Values.{phasesIn};
 ghost use Rattle.pull_laws.specs.Put.{puts, putPorts};
 ghost use lib.ListN.{getD};
 ghost use Rattle.route_laws.specs.Nodes.{inputNode, outputNode};
-ghost use Rattle.pull_laws.specs.Tables.{firstAt, nextAt, sourceAt, nodePort};
+ghost use Rattle.pull_laws.specs.Tables.{firstAt, nextAt, sourceAt, nodeComponent, nodePort, atomicNode};
 ghost use Rattle.pull_laws.specs.TableStep.{mayCome, isOpen, pulledBelow, pulledInto};
+ghost use Rattle.bag_keys.specs.Sent.{sentOn};
 ghost use Rattle.collect.specs.Turns.{pulledChild, pulledFrom};
 use bag_keys::key_at;
 use bag_keys::put_given;
@@ -86,6 +87,21 @@ fn is_open(tables: &[u16], marks: &[u32], reached: &[u32], x: u32) -> bool
     (word_at(tables, LIVE_AT + size(x)) != 0) & may_come(marks, reached, x)
 }
 
+// The component of node y is an atomic.
+fn is_atomic(tables: &[u16], y: u32) -> bool
+    ensures { λ r. ⌜ r ≡ atomicNode (now (tables .entry)) y ⌝ }
+{
+    word_at(tables, KINDS_AT + size(y / PORT_NODES)) == 1
+}
+
+// What the atomic of output node y puts out there.
+fn put_output(phases: &[u8], marks: &[u32], own: u8, y: u32, buf: &mut [u32], at: usize) -> usize
+    ensures { λ r. ⌜ (now (buf .exit), r) ≡ puts own (sentOn (phasesIn (now (phases .entry))) (getD (now (marks .entry)) (nodeComponent y) 0) (nodePort y)) (now (buf .entry), at) ⌝ }
+{
+    let mark = key_at(marks, size(y / PORT_NODES));
+    put_sent(phases, mark, port_of(y), own, buf, at)
+}
+
 // What the coupled component of output node x puts out there, at most `depth` levels down.
 fn collect_coupled(
     phases: &[u8],
@@ -132,9 +148,8 @@ fn collect_child(
 ) -> usize
     ensures { λ r. ⌜ (now (buf .exit), r) ≡ puts own (pulledChild (phasesIn (now (phases .entry))) (now (tables .entry)) (now (marks .entry)) (now (reached .entry)) depth y) (now (buf .entry), at) ⌝ }
 {
-    let c = size(y / PORT_NODES);
-    if word_at(tables, KINDS_AT + c) == 1 {
-        return put_sent(phases, key_at(marks, c), port_of(y), own, buf, at);
+    if is_atomic(tables, y) {
+        return put_output(phases, marks, own, y, buf, at);
     }
     collect_coupled(phases, tables, marks, reached, depth, own, y, buf, at)
 }
@@ -186,7 +201,8 @@ fn collect_input(
     next
 }
 
-// What comes from node y, which leads to an input node: a sibling's output, or the parent's input.
+// What comes from node y, which leads to an input node: a sibling's output, or the parent's input. A slice is passed through memory, so
+// that a call costs more than the test for an atomic: it stands here too, and only a coupled sibling is a call.
 fn collect_source(
     phases: &[u8],
     tables: &[u16],
@@ -215,7 +231,10 @@ fn collect_source(
             at,
         );
     }
-    collect_child(
+    if is_atomic(tables, y) {
+        return put_output(phases, marks, own, y, buf, at);
+    }
+    collect_coupled(
         phases,
         tables,
         marks,
@@ -240,7 +259,66 @@ fn root_output(q: u8) -> u32
     PORTS + q as u32
 }
 
-// The bag of component c, port by port.
+// What arrives at input node x, and what leaves at output node x. Most ports are closed in most steps, which is seen here without a call.
+fn collect_arriving(
+    phases: &[u8],
+    tables: &[u16],
+    marks: &[u32],
+    reached: &[u32],
+    given: &[u8],
+    own: u8,
+    x: u32,
+    buf: &mut [u32],
+    at: usize,
+) -> usize
+    ensures { λ r. ⌜ (now (buf .exit), r) ≡ puts own (pulledInto (phasesIn (now (phases .entry))) (now (tables .entry)) (now (marks .entry)) (now (reached .entry)) (toBag (now (given .entry))) maxAncestors x) (now (buf .entry), at) ⌝ }
+{
+    if (PORT_NODES <= x) & !is_open(tables, marks, reached, x) {
+        return at;
+    }
+    collect_input(
+        phases,
+        tables,
+        marks,
+        reached,
+        given,
+        MAX_ANCESTORS,
+        own,
+        x,
+        buf,
+        at,
+    )
+}
+
+fn collect_leaving(
+    phases: &[u8],
+    tables: &[u16],
+    marks: &[u32],
+    reached: &[u32],
+    own: u8,
+    x: u32,
+    buf: &mut [u32],
+    at: usize,
+) -> usize
+    ensures { λ r. ⌜ (now (buf .exit), r) ≡ puts own (pulledBelow (phasesIn (now (phases .entry))) (now (tables .entry)) (now (marks .entry)) (now (reached .entry)) maxAncestors x) (now (buf .entry), at) ⌝ }
+{
+    if !is_open(tables, marks, reached, x) {
+        return at;
+    }
+    collect_coupled(
+        phases,
+        tables,
+        marks,
+        reached,
+        MAX_ANCESTORS,
+        own,
+        x,
+        buf,
+        at,
+    )
+}
+
+// The bag of component c, port by port; empty at once where nothing may reach c. What is given reaches the root whatever its flag.
 pub fn collect_bag(
     phases: &[u8],
     tables: &[u16],
@@ -252,22 +330,14 @@ pub fn collect_bag(
 ) -> usize
     ensures { λ r. ⌜ (now (buf .exit), r) ≡ putPorts (λ q. pulledInto (phasesIn (now (phases .entry))) (now (tables .entry)) (now (marks .entry)) (now (reached .entry)) (toBag (now (given .entry))) maxAncestors (inputNode c q)) portCount 0 (now (buf .entry), 0) ⌝ }
 {
+    if (c != 0) & (key_at(reached, size16(c)) == 0) {
+        return 0;
+    }
     let mut next: usize = 0;
     let mut q: u8 = 0;
     while q < PORT_COUNT {
         let x = input_node(c, q);
-        next = collect_input(
-            phases,
-            tables,
-            marks,
-            reached,
-            given,
-            MAX_ANCESTORS,
-            q,
-            x,
-            buf,
-            next,
-        );
+        next = collect_arriving(phases, tables, marks, reached, given, q, x, buf, next);
         q = q + 1;
     }
     next
@@ -287,17 +357,7 @@ pub fn collect_root(
     let mut q: u8 = 0;
     while q < PORT_COUNT {
         let x = root_output(q);
-        next = collect_coupled(
-            phases,
-            tables,
-            marks,
-            reached,
-            MAX_ANCESTORS,
-            q,
-            x,
-            buf,
-            next,
-        );
+        next = collect_leaving(phases, tables, marks, reached, q, x, buf, next);
         q = q + 1;
     }
     next

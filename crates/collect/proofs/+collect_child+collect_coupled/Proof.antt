@@ -2,15 +2,14 @@
 -- child, one level further down. The measures are twice the depth, and one more for the child.
 use borrow.Author.Needs.{needs}
 use native.Mathlib.Omega.{arith}
-use Prim.Native.Nat.{_≤_, _+_, _-_, _*_, _/_, ℕ, _<_}
+use Prim.Native.Nat.{_≤_, _+_, _-_, _*_, ℕ, _<_}
 use mathlib.Core.Path.{_≡_, _∙_, refl, sym, ap}
 use mathlib.Core.List.{[]}
 use mathlib.Core.Bool.{true, false}
-use lib.ListN.{getD, length}
+use lib.ListN.{length}
 use denote.Ref.{now}
-use borrow.Author.Tests.{eq-eqb, ne-eqb, not-true, not-false}
+use borrow.Author.Tests.{not-true, not-false}
 use Rattle.pull_laws.specs.TableStep.{isOpen, pulledBelow}
-use Rattle.pull_laws.specs.Tables.{kindsAt, nodeComponent, atomicAt, atomicNode}
 use Rattle.pull_laws.specs.Put.{puts}
 use Rattle.pull_laws.specs.Pull.{joined, childOut, coupledOut}
 use Rattle.model_records.specs.Values.{phasesIn}
@@ -24,15 +23,12 @@ use Rattle.collect.proofs.+collect_child+collect_coupled.Lts-collect_ch
 use Rattle.collect.proofs.collect_coupled.Reads as collect-coupled
 use Rattle.collect.proofs.collect_coupled.Kinds as collect-coupled-kinds
 use Rattle.collect.proofs.+collect_child+collect_coupled.Lts-collect_coupled as collect-coupled-lts
-use Rattle.bag_keys.proofs.key_at.Reads as key-at-reads
-use Rattle.bag_keys.proofs.put_sent.Reads as put-sent-reads
 use Rattle.collect.proofs.first_link.Reads as first-link-reads
+use Rattle.collect.proofs.is_atomic.Reads as is-atomic-reads
 use Rattle.collect.proofs.is_open.Reads as is-open-reads
 use Rattle.collect.proofs.next_link.Reads as next-link-reads
-use Rattle.collect.proofs.port_of.Reads as port-of-reads
-use Rattle.collect.proofs.size.Reads as size-reads
+use Rattle.collect.proofs.put_output.Reads as put-output-reads
 use Rattle.collect.proofs.source_of.Reads as source-of-reads
-use Rattle.table_words.proofs.word_at.Reads as word-at-reads
 use Rattle.collect.proofs.+collect_child+collect_coupled.{statement}
 use Rattle.collect.proofs.+collect_child+collect_coupled.Tie.{close}
 
@@ -71,39 +67,26 @@ collect-coupled-below t =
     collect-coupled.Pre
 
 abbrev collect-child-calls : ℕ → collect-child-lts.Claims
-collect-child-calls t = (size-reads.Asked, size-reads.Learnt, word-at-reads.Asked, word-at-reads.Learnt, key-at-reads.Asked, key-at-reads.Learnt, port-of-reads.Asked, port-of-reads.Learnt, put-sent-reads.Asked, put-sent-reads.Learnt, collect-coupled-below t, collect-coupled.Post)
+collect-child-calls t = (is-atomic-reads.Asked, is-atomic-reads.Learnt, put-output-reads.Asked, put-output-reads.Learnt, collect-coupled-below t, collect-coupled.Post)
 
 abbrev collect-coupled-calls : ℕ → collect-coupled-lts.Claims
 collect-coupled-calls t = (is-open-reads.Asked, is-open-reads.Learnt, first-link-reads.Asked, first-link-reads.Learnt, source-of-reads.Asked, source-of-reads.Learnt, collect-child-below t, collect-child.Post, next-link-reads.Asked, next-link-reads.Learnt)
 
-collect-child-size-requires : (t : ℕ) → collect-child-lts.Need-size-requires (collect-child-calls t) (collect-child-at t) collect-child.Post
-collect-child-size-requires t c κs = search needs
+collect-child-is-atomic-requires : (t : ℕ) → collect-child-lts.Need-is-atomic-requires (collect-child-calls t) (collect-child-at t) collect-child.Post
+collect-child-is-atomic-requires t c κs = search needs
 
-collect-child-add-word-at : (t : ℕ) → collect-child-lts.Need-add-word-at (collect-child-calls t) (collect-child-at t) collect-child.Post
-collect-child-add-word-at t c = search needs
-
-collect-child-word-at-requires : (t : ℕ) → collect-child-lts.Need-word-at-requires (collect-child-calls t) (collect-child-at t) collect-child.Post
-collect-child-word-at-requires t c κs = search needs
-
-collect-child-key-at-requires : (t : ℕ) → collect-child-lts.Need-key-at-requires (collect-child-calls t) (collect-child-at t) collect-child.Post
-collect-child-key-at-requires t c κs = search needs
-
-collect-child-port-of-requires : (t : ℕ) → collect-child-lts.Need-port-of-requires (collect-child-calls t) (collect-child-at t) collect-child.Post
-collect-child-port-of-requires t c κs = search needs
-
-collect-child-put-sent-requires : (t : ℕ) → collect-child-lts.Need-put-sent-requires (collect-child-calls t) (collect-child-at t) collect-child.Post
-collect-child-put-sent-requires t c κs = search needs
+collect-child-put-output-requires : (t : ℕ) → collect-child-lts.Need-put-output-requires (collect-child-calls t) (collect-child-at t) collect-child.Post
+collect-child-put-output-requires t c κs = search needs
 
 collect-child-same-length : (t : ℕ) → collect-child-lts.Need-same-length (collect-child-calls t) (collect-child-at t) collect-child.Post
 collect-child-same-length t c =
-    c .before .before .put-sent .kept .1 .1 .1 .1 .0
+    c .before .before .put-output .kept .1 .1 .1 .1 .0
 
 collect-child-returns : (t : ℕ) → collect-child-lts.Need-returns (collect-child-calls t) (collect-child-at t) collect-child.Post
-unfolding childOut atomicNode atomicAt nodeComponent
+unfolding childOut
 collect-child-returns t c =
-    let a = c .before .before .before .before .before .before .before .before .before .before .before .before .before .before .args in
-    let f : getD (now (a .tables)) (kindsAt + a .y / 8) 0 ≡ c .before .before .before .before .before .before .before .word-at .result = sym (rw (c .before .before .before .before .before .before .before .before .size .ensures) at (c .before .before .before .before .before .before .before .word-at .ensures)) in
-    rw (eq-eqb _ _ (f ∙ c .before .before .before .before .before .before .if1 .taken), ← sent-by (phasesIn (now (a .phases))) (now (a .tables)) (now (a .marks)) (a .y)) (rw (c .before .before .before .before .before .key-at .ensures, c .before .before .before .before .before .before .before .before .size .ensures, c .before .before .before .before .port-of .ensures) at (c .before .before .put-sent .ensures))
+    let a = c .before .before .before .before .before .before .before .before .before .before .before .args in
+    rw (sym (c .before .before .before .before .before .is-atomic .ensures) ∙ c .before .before .before .before .if1 .taken, ← sent-by (phasesIn (now (a .phases))) (now (a .tables)) (now (a .marks)) (a .y)) (c .before .before .put-output .ensures)
 
 collect-child-collect-coupled-requires : (t : ℕ) → collect-child-lts.Need-collect-coupled-requires (collect-child-calls t) (collect-child-at t) collect-child.Post
 collect-child-collect-coupled-requires t c κs = search needs
@@ -113,11 +96,9 @@ collect-child-same-length-2 t c =
     c .before .before .collect-coupled .kept .1 .1 .1 .1 .1 .1 .1 .0
 
 collect-child-returns-2 : (t : ℕ) → collect-child-lts.Need-returns-2 (collect-child-calls t) (collect-child-at t) collect-child.Post
-unfolding childOut atomicNode atomicAt nodeComponent
+unfolding childOut
 collect-child-returns-2 t c =
-    let a = c .before .before .before .before .before .before .before .before .before .before .before .before .args in
-    let f : getD (now (a .tables)) (kindsAt + a .y / 8) 0 ≡ c .before .before .before .before .before .word-at .result = sym (rw (c .before .before .before .before .before .before .size .ensures) at (c .before .before .before .before .before .word-at .ensures)) in
-    rw (ne-eqb _ _ (λ q. c .before .before .before .before .if1 .left (sym f ∙ q))) (c .before .before .collect-coupled .ensures)
+    rw (sym (c .before .before .before .before .before .is-atomic .ensures) ∙ c .before .before .before .before .if1 .left) (c .before .before .collect-coupled .ensures)
 
 abbrev collect-coupled-Inv-loop : collect-coupled-lts.InvT-loop
 collect-coupled-Inv-loop phases tables marks reached depth own x buf₀ at next₀ left₀ link₀ buf next left link =
@@ -194,27 +175,17 @@ collect-coupled-returns-3 t c =
 pub +collect-child+collect-coupled-spec : {M : Type 1} → statement M
 +collect-child+collect-coupled-spec =
     close μ-collect-child μ-collect-coupled (λ t. collect-child-lts.spec (
-      size-reads.Asked,
-      size-reads.Learnt,
-      word-at-reads.Asked,
-      word-at-reads.Learnt,
-      key-at-reads.Asked,
-      key-at-reads.Learnt,
-      port-of-reads.Asked,
-      port-of-reads.Learnt,
-      put-sent-reads.Asked,
-      put-sent-reads.Learnt,
+      is-atomic-reads.Asked,
+      is-atomic-reads.Learnt,
+      put-output-reads.Asked,
+      put-output-reads.Learnt,
       collect-coupled-below t,
       collect-coupled.Post,
     )
     (collect-child-at t)
     collect-child.Post
-    (collect-child-size-requires t)
-    (collect-child-add-word-at t)
-    (collect-child-word-at-requires t)
-    (collect-child-key-at-requires t)
-    (collect-child-port-of-requires t)
-    (collect-child-put-sent-requires t)
+    (collect-child-is-atomic-requires t)
+    (collect-child-put-output-requires t)
     (collect-child-same-length t)
     (collect-child-returns t)
     (collect-child-collect-coupled-requires t)

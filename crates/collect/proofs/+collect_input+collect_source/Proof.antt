@@ -12,11 +12,11 @@ use borrow.Author.Tests.{lt-ltb, le-ltb, not-true, not-false}
 use Rattle.pull_laws.specs.TableStep.{isOpen, pulledInto}
 use Rattle.pull_laws.specs.Tables.{isRootNode, isOutput}
 use Rattle.pull_laws.specs.Put.{puts}
-use Rattle.pull_laws.specs.Pull.{joined, sourceIn}
+use Rattle.pull_laws.specs.Pull.{joined, childOut, sourceIn}
 use Rattle.model_records.specs.Values.{phasesIn}
 use Rattle.definition.specs.Engine.{toBag}
 use Rattle.collect.specs.Turns.{pulledFrom}
-use Rattle.collect.proofs.Laws.{rowsFrom, both-left, chain-more, chain-end, input-root, input-none, input-open, input-shut}
+use Rattle.collect.proofs.Laws.{rowsFrom, both-left, chain-more, chain-end, input-root, input-none, input-open, input-shut, sent-by}
 use borrow.Fn.Kinds.{In}
 use borrow.Fn.PlainCycle.{Measures, is, falls, and}
 use Rattle.collect.proofs.collect_input.Reads as collect-input
@@ -26,11 +26,13 @@ use Rattle.collect.proofs.collect_source.Reads as collect-source
 use Rattle.collect.proofs.collect_source.Kinds as collect-source-kinds
 use Rattle.collect.proofs.+collect_input+collect_source.Lts-collect_source as collect-source-lts
 use Rattle.bag_keys.proofs.put_given.Reads as put-given-reads
-use Rattle.collect.proofs.collect_child.Reads as collect-child-reads
+use Rattle.collect.proofs.collect_coupled.Reads as collect-coupled-reads
 use Rattle.collect.proofs.first_link.Reads as first-link-reads
+use Rattle.collect.proofs.is_atomic.Reads as is-atomic-reads
 use Rattle.collect.proofs.is_open.Reads as is-open-reads
 use Rattle.collect.proofs.next_link.Reads as next-link-reads
 use Rattle.collect.proofs.port_of.Reads as port-of-reads
+use Rattle.collect.proofs.put_output.Reads as put-output-reads
 use Rattle.collect.proofs.source_of.Reads as source-of-reads
 use Rattle.collect.proofs.+collect_input+collect_source.{statement}
 use Rattle.collect.proofs.+collect_input+collect_source.Tie.{close}
@@ -82,7 +84,7 @@ abbrev collect-input-calls : ℕ → collect-input-lts.Claims
 collect-input-calls t = (port-of-reads.Asked, port-of-reads.Learnt, put-given-reads.Asked, put-given-reads.Learnt, is-open-reads.Asked, is-open-reads.Learnt, first-link-reads.Asked, first-link-reads.Learnt, source-of-reads.Asked, source-of-reads.Learnt, collect-source-below t, collect-source.Post, next-link-reads.Asked, next-link-reads.Learnt)
 
 abbrev collect-source-calls : ℕ → collect-source-lts.Claims
-collect-source-calls t = (collect-input-below t, collect-input.Post, collect-child-reads.Asked, collect-child-reads.Learnt)
+collect-source-calls t = (collect-input-below t, collect-input.Post, is-atomic-reads.Asked, is-atomic-reads.Learnt, put-output-reads.Asked, put-output-reads.Learnt, collect-coupled-reads.Asked, collect-coupled-reads.Learnt)
 
 collect-input-port-of-requires : (t : ℕ) → collect-input-lts.Need-port-of-requires (collect-input-calls t) (collect-input-at t) collect-input.Post collect-input-Inv-loop collect-input-μ-loop
 collect-input-port-of-requires t c κs = search needs
@@ -179,17 +181,33 @@ unfolding sourceIn isOutput
 collect-source-returns t c =
     rw (lt-ltb _ _ (c .before .before .before .before .if1 .taken)) (c .before .before .collect-input .ensures)
 
-collect-source-collect-child-requires : (t : ℕ) → collect-source-lts.Need-collect-child-requires (collect-source-calls t) (collect-source-at t) collect-source.Post
-collect-source-collect-child-requires t c κs = search needs
+collect-source-is-atomic-requires : (t : ℕ) → collect-source-lts.Need-is-atomic-requires (collect-source-calls t) (collect-source-at t) collect-source.Post
+collect-source-is-atomic-requires t c κs = search needs
+
+collect-source-put-output-requires : (t : ℕ) → collect-source-lts.Need-put-output-requires (collect-source-calls t) (collect-source-at t) collect-source.Post
+collect-source-put-output-requires t c κs = search needs
 
 collect-source-same-length-2 : (t : ℕ) → collect-source-lts.Need-same-length-2 (collect-source-calls t) (collect-source-at t) collect-source.Post
 collect-source-same-length-2 t c =
-    c .before .before .collect-child .kept .1 .1 .1 .1 .1 .1 .1 .0
+    c .before .before .put-output .kept .1 .1 .1 .1 .0
 
 collect-source-returns-2 : (t : ℕ) → collect-source-lts.Need-returns-2 (collect-source-calls t) (collect-source-at t) collect-source.Post
-unfolding sourceIn isOutput
+unfolding sourceIn isOutput childOut
 collect-source-returns-2 t c =
-    rw (le-ltb _ _ (c .before .before .before .before .if1 .left)) (c .before .before .collect-child .ensures)
+    let a = c .before .before .before .before .before .before .before .before .before .before .before .before .before .args in
+    rw (le-ltb _ _ (c .before .before .before .before .before .before .if1 .left), sym (c .before .before .before .before .before .is-atomic .ensures) ∙ c .before .before .before .before .if2 .taken, ← sent-by (phasesIn (now (a .phases))) (now (a .tables)) (now (a .marks)) (a .y)) (c .before .before .put-output .ensures)
+
+collect-source-collect-coupled-requires : (t : ℕ) → collect-source-lts.Need-collect-coupled-requires (collect-source-calls t) (collect-source-at t) collect-source.Post
+collect-source-collect-coupled-requires t c κs = search needs
+
+collect-source-same-length-3 : (t : ℕ) → collect-source-lts.Need-same-length-3 (collect-source-calls t) (collect-source-at t) collect-source.Post
+collect-source-same-length-3 t c =
+    c .before .before .collect-coupled .kept .1 .1 .1 .1 .1 .1 .1 .0
+
+collect-source-returns-3 : (t : ℕ) → collect-source-lts.Need-returns-3 (collect-source-calls t) (collect-source-at t) collect-source.Post
+unfolding sourceIn isOutput childOut
+collect-source-returns-3 t c =
+    rw (le-ltb _ _ (c .before .before .before .before .before .before .if1 .left), sym (c .before .before .before .before .before .is-atomic .ensures) ∙ c .before .before .before .before .if2 .left) (c .before .before .collect-coupled .ensures)
 
 pub +collect-input+collect-source-spec : {M : Type 1} → statement M
 +collect-input+collect-source-spec =
@@ -234,14 +252,22 @@ pub +collect-input+collect-source-spec : {M : Type 1} → statement M
     λ t. collect-source-lts.spec (
       collect-input-below t,
       collect-input.Post,
-      collect-child-reads.Asked,
-      collect-child-reads.Learnt,
+      is-atomic-reads.Asked,
+      is-atomic-reads.Learnt,
+      put-output-reads.Asked,
+      put-output-reads.Learnt,
+      collect-coupled-reads.Asked,
+      collect-coupled-reads.Learnt,
     )
     (collect-source-at t)
     collect-source.Post
     (collect-source-collect-input-requires t)
     (collect-source-same-length t)
     (collect-source-returns t)
-    (collect-source-collect-child-requires t)
+    (collect-source-is-atomic-requires t)
+    (collect-source-put-output-requires t)
     (collect-source-same-length-2 t)
     (collect-source-returns-2 t)
+    (collect-source-collect-coupled-requires t)
+    (collect-source-same-length-3 t)
+    (collect-source-returns-3 t)

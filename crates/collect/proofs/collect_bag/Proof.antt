@@ -1,17 +1,17 @@
--- The ports so far and those that are left are all four; one port more is one call more.
+-- A component that nothing may reach has an empty bag. Else the ports so far and those that are left are all four; one port more is one call more.
 use borrow.Author.Needs.{needs}
 use native.Mathlib.Omega.{arith}
-use Prim.Native.Nat.{ℕ, _≤_, _-_}
-use mathlib.Core.Path.{_≡_, _∙_, refl, sym}
-use mathlib.Core.List.{List}
-use lib.ListN.{length}
-use denote.Ref.{now}
-use Rattle.pull_laws.specs.TableStep.{pulledInto}
-use Rattle.route_laws.specs.Nodes.{inputNode}
-use Rattle.pull_laws.specs.Put.{putPorts}
-use Rattle.model_records.specs.Values.{phasesIn}
+use Rattle.collect.proofs.Laws.{ports-more, ports-none, unreached}
 use Rattle.definition.specs.Engine.{toBag}
-use Rattle.collect.proofs.Laws.{ports-more, ports-none}
+use Rattle.model_records.specs.Values.{phasesIn}
+use Rattle.pull_laws.specs.Put.{putPorts}
+use Rattle.route_laws.specs.Nodes.{inputNode}
+use Rattle.pull_laws.specs.TableStep.{pulledInto}
+use denote.Ref.{now}
+use lib.ListN.{length}
+use mathlib.Core.List.{List}
+use mathlib.Core.Path.{_≡_, _∙_, refl, sym}
+use Prim.Native.Nat.{ℕ, _≤_, _-_}
 use Rattle.collect.proofs.collect_bag.Statement.{statement}
 use Rattle.collect.proofs.collect_bag.Tie as tie
 
@@ -21,6 +21,17 @@ Inv-loop phases tables marks reached given c buf₀ next₀ q₀ buf next q = (q
 abbrev μ-loop : tie.MeasureT-loop
 μ-loop phases tables marks reached given c buf₀ next₀ q₀ buf next q = 4 - q
 
+size16-requires : tie.Need-size16-requires Inv-loop μ-loop
+size16-requires c κs = search needs
+
+key-at-requires : tie.Need-key-at-requires Inv-loop μ-loop
+key-at-requires c κs = search needs
+
+returns : tie.Need-returns Inv-loop μ-loop
+returns c =
+    let a = c .before .before .before .before .before .before .before .before .before .args in
+    sym (unreached (phasesIn (now (a .phases))) (now (a .tables)) (now (a .marks)) (now (a .reached)) (toBag (now (a .given))) 8 (a .c) 4 0 (now (a .buf), 0) (rw (c .before .key-at .ensures, c .before .before .size16 .ensures) at (c .if1 .taken)) (omega arith))
+
 loop-holds : tie.Need-loop-holds Inv-loop μ-loop
 loop-holds c =
     (omega arith, refl, refl)
@@ -28,8 +39,8 @@ loop-holds c =
 input-node-requires : tie.Need-input-node-requires Inv-loop μ-loop
 input-node-requires c κs = search needs
 
-collect-input-requires : tie.Need-collect-input-requires Inv-loop μ-loop
-collect-input-requires c κs = search needs
+collect-arriving-requires : tie.Need-collect-arriving-requires Inv-loop μ-loop
+collect-arriving-requires c κs = search needs
 
 add-q : tie.Need-add-q Inv-loop μ-loop
 add-q c = search needs
@@ -39,18 +50,18 @@ loop-less c = search needs
 
 loop-again : tie.Need-loop-again Inv-loop μ-loop
 loop-again c =
-    let a = c .before .before .before .before .before .before .before .before .before .before .before .before .before .args in
+    let a = c .before .before .before .before .before .before .before .before .before .before .before .before .before .before .before .before .args in
     let l = c .before .before .before .before .before .before .loop in
-    let m = c .before .before .collect-input in
+    let m = c .before .before .collect-arriving in
     let f : ℕ → List ℕ = λ p. pulledInto (phasesIn (now (a .phases))) (now (a .tables)) (now (a .marks)) (now (a .reached)) (toBag (now (a .given))) 8 (inputNode (a .c) p) in
-    (omega arith, m .kept .1 .1 .1 .1 .1 .1 .1 .1 .0 ∙ l .inv .1, rw (m .ensures, c .before .before .before .before .input-node .ensures) (ports-more f 4 (l .q) (l .buf, l .next) (omega arith) ∙ l .inv .2))
+    (omega arith, m .kept .1 .1 .1 .1 .1 .1 .1 .0 ∙ l .inv .1, rw (m .ensures, c .before .before .before .before .input-node .ensures) (ports-more f 4 (l .q) (l .buf, l .next) (omega arith) ∙ l .inv .2))
 
 same-length : tie.Need-same-length Inv-loop μ-loop
 same-length c =
     c .before .loop .inv .1
 
-returns : tie.Need-returns Inv-loop μ-loop
-returns c =
+returns-2 : tie.Need-returns-2 Inv-loop μ-loop
+returns-2 c =
     sym (ports-none _ 4 (c .before .loop .q) _ (omega arith)) ∙ c .before .loop .inv .2
 
 pub collect-bag-spec : {M : Type 1} → statement M
@@ -59,11 +70,14 @@ collect-bag-spec =
     (tie.spec
     Inv-loop
     μ-loop
+    size16-requires
+    key-at-requires
+    returns
     loop-holds
     input-node-requires
-    collect-input-requires
+    collect-arriving-requires
     add-q
     loop-less
     loop-again
     same-length
-    returns)
+    returns-2)

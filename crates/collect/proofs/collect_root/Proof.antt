@@ -1,16 +1,16 @@
 -- The ports so far and those that are left are all four; one port more is one call more.
 use borrow.Author.Needs.{needs}
 use native.Mathlib.Omega.{arith}
-use Prim.Native.Nat.{ℕ, _≤_, _-_}
-use mathlib.Core.Path.{_≡_, _∙_, refl, sym}
-use mathlib.Core.List.{List}
-use lib.ListN.{length}
-use denote.Ref.{now}
-use Rattle.pull_laws.specs.TableStep.{pulledBelow}
-use Rattle.route_laws.specs.Nodes.{outputNode}
-use Rattle.pull_laws.specs.Put.{putPorts}
-use Rattle.model_records.specs.Values.{phasesIn}
 use Rattle.collect.proofs.Laws.{ports-more, ports-none}
+use Rattle.model_records.specs.Values.{phasesIn}
+use Rattle.pull_laws.specs.Put.{putPorts}
+use Rattle.route_laws.specs.Nodes.{outputNode}
+use Rattle.pull_laws.specs.TableStep.{pulledBelow}
+use denote.Ref.{now}
+use lib.ListN.{length}
+use mathlib.Core.List.{List}
+use mathlib.Core.Path.{_≡_, _∙_, refl, sym}
+use Prim.Native.Nat.{ℕ, _≤_, _-_}
 use Rattle.collect.proofs.collect_root.Statement.{statement}
 use Rattle.collect.proofs.collect_root.Tie as tie
 
@@ -27,8 +27,8 @@ loop-holds c =
 root-output-requires : tie.Need-root-output-requires Inv-loop μ-loop
 root-output-requires c κs = search needs
 
-collect-coupled-requires : tie.Need-collect-coupled-requires Inv-loop μ-loop
-collect-coupled-requires c κs = search needs
+collect-leaving-requires : tie.Need-collect-leaving-requires Inv-loop μ-loop
+collect-leaving-requires c κs = search needs
 
 add-q : tie.Need-add-q Inv-loop μ-loop
 add-q c = search needs
@@ -40,9 +40,9 @@ loop-again : tie.Need-loop-again Inv-loop μ-loop
 loop-again c =
     let a = c .before .before .before .before .before .before .before .before .before .before .before .before .args in
     let l = c .before .before .before .before .before .before .loop in
-    let m = c .before .before .collect-coupled in
+    let m = c .before .before .collect-leaving in
     let f : ℕ → List ℕ = λ p. pulledBelow (phasesIn (now (a .phases))) (now (a .tables)) (now (a .marks)) (now (a .reached)) 8 (outputNode 0 p) in
-    (omega arith, m .kept .1 .1 .1 .1 .1 .1 .1 .0 ∙ l .inv .1, rw (m .ensures, c .before .before .before .before .root-output .ensures) (ports-more f 4 (l .q) (l .buf, l .next) (omega arith) ∙ l .inv .2))
+    (omega arith, m .kept .1 .1 .1 .1 .1 .1 .0 ∙ l .inv .1, rw (m .ensures, c .before .before .before .before .root-output .ensures) (ports-more f 4 (l .q) (l .buf, l .next) (omega arith) ∙ l .inv .2))
 
 same-length : tie.Need-same-length Inv-loop μ-loop
 same-length c =
@@ -60,7 +60,7 @@ collect-root-spec =
     μ-loop
     loop-holds
     root-output-requires
-    collect-coupled-requires
+    collect-leaving-requires
     add-q
     loop-less
     loop-again

@@ -1,0 +1,22 @@
+-- The kind of the node's component, as the definition reads it.
+use borrow.Author.Needs.{needs}
+use Rattle.pull_laws.specs.Tables.{nodeComponent, atomicAt, atomicNode}
+use Rattle.collect.proofs.is_atomic.Statement.{statement}
+use Rattle.collect.proofs.is_atomic.Tie as tie
+
+size-requires : tie.Need-size-requires
+size-requires c κs = search needs
+
+add-word-at : tie.Need-add-word-at
+add-word-at c = search needs
+
+word-at-requires : tie.Need-word-at-requires
+word-at-requires c κs = search needs
+
+returns : tie.Need-returns
+unfolding atomicNode atomicAt nodeComponent
+returns c =
+    rw (c .word-at .ensures, c .before .size .ensures)
+
+pub is-atomic-spec : {M : Type 1} → statement M
+is-atomic-spec = tie.close (tie.spec size-requires add-word-at word-at-requires returns)
