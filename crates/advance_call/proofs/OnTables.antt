@@ -5,7 +5,7 @@ use mathlib.Core.List.{List}
 use native.Mathlib.Omega.{arith}
 use lib.ListN.{length}
 use Rattle.definition.specs.Bytes.{Bytes, AllBytes, ok}
-use Rattle.definition.specs.Limits.{maxGiven, maxRoutes}
+use Rattle.definition.specs.Limits.{maxGiven}
 use Rattle.definition.specs.Model.{Model, atomics}
 use Rattle.definition.specs.Routes.{routes, accepted}
 use Rattle.definition.specs.SavedRun.{runOf}
@@ -23,12 +23,12 @@ use Rattle.advance_call.proofs.Checks.{advance-is}
 pub call-on-tables : (file run : Bytes) (t : ℕ) (bag trace : Bytes) (m : Model) → AllBytes file → AllBytes bag → ok m ≡ accepted file → advanceChecks m run t bag ≡ ok tt
     → (st : State) → entriesOf (length (atomics (m .components))) st ≡ runOf m run .entries
     → length (atomics (m .components)) ≤ length (st .phase) → length (atomics (m .components)) ≤ length (st .last)
-    → (tables : List ℕ) → Tabled m tables → (room : ℕ) → maxGiven * maxRoutes ≤ room
+    → (tables : List ℕ) → Tabled m tables → (room : ℕ) → maxGiven * length (routes m) ≤ room
     → advanced run trace (ok (heldEnd (length (atomics (m .components)))
     (advanceFrom (tableSim (m .phases) tables (m .rules) (length (atomics (m .components))) room) (runOf m run .opening) st (length trace) t (toBag bag))))
     ≡ advance file run t bag trace
 call-on-tables file run t bag trace m b c e ok-call st same phases lasts tables h room enough =
     let a = accepted-sound file m b (sym e) in
     ap (λ x. advanced run trace (ok x))
-    (sym (advance-on-tables m (a .sound) tables h run st same phases lasts room (omega (arith, a .few-routes)) t bag (length trace) c ok-call))
+    (sym (advance-on-tables m (a .sound) tables h run st same phases lasts room enough t bag (length trace) c ok-call))
     ∙ advance-is file run t bag trace m e ok-call

@@ -8,9 +8,9 @@ use lib.Dec.{leb, eqb}
 use lib.ListN.{length, getD, replicate, length-replicate}
 use borrow.Author.Tests.{leb-true}
 use Rattle.definition.specs.Bytes.{Bytes, ok, number}
-use Rattle.definition.specs.Limits.{maxComponents, maxGiven, maxRoutes, maxRootBag, maxMoment}
+use Rattle.definition.specs.Limits.{maxComponents, maxGiven, maxRoutes, maxMoment}
 use Rattle.definition.specs.Model.{Model, atomics}
-use Rattle.definition.specs.Routes.{accepted}
+use Rattle.definition.specs.Routes.{routes, accepted}
 use Rattle.definition.specs.SavedRun.{runLength, atomicCount, runOf, toRun, entriesFit, fits}
 use Rattle.definition.specs.Advance.{ended, advanceFrom}
 use Rattle.definition.specs.Engine.{advanceChecks, advanced, advance, toBag}
@@ -26,17 +26,10 @@ use Rattle.pull_laws.specs.Tables.{tableSize}
 use Rattle.tables.specs.Filled.{filled}
 use Rattle.tables.proofs.Tables.{tables-hold}
 use Rattle.table_laws.proofs.Calls.{heldEnd, atomics-few}
-use Rattle.instant.specs.Sim.{simOf, Lent}
+use Rattle.instant.specs.Sim.{simOf}
 use Rattle.advance.specs.Ends.{savedEnd}
 use Rattle.run_calls.proofs.Starts.{all-bytes}
 use Rattle.advance_call.proofs.OnTables.{call-on-tables}
-
--- The words lent for a bag and for the root's output bag.
-abbrev pub bagRoom : ℕ
-bagRoom = maxGiven * maxRoutes
-
-pub lent-words : (n : ℕ) → n ≤ maxComponents → Lent n (length (replicate {A = ℕ} bagRoom 0)) (length (replicate {A = ℕ} (suc maxRootBag) 0))
-lent-words n h = rw (length-replicate {A = ℕ} bagRoom 0, length-replicate {A = ℕ} (suc maxRootBag) 0) (h, refl, omega arith)
 
 -- A run that fits is long enough.
 pub fits-long : (m : Model) (run : Bytes) → fits m run ≡ true → runLength (atomicCount m) ≤ length run
@@ -57,6 +50,10 @@ unfolding runOf toRun
 opens-by file n run t opening e h = rw e at h
 
 module _ (file : Bytes) (n : Counts) (bytes : (i : ℕ) → getD file i 0 < 256) (told : ok (modelOf file n) ≡ accepted file) where
+  -- An accepted model has at most 1,024 routes.
+  pub most-routes : length (routes (modelOf file n)) ≤ maxRoutes
+  most-routes = accepted-sound file (modelOf file n) (all-bytes file bytes) (sym told) .few-routes
+
   pub checked-room : (run : Bytes) (t : ℕ) (bag : Bytes) (count : ℕ) → advanceChecks (modelOf file n) run t bag ≡ ok tt → count ≡ length (atomics (modelOf file n .components))
       → (t ≤ maxMoment) × (count ≤ maxComponents) × (runLength count ≤ length run)
   unfolding atomicCount
@@ -68,7 +65,7 @@ module _ (file : Bytes) (n : Counts) (bytes : (i : ℕ) → getD file i 0 < 256)
   pub call-whole : (run : Bytes) (t : ℕ) (bag trace : Bytes) → ((i : ℕ) → getD bag i 0 < 256) → advanceChecks (modelOf file n) run t bag ≡ ok tt
       → (count : ℕ) → count ≡ length (atomics (modelOf file n .components)) → (st : State) → entriesOf count st ≡ toRun count run .entries
       → length (st .phase) ≡ maxComponents → length (st .last) ≡ maxComponents
-      → (blank : List ℕ) → length blank ≡ tableSize → (room : ℕ) → bagRoom ≤ room
+      → (blank : List ℕ) → length blank ≡ tableSize → (room : ℕ) → maxGiven * length (routes (modelOf file n)) ≤ room
       → advanced run trace (ok (savedEnd count (advanceFrom
       (simOf (phasesPart file n) (rulesPart file n) (filled (componentsIn (componentsPart file n)) (rulesIn (rulesPart file n)) (couplingsIn (couplingsPart file n)) blank) count room)
       (number 8 0 run) st (length trace) t (toBag bag))))
@@ -86,7 +83,7 @@ module _ (file : Bytes) (n : Counts) (bytes : (i : ℕ) → getD file i 0 < 256)
   pub call-parts : (run : Bytes) (t : ℕ) (bag trace : Bytes) → ((i : ℕ) → getD bag i 0 < 256) → advanceChecks (modelOf file n) run t bag ≡ ok tt
       → (count : ℕ) → count ≡ length (atomics (modelOf file n .components)) → (st : State) → entriesOf count st ≡ toRun count run .entries
       → length (st .phase) ≡ maxComponents → length (st .last) ≡ maxComponents
-      → (blank : List ℕ) → length blank ≡ tableSize → (room : ℕ) → bagRoom ≤ room
+      → (blank : List ℕ) → length blank ≡ tableSize → (room : ℕ) → maxGiven * length (routes (modelOf file n)) ≤ room
       → (ps rs : Bytes) (tables : List ℕ) (opening : ℕ) → ps ≡ phasesPart file n → rs ≡ rulesPart file n
       → tables ≡ filled (componentsIn (componentsPart file n)) (rulesIn (rulesPart file n)) (couplingsIn (couplingsPart file n)) blank → opening ≡ number 8 0 run
       → advanced run trace (ok (savedEnd count (advanceFrom (simOf ps rs tables count room) opening st (length trace) t (toBag bag)))) ≡ advance file run t bag trace

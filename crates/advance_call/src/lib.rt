@@ -3,7 +3,10 @@ ghost use mathlib.Core.Path.{_≡_};
 ghost use lib.ListN.{length};
 ghost use Rattle.definition.specs.Bytes.{ok};
 ghost use Rattle.definition.specs.Model.{atomics};
-ghost use Rattle.definition.specs.Routes.{accepted};
+ghost use Rattle.definition.specs.Limits.{maxGiven};
+ghost use Rattle.definition.specs.Routes.{routes, accepted};
+ghost use Rattle.instant.specs.Sim.{Lent};
+ghost use Prim.Native.Nat.{_*_, _≤_};
 ghost use Rattle.definition.specs.Engine.{advanceChecks, advance};
 ghost use Rattle.model.specs.Checked.{modelOf};
 ghost use Rattle.advance_call.specs.Answers.{advancedOf};
@@ -21,11 +24,23 @@ pub struct Advanced {
     pub trace_bytes: u64,
 }
 
-// Messages of the largest bag of an atomic; one more than those of the largest bag of the root; bytes set aside for an instant's records.
-const BAG_ROOM: usize = 16384;
+// A route carries at most 16 messages into an atomic and 4 to the root. A model with few routes, as most have, gets small buffers, so that
+// a short call does not pay for filling large ones with zeros.
+const MESSAGES_IN: usize = 16;
 
-const ROOT_ROOM: usize = 4097;
+const MESSAGES_OUT: usize = 4;
 
+const FEW_ROUTES: u16 = 64;
+
+const FEW_IN: usize = MESSAGES_IN * 64;
+
+const FEW_OUT: usize = MESSAGES_OUT * 64;
+
+const MOST_IN: usize = MESSAGES_IN * 1024;
+
+const MOST_OUT: usize = MESSAGES_OUT * 1024;
+
+// Bytes set aside for an instant's records.
 const SCRATCH: usize = 4096;
 
 fn wide16(x: u16) -> u64
@@ -46,8 +61,76 @@ fn refused(number: u64) -> Advanced
     }
 }
 
-// The instants of a call that the checks let through, on the tables of the model.
+// The instants of a call that the checks let through, on the tables of the model, with buffers that have room for its routes.
 fn advance_let_in(
+    file: &[u8],
+    n: Counts,
+    run: &mut [u8],
+    count: usize,
+    t: Moment,
+    bag: &[u8],
+    trace: &mut [u8],
+    work: &mut [u32],
+    keys: &mut [u32],
+) -> Advanced
+    requires { ⌜ (ok (modelOf (now file) n) ≡ accepted (now file)) × (advanceChecks (modelOf (now file) n) (now run) (t .0) (now bag) ≡ ok tt)
+        × (count ≡ length (atomics (modelOf (now file) n .components)))
+        × Lent (length (now work)) (length (now keys)) × (maxGiven * length (routes (modelOf (now file) n)) ≤ length (now work)) ⌝ }
+    ensures { λ r. ⌜ advancedOf r (now (run .exit)) (now (trace .exit)) ≡ advance (now (file .entry)) (now (run .entry)) (t .0) (now (bag .entry)) (now (trace .entry)) ⌝ }
+{
+    let mut tables = [0u16; TABLE_SIZE];
+    tables::fill_tables(
+        model::components_of(file, n),
+        model::rules_of(file, n),
+        model::couplings_of(file, n),
+        &mut tables,
+    );
+    let opening = saved_run::opening_of(run);
+    let st = saved_run::load(run, count);
+    let mut scratch = [0u8; SCRATCH];
+    let r = advance::advance_from(
+        model::phases_of(file, n),
+        model::rules_of(file, n),
+        &tables,
+        count as u8,
+        run,
+        opening,
+        st,
+        t,
+        bag,
+        work,
+        keys,
+        &mut scratch,
+        trace,
+    );
+    Advanced {
+        number: r.number,
+        instants: r.instants,
+        steps: r.steps,
+        trace_bytes: r.used as u64,
+    }
+}
+
+fn advance_few(
+    file: &[u8],
+    n: Counts,
+    run: &mut [u8],
+    count: usize,
+    t: Moment,
+    bag: &[u8],
+    trace: &mut [u8],
+) -> Advanced
+    requires { ⌜ (ok (modelOf (now file) n) ≡ accepted (now file)) × (advanceChecks (modelOf (now file) n) (now run) (t .0) (now bag) ≡ ok tt)
+        × (count ≡ length (atomics (modelOf (now file) n .components)))
+        × (length (routes (modelOf (now file) n)) ≤ 64) ⌝ }
+    ensures { λ r. ⌜ advancedOf r (now (run .exit)) (now (trace .exit)) ≡ advance (now (file .entry)) (now (run .entry)) (t .0) (now (bag .entry)) (now (trace .entry)) ⌝ }
+{
+    let mut work = [0u32; FEW_IN];
+    let mut keys = [0u32; FEW_OUT];
+    advance_let_in(file, n, run, count, t, bag, trace, &mut work, &mut keys)
+}
+
+fn advance_many(
     file: &[u8],
     n: Counts,
     run: &mut [u8],
@@ -60,51 +143,22 @@ fn advance_let_in(
         × (count ≡ length (atomics (modelOf (now file) n .components))) ⌝ }
     ensures { λ r. ⌜ advancedOf r (now (run .exit)) (now (trace .exit)) ≡ advance (now (file .entry)) (now (run .entry)) (t .0) (now (bag .entry)) (now (trace .entry)) ⌝ }
 {
-    let mut tables = [0u16; TABLE_SIZE];
-    tables::fill_tables(
-        model::components_of(file, n),
-        model::rules_of(file, n),
-        model::couplings_of(file, n),
-        &mut tables,
-    );
-    let opening = saved_run::opening_of(run);
-    let st = saved_run::load(run, count);
-    let mut work = [0u32; BAG_ROOM];
-    let mut keys = [0u32; ROOT_ROOM];
-    let mut scratch = [0u8; SCRATCH];
-    let r = advance::advance_from(
-        model::phases_of(file, n),
-        model::rules_of(file, n),
-        &tables,
-        count as u8,
-        run,
-        opening,
-        st,
-        t,
-        bag,
-        &mut work,
-        &mut keys,
-        &mut scratch,
-        trace,
-    );
-    Advanced {
-        number: r.number,
-        instants: r.instants,
-        steps: r.steps,
-        trace_bytes: r.used as u64,
-    }
+    let mut work = [0u32; MOST_IN];
+    let mut keys = [0u32; MOST_OUT];
+    advance_let_in(file, n, run, count, t, bag, trace, &mut work, &mut keys)
 }
 
-// The checks of run, time and bag, for an accepted model.
+// The checks of run, time and bag, for an accepted model with so many routes.
 fn advance_accepted(
     file: &[u8],
     n: Counts,
+    route_count: u16,
     run: &mut [u8],
     t: u64,
     bag: &[u8],
     trace: &mut [u8],
 ) -> Advanced
-    requires { ⌜ ok (modelOf (now file) n) ≡ accepted (now file) ⌝ }
+    requires { ⌜ (ok (modelOf (now file) n) ≡ accepted (now file)) × (length (routes (modelOf (now file) n)) ≡ «route_count») ⌝ }
     ensures { λ r. ⌜ advancedOf r (now (run .exit)) (now (trace .exit)) ≡ advance (now (file .entry)) (now (run .entry)) t (now (bag .entry)) (now (trace .entry)) ⌝ }
 {
     let components = model::components_of(file, n);
@@ -121,23 +175,21 @@ fn advance_accepted(
     if !given_bag::bag_fits(bag) {
         return refused(12);
     }
-    advance_let_in(
-        file,
-        n,
-        run,
-        saved_run::atomic_count(components),
-        Moment(t),
-        bag,
-        trace,
-    )
+    let count = saved_run::atomic_count(components);
+    if route_count <= FEW_ROUTES {
+        advance_few(file, n, run, count, Moment(t), bag, trace)
+    } else {
+        advance_many(file, n, run, count, Moment(t), bag, trace)
+    }
 }
 
 pub fn advance(file: &[u8], run: &mut [u8], t: u64, bag: &[u8], trace: &mut [u8]) -> Advanced
     ensures { λ r. ⌜ advancedOf r (now (run .exit)) (now (trace .exit)) ≡ advance (now (file .entry)) (now (run .entry)) t (now (bag .entry)) (now (trace .entry)) ⌝ }
 {
-    let checked = route_count::check(file);
+    let counted = route_count::check_routes(file);
+    let checked = counted.checked;
     let Checked::Accepted(n) = checked else {
         return refused(wide16(model::checked_number(checked)));
     };
-    advance_accepted(file, n, run, t, bag, trace)
+    advance_accepted(file, n, counted.routes, run, t, bag, trace)
 }

@@ -9,16 +9,16 @@ use native.Mathlib.Numerals.{add-one}
 use lib.Dec.{eqb}
 use lib.ListN.{length, take, drop, getD, length-take}
 use lib.Seq.{drop-cons, drop-length, getD-take}
-use Rattle.definition.specs.Bytes.{Bytes, number, row}
+use Rattle.definition.specs.Bytes.{Bytes, number}
 use Rattle.definition.specs.Limits.{messageSize}
 use Rattle.definition.specs.Model.{Message, Bag, noMessage, noPhase, slots, outputs}
 use Rattle.definition.specs.Records.{messageAt, toPhase}
 use Rattle.definition.specs.Engine.{toBag}
 use Rattle.byte_laws.specs.Parts.{recordsIn}
 use Rattle.byte_laws.proofs.Rows.{number-row}
-use Rattle.byte_laws.proofs.Records.{record-in, length-records}
+use Rattle.byte_laws.proofs.Records.{record-in, record-out, length-records}
 use Rattle.model_records.specs.Values.{phasesIn}
-use Rattle.model_records.proofs.Fields.{phase-out}
+use Rattle.model_records.proofs.Fields.{record-cut}
 use Rattle.pull_laws.specs.Put.{put1, puts, valuesOn}
 use Rattle.bag_keys.specs.Sent.{wantedValue}
 
@@ -82,12 +82,12 @@ slot-more r q port j st h = bag-more (outputs (toPhase r)) q port j st _ h (outp
 
 -- The record cut out of the slice is the phase of that number.
 pub sent-in : (s : Bytes) (i : ℕ) → i < length s / 18 → toPhase (take (18 * i + 18 - 18 * i) (drop (18 * i) s)) ≡ getD (phasesIn s) i noPhase
-unfolding phasesIn row
-sent-in s i h = let e : 18 * i + 18 - 18 * i ≡ 18 = omega arith in rw e (sym (record-in 18 toPhase s i noPhase h))
+unfolding phasesIn
+sent-in s i h = record-cut 18 toPhase s i noPhase h
 
 pub sent-out : (s : Bytes) (q i port : ℕ) (st : List ℕ × ℕ) → length s / 18 ≤ i → puts port (valuesOn q (outputs (getD (phasesIn s) i noPhase))) st ≡ st
-unfolding noPhase outputs valuesOn puts
-sent-out s q i port st h = rw (phase-out i s h)
+unfolding phasesIn noPhase outputs valuesOn puts
+sent-out s q i port st h = rw (record-out 18 toPhase s i noPhase h)
 
 -- ---- the given messages
 

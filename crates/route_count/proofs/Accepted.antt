@@ -80,6 +80,14 @@ module _ (file : Bytes) (n : N.Counts) (e : decode file ≡ ok (modelOf file n))
   unfolding accepted modelOf modelIn
   parts-told table total b h t f = rw (e, ← routes-told (modelOf file n) table total (parts-placed .0) h t, f)
 
+  -- The number of routes of an accepted model.
+  pub parts-routes : (table : List ℕ) (total : ℕ) → Counted (componentsIn (componentsPart file n)) (couplingsIn (couplingsPart file n)) table
+      → total ≡ min waysCap (tableRoutes (componentsIn (componentsPart file n)) table) → total ≤ maxRoutes → length (routes (modelOf file n)) ≡ total
+  unfolding modelOf modelIn
+  parts-routes table total h t l =
+      let p = parts-placed .0 in
+      omega (arith, t, routes-counted (modelOf file n) table (p .some-component) (rising (modelOf file n .components) (p .components)) (coupled-parents (modelOf file n .components) (p .components)) h)
+
 pub accepted-no : (file : Bytes) (n : ℕ) → decode file ≡ refused n → accepted file ≡ refused n
 unfolding accepted
 accepted-no file n e = rw e

@@ -3,14 +3,14 @@ ghost use mathlib.Core.Path.{_≡_};
 ghost use Prim.Native.Nat.{_+_, _*_, _≤_, min};
 ghost use mathlib.Core.Bool.{cond};
 ghost use lib.ListN.{length};
-ghost use Rattle.definition.specs.Limits.{portCount, maxComponents};
+ghost use Rattle.definition.specs.Limits.{portCount};
 ghost use Rattle.definition.specs.Model.{isAtomic};
 ghost use Rattle.definition.specs.Routes.{accepted, checkModel};
 ghost use Rattle.model_records.specs.Values.{componentsIn};
 ghost use Rattle.model.specs.Checked.{checkedAs};
 ghost use Rattle.route_laws.specs.Nodes.{portNodes};
 ghost use Rattle.route_laws.specs.Ways.{waysCap, four, tableRoutes};
-ghost use Rattle.route_count.specs.Handed.{Handed};
+ghost use Rattle.route_count.specs.Routed.{Routed};
 use limits::MAX_NODES;
 use limits::MAX_ROUTES;
 use limits::PORT_COUNT;
@@ -60,28 +60,43 @@ fn route_total(components: &[u8], ways: &[u16]) -> u16
     total
 }
 
-// The whole check, with the table of ways that decides number 9 in the lent one.
-pub fn check_counting(file: &[u8], ways: &mut [u16]) -> Checked
-    requires { ⌜ portNodes * maxComponents ≤ length (now ways) ⌝ }
-    ensures { λ r. ⌜ (checkedAs (now (file .entry)) r ≡ accepted (now (file .entry))) × Handed (now (file .entry)) r (now (ways .exit)) ⌝ }
+// The whole check of a model file, and the number of routes where it is accepted.
+pub struct Counted {
+    pub checked: Checked,
+    pub routes: u16,
+}
+
+pub fn check_routes(file: &[u8]) -> Counted
+    ensures { λ r. ⌜ (checkedAs (now (file .entry)) (r .checked) ≡ accepted (now (file .entry))) × Routed (now (file .entry)) (r .checked) (r .routes) ⌝ }
 {
     let read = model::decode_model(file);
     let Checked::Accepted(n) = read else {
-        return Checked::Refused(model::checked_number(read));
+        return Counted {
+            checked: Checked::Refused(model::checked_number(read)),
+            routes: 0,
+        };
     };
     let components = model::components_of(file, n);
-    way_counts::count_ways(components, model::couplings_of(file, n), ways);
-    if MAX_ROUTES < route_total(components, ways) {
-        return Checked::Refused(9);
+    let mut ways = [0u16; MAX_NODES];
+    way_counts::count_ways(components, model::couplings_of(file, n), &mut ways);
+    let routes = route_total(components, &ways);
+    if MAX_ROUTES < routes {
+        return Counted {
+            checked: Checked::Refused(9),
+            routes: 0,
+        };
     }
-    Checked::Accepted(n)
+    Counted {
+        checked: Checked::Accepted(n),
+        routes,
+    }
 }
 
 pub fn check(file: &[u8]) -> Checked
     ensures { λ r. ⌜ checkedAs (now (file .entry)) r ≡ accepted (now (file .entry)) ⌝ }
 {
-    let mut ways = [0u16; MAX_NODES];
-    check_counting(file, &mut ways)
+    let counted = check_routes(file);
+    counted.checked
 }
 
 // The number by which a model file is refused, or 0.

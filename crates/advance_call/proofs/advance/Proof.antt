@@ -1,8 +1,10 @@
 -- A refused model gives its number (`model-refused`); an accepted one is advanced.
 use borrow.Author.Needs.{needs}
 use native.Mathlib.Omega.{arith}
-use mathlib.Core.Path.{_∙_, ap, sym}
+use mathlib.Core.Path.{_∙_, ap, sym, subst}
 use Rattle.model.specs.Checked.{checkedAs}
+use Rattle.model.specs.declared.Checked.{Checked}
+use Rattle.route_count.specs.Routed.{Routed}
 use Rattle.advance_call.proofs.Checks.{model-refused}
 use Rattle.advance_call.proofs.advance.Statement.{statement}
 use Rattle.advance_call.proofs.advance.Tie as tie
@@ -12,11 +14,11 @@ use Rattle.advance_call.proofs.advance_accepted.Reads as advance-accept
 use Rattle.advance_call.proofs.refused.Reads as refused-reads
 use Rattle.advance_call.proofs.wide16.Reads as wide16-reads
 use Rattle.model.proofs.checked_number.Reads as checked-number-reads
-use Rattle.route_count.proofs.check.Reads as check-reads
+use Rattle.route_count.proofs.check_routes.Reads as check-routes-reads
 
 -- src/lib.rt:138:9
-check-requires : tie.Need-check-requires
-check-requires c κs = search needs
+check-routes-requires : tie.Need-check-routes-requires
+check-routes-requires c κs = search needs
 
 -- src/lib.rt:139:27
 enum-known-checked : tie.Need-enum-known-checked
@@ -42,13 +44,16 @@ refused-requires c κs = search needs
 returns : tie.Need-returns
 returns c =
     let a = c .before .before .before .before .before .before .before .before .before .before .args in
-    let told = sym (ap (checkedAs (a .file .now)) (c .before .before .before .enum-told .given .1)) ∙ c .before .before .before .before .before .check .ensures in
+    let told = sym (ap (checkedAs (a .file .now)) (c .before .before .before .enum-told .given .1)) ∙ c .before .before .before .before .before .check-routes .ensures .0 in
     rw (c .refused .ensures, c .before .wide16 .ensures, c .before .before .checked-number .ensures, c .before .before .before .enum-told .given .1) (model-refused (a .file .now) (a .run .now) (a .t) (a .bag .now) (a .trace .now) _ told)
 
 -- src/lib.rt:142:5
 advance-accepted-requires : tie.Need-advance-accepted-requires
 advance-accepted-requires c κs =
-    sym (ap (checkedAs (c .before .before .before .before .before .before .before .before .before .before .args .file .now)) (c .before .before .before .checked .given .1)) ∙ c .before .before .before .before .before .check .ensures
+    let file = c .before .before .before .before .before .before .before .before .before .before .args .file .now in
+    let n = c .before .before .before .checked .given .0 .0 in
+    let is = c .before .before .before .checked .given .1 in
+    (sym (ap (checkedAs file) is) ∙ c .before .before .before .before .before .check-routes .ensures .0, subst (λ (k : Checked). Routed file k (c .before .before .before .before .before .check-routes .result .routes)) is (c .before .before .before .before .before .check-routes .ensures .1))
 
 -- src/lib.rt:135:1
 same-length : tie.Need-same-length
@@ -66,7 +71,7 @@ pub advance-spec : {M : Type 1} → statement M
 advance-spec =
     tie.close
     (tie.spec
-    check-requires
+    check-routes-requires
     enum-known-checked
     enum-told
     checked-number-requires

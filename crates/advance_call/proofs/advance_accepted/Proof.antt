@@ -18,7 +18,7 @@ use Rattle.advance_call.proofs.advance_accepted.Statement.{statement}
 use Rattle.advance_call.proofs.advance_accepted.Tie as tie
 use Rattle.advance_call.proofs.advance_accepted.Reads as reads
 use Rattle.advance_call.proofs.advance_accepted.Lts as lts
-use Rattle.advance_call.proofs.advance_let_in.Reads as advance-let-in-reads
+use Rattle.advance_call.proofs.advance_few.Reads as advance-few-reads
 use Rattle.advance_call.proofs.refused.Reads as refused-reads
 use Rattle.given_bag.proofs.bag_fits.Reads as bag-fits-reads
 use Rattle.model.proofs.components_of.Reads as components-of-reads
@@ -39,7 +39,7 @@ phases-of-requires c κs = search needs
 fits-requires : tie.Need-fits-requires
 fits-requires c κs =
     let a = c .before .before .before .before .before .before .before .args in
-    rw (c .before .before .components-of .ensures) (few-components (a .file .now) (a .n) (λ i. c .before .before .before .before .before .before .shared-slice-known .given i .fits) (c .before .before .before .before .before .before .before .pre))
+    rw (c .before .before .components-of .ensures) (few-components (a .file .now) (a .n) (λ i. c .before .before .before .before .before .before .shared-slice-known .given i .fits) (c .before .before .before .before .before .before .before .pre .0))
 
 -- src/lib.rt:112:9
 refused-requires : tie.Need-refused-requires
@@ -55,7 +55,7 @@ returns c =
     let a = c .before .before .before .before .before .before .before .before .before .before .args in
     let m = modelOf (a .file .now) (a .n) in
     let f = c .before .before .fits2 .ensures ∙ ap₂ (λ (x y : Bytes). fits (bare x y) (a .run .now)) (c .before .before .before .before .before .components-of .ensures) (c .before .before .before .before .phases-of .ensures) ∙ fits-file (a .file .now) (a .run .now) (a .n) in
-    rw (c .refused .ensures) (run-unfit (a .file .now) (a .run .now) (a .t) (a .bag .now) (a .trace .now) m (c .before .before .before .before .before .before .before .before .before .before .pre) (sym f ∙ not-true (c .before .before .fits2 .result) (c .before .if1 .taken)))
+    rw (c .refused .ensures) (run-unfit (a .file .now) (a .run .now) (a .t) (a .bag .now) (a .trace .now) m (c .before .before .before .before .before .before .before .before .before .before .pre .0) (sym f ∙ not-true (c .before .before .fits2 .result) (c .before .if1 .taken)))
 
 -- src/lib.rt:114:9
 opening-of-requires : tie.Need-opening-of-requires
@@ -76,7 +76,7 @@ returns-2 c =
     let m = modelOf (a .file .now) (a .n) in
     let f = c .before .before .before .before .before .before .fits2 .ensures ∙ ap₂ (λ (x y : Bytes). fits (bare x y) (a .run .now)) (c .before .before .before .before .before .before .before .before .before .components-of .ensures) (c .before .before .before .before .before .before .before .before .phases-of .ensures) ∙ fits-file (a .file .now) (a .run .now) (a .n) in
     let g = sym f ∙ not-false (c .before .before .before .before .before .before .fits2 .result) (c .before .before .before .before .before .if1 .left) in
-    rw (c .refused2 .ensures) (too-early (a .file .now) (a .run .now) (a .t) (a .bag .now) (a .trace .now) m (c .before .before .before .before .before .before .before .before .before .before .before .before .before .before .pre) g (opens-after (a .file .now) (a .n) (a .run .now) (a .t) _ (c .before .before .before .opening-of .ensures) (c .before .if2 .taken)))
+    rw (c .refused2 .ensures) (too-early (a .file .now) (a .run .now) (a .t) (a .bag .now) (a .trace .now) m (c .before .before .before .before .before .before .before .before .before .before .before .before .before .before .pre .0) g (opens-after (a .file .now) (a .n) (a .run .now) (a .t) _ (c .before .before .before .opening-of .ensures) (c .before .if2 .taken)))
 
 -- src/lib.rt:119:9
 refused-requires-3 : tie.Need-refused-requires-3
@@ -93,7 +93,7 @@ returns-3 c =
     let m = modelOf (a .file .now) (a .n) in
     let f = c .before .before .before .before .before .before .before .fits2 .ensures ∙ ap₂ (λ (x y : Bytes). fits (bare x y) (a .run .now)) (c .before .before .before .before .before .before .before .before .before .before .components-of .ensures) (c .before .before .before .before .before .before .before .before .before .phases-of .ensures) ∙ fits-file (a .file .now) (a .run .now) (a .n) in
     let g = sym f ∙ not-false (c .before .before .before .before .before .before .before .fits2 .result) (c .before .before .before .before .before .before .if1 .left) in
-    rw (c .refused3 .ensures) (too-late (a .file .now) (a .run .now) (a .t) (a .bag .now) (a .trace .now) m (c .before .before .before .before .before .before .before .before .before .before .before .before .before .before .before .pre) g (c .before .if3 .taken))
+    rw (c .refused3 .ensures) (too-late (a .file .now) (a .run .now) (a .t) (a .bag .now) (a .trace .now) m (c .before .before .before .before .before .before .before .before .before .before .before .before .before .before .before .pre .0) g (c .before .if3 .taken))
 
 -- src/lib.rt:121:9
 bag-fits-requires : tie.Need-bag-fits-requires
@@ -115,23 +115,36 @@ returns-4 c =
     let f = c .before .before .before .before .before .before .before .before .before .fits2 .ensures ∙ ap₂ (λ (x y : Bytes). fits (bare x y) (a .run .now)) (c .before .before .before .before .before .before .before .before .before .before .before .before .components-of .ensures) (c .before .before .before .before .before .before .before .before .before .before .before .phases-of .ensures) ∙ fits-file (a .file .now) (a .run .now) (a .n) in
     let g = sym f ∙ not-false (c .before .before .before .before .before .before .before .before .before .fits2 .result) (c .before .before .before .before .before .before .before .before .if1 .left) in
     let o = opens-by (a .file .now) (a .n) (a .run .now) (a .t) _ (c .before .before .before .before .before .before .opening-of .ensures) (c .before .before .before .before .if2 .left) in
-    rw (c .refused4 .ensures) (bag-unfit (a .file .now) (a .run .now) (a .t) (a .bag .now) (a .trace .now) m (c .before .before .before .before .before .before .before .before .before .before .before .before .before .before .before .before .before .pre) g o (c .before .before .before .if3 .left) (sym (c .before .before .bag-fits .ensures) ∙ not-true (c .before .before .bag-fits .result) (c .before .if4 .taken)))
+    rw (c .refused4 .ensures) (bag-unfit (a .file .now) (a .run .now) (a .t) (a .bag .now) (a .trace .now) m (c .before .before .before .before .before .before .before .before .before .before .before .before .before .before .before .before .before .pre .0) g o (c .before .before .before .if3 .left) (sym (c .before .before .bag-fits .ensures) ∙ not-true (c .before .before .bag-fits .result) (c .before .if4 .taken)))
 
 -- src/lib.rt:128:9
 atomic-count-requires : tie.Need-atomic-count-requires
 atomic-count-requires c κs = search needs
 
 -- src/lib.rt:124:5
-advance-let-in-requires : tie.Need-advance-let-in-requires
-advance-let-in-requires c κs =
-    let a = c .before .before .before .before .before .before .before .before .before .before .before .before .before .before .before .before .before .before .before .args in
+advance-few-requires : tie.Need-advance-few-requires
+advance-few-requires c κs =
+    let a = c .before .before .before .before .before .before .before .before .before .before .before .before .before .before .before .before .before .before .before .before .args in
     let m = modelOf (a .file .now) (a .n) in
-    let f = c .before .before .before .before .before .before .before .before .before .before .before .fits2 .ensures ∙ ap₂ (λ (x y : Bytes). fits (bare x y) (a .run .now)) (c .before .before .before .before .before .before .before .before .before .before .before .before .before .before .components-of .ensures) (c .before .before .before .before .before .before .before .before .before .before .before .before .before .phases-of .ensures) ∙ fits-file (a .file .now) (a .run .now) (a .n) in
-    let g = sym f ∙ not-false (c .before .before .before .before .before .before .before .before .before .before .before .fits2 .result) (c .before .before .before .before .before .before .before .before .before .before .if1 .left) in
-    let o = opens-by (a .file .now) (a .n) (a .run .now) (a .t) _ (c .before .before .before .before .before .before .before .before .opening-of .ensures) (c .before .before .before .before .before .before .if2 .left) in (
-      c .before .before .before .before .before .before .before .before .before .before .before .before .before .before .before .before .before .before .before .pre,
-      let-in (a .file .now) (a .run .now) (a .t) (a .bag .now) (a .trace .now) m (c .before .before .before .before .before .before .before .before .before .before .before .before .before .before .before .before .before .before .before .pre) g o (c .before .before .before .before .before .if3 .left) (sym (c .before .before .before .before .bag-fits .ensures) ∙ not-false (c .before .before .before .before .bag-fits .result) (c .before .before .before .if4 .left)),
-      c .before .atomic-count .ensures ∙ ap (λ (s : Bytes). length (atomics (componentsIn s))) (c .before .before .before .before .before .before .before .before .before .before .before .before .before .before .components-of .ensures) ∙ count-file (a .file .now) (a .n),
+    let f = c .before .before .before .before .before .before .before .before .before .before .before .before .fits2 .ensures ∙ ap₂ (λ (x y : Bytes). fits (bare x y) (a .run .now)) (c .before .before .before .before .before .before .before .before .before .before .before .before .before .before .before .components-of .ensures) (c .before .before .before .before .before .before .before .before .before .before .before .before .before .before .phases-of .ensures) ∙ fits-file (a .file .now) (a .run .now) (a .n) in
+    let g = sym f ∙ not-false (c .before .before .before .before .before .before .before .before .before .before .before .before .fits2 .result) (c .before .before .before .before .before .before .before .before .before .before .before .if1 .left) in
+    let o = opens-by (a .file .now) (a .n) (a .run .now) (a .t) _ (c .before .before .before .before .before .before .before .before .before .opening-of .ensures) (c .before .before .before .before .before .before .before .if2 .left) in (
+      c .before .before .before .before .before .before .before .before .before .before .before .before .before .before .before .before .before .before .before .before .pre .0,
+      let-in (a .file .now) (a .run .now) (a .t) (a .bag .now) (a .trace .now) m (c .before .before .before .before .before .before .before .before .before .before .before .before .before .before .before .before .before .before .before .before .pre .0) g o (c .before .before .before .before .before .before .if3 .left) (sym (c .before .before .before .before .before .bag-fits .ensures) ∙ not-false (c .before .before .before .before .before .bag-fits .result) (c .before .before .before .before .if4 .left)),
+      c .before .before .before .atomic-count .ensures ∙ ap (λ (s : Bytes). length (atomics (componentsIn s))) (c .before .before .before .before .before .before .before .before .before .before .before .before .before .before .before .components-of .ensures) ∙ count-file (a .file .now) (a .n),
+      omega (arith, c .before .before .before .before .before .before .before .before .before .before .before .before .before .before .before .before .before .before .before .before .pre .1, c .before .before .if5 .taken),
+    )
+
+advance-many-requires : tie.Need-advance-many-requires
+advance-many-requires c κs =
+    let a = c .before .before .before .before .before .before .before .before .before .before .before .before .before .before .before .before .before .before .before .before .args in
+    let m = modelOf (a .file .now) (a .n) in
+    let f = c .before .before .before .before .before .before .before .before .before .before .before .before .fits2 .ensures ∙ ap₂ (λ (x y : Bytes). fits (bare x y) (a .run .now)) (c .before .before .before .before .before .before .before .before .before .before .before .before .before .before .before .components-of .ensures) (c .before .before .before .before .before .before .before .before .before .before .before .before .before .before .phases-of .ensures) ∙ fits-file (a .file .now) (a .run .now) (a .n) in
+    let g = sym f ∙ not-false (c .before .before .before .before .before .before .before .before .before .before .before .before .fits2 .result) (c .before .before .before .before .before .before .before .before .before .before .before .if1 .left) in
+    let o = opens-by (a .file .now) (a .n) (a .run .now) (a .t) _ (c .before .before .before .before .before .before .before .before .before .opening-of .ensures) (c .before .before .before .before .before .before .before .if2 .left) in (
+      c .before .before .before .before .before .before .before .before .before .before .before .before .before .before .before .before .before .before .before .before .pre .0,
+      let-in (a .file .now) (a .run .now) (a .t) (a .bag .now) (a .trace .now) m (c .before .before .before .before .before .before .before .before .before .before .before .before .before .before .before .before .before .before .before .before .pre .0) g o (c .before .before .before .before .before .before .if3 .left) (sym (c .before .before .before .before .before .bag-fits .ensures) ∙ not-false (c .before .before .before .before .before .bag-fits .result) (c .before .before .before .before .if4 .left)),
+      c .before .before .before .atomic-count .ensures ∙ ap (λ (s : Bytes). length (atomics (componentsIn s))) (c .before .before .before .before .before .before .before .before .before .before .before .before .before .before .before .components-of .ensures) ∙ count-file (a .file .now) (a .n),
     )
 
 -- src/lib.rt:99:1
@@ -145,6 +158,15 @@ same-length-6 c = search needs
 -- src/lib.rt:99:1
 returns-5 : tie.Need-returns-5
 returns-5 c = search needs
+
+same-length-7 : tie.Need-same-length-7
+same-length-7 c = search needs
+
+same-length-8 : tie.Need-same-length-8
+same-length-8 c = search needs
+
+returns-6 : tie.Need-returns-6
+returns-6 c = search needs
 
 pub advance-accepted-spec : {M : Type 1} → statement M
 advance-accepted-spec =
@@ -168,7 +190,11 @@ advance-accepted-spec =
     same-length-4
     returns-4
     atomic-count-requires
-    advance-let-in-requires
+    advance-few-requires
+    advance-many-requires
     same-length-5
     same-length-6
-    returns-5)
+    returns-5
+    same-length-7
+    same-length-8
+    returns-6)
