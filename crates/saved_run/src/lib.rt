@@ -12,10 +12,11 @@ ghost use Rattle.definition.specs.SavedRun.{runLength, toRun, entryBytes, runBy
 ghost use Rattle.model_records.specs.Values.{componentsIn, phasesIn};
 ghost use Rattle.due.specs.After.{dueAfter};
 ghost use Rattle.clock.specs.Times.{timeOf};
-ghost use Rattle.run_state.specs.Held.{entriesOf};
+ghost use Rattle.run_state.specs.Held.{held, entriesOf};
 ghost use Rattle.saved_run.specs.Runs.{bare, entryOf, entryAt, entriesFitIn, heldAt, entryRows, runIn, startEntries};
 use clock::Due;
 use clock::Moment;
+use limits::MAX_COMPONENTS;
 use model_records::Component;
 use model_records::component_at;
 use model_records::component_count;
@@ -85,14 +86,15 @@ pub fn load(run: &[u8], n: usize) -> State
     requires { ⌜ n ≤ maxComponents ⌝ }
     ensures { λ r. ⌜ (entriesOf n r ≡ toRun n (now (run .entry)) .entries) × (length (r .phase) ≡ maxComponents) × (length (r .last) ≡ maxComponents) ⌝ }
 {
-    let mut st = State::blank();
+    let mut phase = [0u8; MAX_COMPONENTS];
+    let mut last = [0u64; MAX_COMPONENTS];
     let mut i: usize = 0;
     while i < n {
         let e = entry_at(run, i);
-        st = st.with(i, e.phase, e.last);
+        run_state::put_at(&mut phase, &mut last, i, e.phase, e.last);
         i = i + 1;
     }
-    st
+    State { phase, last }
 }
 
 // ---- fitting
@@ -161,23 +163,23 @@ fn wide(x: u8) -> u64
     x as u64
 }
 
-fn put_entry(run: &mut [u8], st: State, i: usize)
+fn put_entry(run: &mut [u8], phase: &[u8], last: &[u64], i: usize)
     requires { ⌜ (i < maxComponents) × (runLength (i + 1) ≤ length (now run)) ⌝ }
-    ensures { λ _. ⌜ now (run .exit) ≡ sets (now (run .entry)) (runLength i) (entryBytes (heldAt st i)) ⌝ }
+    ensures { λ _. ⌜ now (run .exit) ≡ sets (now (run .entry)) (runLength i) (entryBytes (heldAt (held (now (phase .entry)) (now (last .entry))) i)) ⌝ }
 {
     let at = HEAD_SIZE + ENTRY_SIZE * i;
-    let last = st.last_of(i);
-    little_endian::put_number(run, at, 1, wide(st.phase_of(i)));
-    little_endian::put_number(run, at + 1, 8, last.0);
+    let since = run_state::last_at(last, i);
+    little_endian::put_number(run, at, 1, wide(run_state::phase_at(phase, i)));
+    little_endian::put_number(run, at + 1, 8, since.0);
 }
 
-fn put_entries(run: &mut [u8], n: usize, st: State)
+fn put_entries(run: &mut [u8], n: usize, phase: &[u8], last: &[u64])
     requires { ⌜ (n ≤ maxComponents) × (runLength n ≤ length (now run)) ⌝ }
-    ensures { λ _. ⌜ now (run .exit) ≡ sets (now (run .entry)) (runLength 0) (entryRows st 0 n) ⌝ }
+    ensures { λ _. ⌜ now (run .exit) ≡ sets (now (run .entry)) (runLength 0) (entryRows (held (now (phase .entry)) (now (last .entry))) 0 n) ⌝ }
 {
     let mut i: usize = 0;
     while i < n {
-        put_entry(run, st, i);
+        put_entry(run, phase, last, i);
         i = i + 1;
     }
 }
@@ -189,7 +191,9 @@ pub fn store(run: &mut [u8], opening: Moment, n: usize, st: State)
 {
     little_endian::put_number(run, 0, 8, opening.0);
     little_endian::put_number(run, 8, 2, n as u64);
-    put_entries(run, n, st);
+    let phase = st.phase;
+    let last = st.last;
+    put_entries(run, n, &phase, &last);
 }
 
 // ---- the start
@@ -200,14 +204,15 @@ pub fn start_state(components: &[u8]) -> State
     ensures { λ r. ⌜ entriesOf (length (atomics (componentsIn (now (components .entry))))) r ≡ startEntries (componentsIn (now (components .entry))) ⌝ }
 {
     let n = component_count(components);
-    let mut st = State::blank();
+    let mut phase = [0u8; MAX_COMPONENTS];
+    let mut last = [0u64; MAX_COMPONENTS];
     let mut k: usize = 0;
     let mut c: usize = 0;
     while c < n {
         let own = component_at(components, c);
-        st = st.with(k, own.initial, Moment(0));
+        run_state::put_at(&mut phase, &mut last, k, own.initial, Moment(0));
         k = k + one_if(own.kind == 1);
         c = c + 1;
     }
-    st
+    State { phase, last }
 }

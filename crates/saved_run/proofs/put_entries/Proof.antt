@@ -2,7 +2,8 @@
 use borrow.Author.Needs.{needs}
 use native.Mathlib.Omega.{arith}
 use Rattle.saved_run.proofs.Storing.{rows-put, rows-none}
-use Rattle.saved_run.specs.Runs.{heldAt, entryRows}
+use Rattle.run_state.specs.Held.{held}
+use Rattle.saved_run.specs.Runs.{entryRows}
 use Rattle.definition.specs.SavedRun.{runLength, entryBytes}
 use lib.Seq.{sets, length-sets}
 use lib.ListN.{length}
@@ -15,10 +16,10 @@ use Rattle.saved_run.proofs.put_entries.Lts as lts
 use Rattle.saved_run.proofs.put_entry.Reads as put-entry-reads
 
 abbrev Inv-loop : tie.InvT-loop
-Inv-loop run₀ n st i₀ run i = (i ≤ n) × (length run ≡ length run₀) × (sets run (runLength i) (entryRows st i (n - i)) ≡ sets run₀ (runLength 0) (entryRows st 0 (n - 0)))
+Inv-loop run₀ n phase last i₀ run i = (i ≤ n) × (length run ≡ length run₀) × (sets run (runLength i) (entryRows (held phase last) i (n - i)) ≡ sets run₀ (runLength 0) (entryRows (held phase last) 0 (n - 0)))
 
 abbrev μ-loop : tie.MeasureT-loop
-μ-loop run₀ n st i₀ run i = n - i
+μ-loop run₀ n phase last i₀ run i = n - i
 
 -- src/lib.rt:172:5
 loop-holds : tie.Need-loop-holds Inv-loop μ-loop
@@ -42,9 +43,9 @@ loop-less c = search needs
 -- src/lib.rt:172:5
 loop-again : tie.Need-loop-again Inv-loop μ-loop
 loop-again c =
-    let a = c .before .before .before .before .before .before .before .args in
+    let a = c .before .before .before .before .before .before .before .before .before .args in
     let l = c .before .before .before .before .before .loop in
-    (omega arith, c .before .before .put-entry .kept .0 ∙ l .inv .1, rw (c .before .before .put-entry .ensures) (rows-put (a .st) (a .n) (l .i) (l .run) (omega arith)) ∙ l .inv .2)
+    (omega arith, c .before .before .put-entry .kept .0 ∙ l .inv .1, rw (c .before .before .put-entry .ensures) (rows-put (held (a .phase .now) (a .last .now)) (a .n) (l .i) (l .run) (omega arith)) ∙ l .inv .2)
 
 -- src/lib.rt:167:1
 same-length : tie.Need-same-length Inv-loop μ-loop
@@ -54,10 +55,10 @@ same-length c =
 -- src/lib.rt:167:1
 returns : tie.Need-returns Inv-loop μ-loop
 returns c =
-    let a = c .before .before .before .args in
+    let a = c .before .before .before .before .before .args in
     let l = c .before .loop in
     let z : a .n - 0 ≡ a .n = omega arith in
-    sym (rows-none (a .st) (l .i) (a .n - l .i) (runLength (l .i)) (l .run) (omega arith)) ∙ l .inv .2 ∙ ap (λ k. sets (a .run .now) (runLength 0) (entryRows (a .st) 0 k)) z
+    sym (rows-none (held (a .phase .now) (a .last .now)) (l .i) (a .n - l .i) (runLength (l .i)) (l .run) (omega arith)) ∙ l .inv .2 ∙ ap (λ k. sets (a .run .now) (runLength 0) (entryRows (held (a .phase .now) (a .last .now)) 0 k)) z
 
 pub put-entries-spec : {M : Type 1} → statement M
 put-entries-spec =

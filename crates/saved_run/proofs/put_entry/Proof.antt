@@ -2,6 +2,7 @@
 use borrow.Author.Needs.{needs}
 use native.Mathlib.Omega.{arith}
 use Rattle.saved_run.proofs.Storing.{entry-put}
+use Rattle.run_state.specs.Held.{held}
 use Rattle.saved_run.specs.Runs.{heldAt}
 use Rattle.definition.specs.SavedRun.{runLength}
 use Rattle.definition.specs.Bytes.{bytesOf}
@@ -12,8 +13,8 @@ use Rattle.saved_run.proofs.put_entry.Tie as tie
 use Rattle.saved_run.proofs.put_entry.Reads as reads
 use Rattle.saved_run.proofs.put_entry.Lts as lts
 use Rattle.little_endian.proofs.put_number.Reads as put-number-reads
-use Rattle.run_state.proofs.State.last_of.Reads as last-of-reads
-use Rattle.run_state.proofs.State.phase_of.Reads as phase-of-reads
+use Rattle.run_state.proofs.last_at.Reads as last-at-reads
+use Rattle.run_state.proofs.phase_at.Reads as phase-at-reads
 use Rattle.saved_run.proofs.wide.Reads as wide-reads
 
 -- src/lib.rt:161:26
@@ -25,12 +26,12 @@ add-at : tie.Need-add-at
 add-at c = search needs
 
 -- src/lib.rt:162:9
-last-of-requires : tie.Need-last-of-requires
-last-of-requires c κs = search needs
+last-at-requires : tie.Need-last-at-requires
+last-at-requires c κs = search needs
 
 -- src/lib.rt:163:48
-phase-of-requires : tie.Need-phase-of-requires
-phase-of-requires c κs = search needs
+phase-at-requires : tie.Need-phase-at-requires
+phase-at-requires c κs = search needs
 
 -- src/lib.rt:163:43
 wide-requires : tie.Need-wide-requires
@@ -57,8 +58,8 @@ same-length c = search needs
 -- src/lib.rt:157:1
 returns : tie.Need-returns
 returns c =
-    let a = c .before .before .before .before .before .before .before .before .before .before .before .before .args in
-    rw (c .before .before .put-number2 .ensures, c .before .before .before .before .before .before .put-number .ensures, c .before .before .before .before .before .before .before .wide .ensures, c .before .before .before .before .before .before .before .before .phase-of .ensures, c .before .before .before .before .before .before .before .before .before .before .last-of .ensures) (entry-put (a .run .now) (a .i) (heldAt (a .st) (a .i)))
+    let a = c .before .before .before .before .before .before .before .before .before .before .before .before .before .before .args in
+    rw (c .before .before .put-number2 .ensures, c .before .before .before .before .before .before .put-number .ensures, c .before .before .before .before .before .before .before .wide .ensures, c .before .before .before .before .before .before .before .before .phase-at .ensures, c .before .before .before .before .before .before .before .before .before .before .last-at .ensures) (entry-put (a .run .now) (a .i) (heldAt (held (a .phase .now) (a .last .now)) (a .i)))
 
 pub put-entry-spec : {M : Type 1} → statement M
 put-entry-spec =
@@ -66,8 +67,8 @@ put-entry-spec =
     (tie.spec
     mul-at
     add-at
-    last-of-requires
-    phase-of-requires
+    last-at-requires
+    phase-at-requires
     wide-requires
     put-number-requires
     add-put-number

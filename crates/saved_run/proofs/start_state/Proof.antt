@@ -4,7 +4,8 @@ use native.Mathlib.Omega.{arith}
 use Rattle.saved_run.proofs.Starting.{startedTo, started-none, started-more, started-all, length-atomics}
 use Rattle.saved_run.proofs.Fitting.{atomic-said}
 use Rattle.saved_run.proofs.Entries.{Wide, wide-blank, wide-changed, kept-more, one-most}
-use Rattle.run_state.specs.Held.{entriesOf}
+use Rattle.run_state.specs.declared.State.{State}
+use Rattle.run_state.specs.Held.{held, entriesOf}
 use Rattle.model_records.specs.Values.{componentsIn, componentOf}
 use Rattle.definition.specs.Model.{Component, isAtomic, atomics}
 use Rattle.definition.specs.Lists.{keep, upFrom}
@@ -12,45 +13,43 @@ use lib.ListN.{length}
 use lib.Dec.{eqb}
 use Prim.Native.Nat.{ℕ, _≤_, _+_, _-_}
 use mathlib.Core.Bool.{Bool, cond}
-use mathlib.Core.Path.{_≡_, refl, _∙_, ap, ap₂, sym}
+use mathlib.Core.Path.{_≡_, refl, _∙_, ap, ap₂, sym, subst}
 use Rattle.saved_run.proofs.start_state.Statement.{statement}
 use Rattle.saved_run.proofs.start_state.Tie as tie
 use Rattle.saved_run.proofs.start_state.Reads as reads
 use Rattle.saved_run.proofs.start_state.Lts as lts
 use Rattle.model_records.proofs.component_at.Reads as component-at-reads
 use Rattle.model_records.proofs.component_count.Reads as component-count-reads
-use Rattle.run_state.proofs.State.blank.Reads as blank-reads
-use Rattle.run_state.proofs.State.with.Reads as with-reads
 use Rattle.saved_run.proofs.one_if.Reads as one-if-reads
 
 abbrev Inv-loop : tie.InvT-loop
-Inv-loop components n st₀ k₀ c₀ st k c = (c ≤ n) × (k ≤ c) × (k ≡ length (keep (isAtomic (componentsIn components)) (upFrom 0 c))) × Wide st × (entriesOf k st ≡ startedTo (componentsIn components) c)
+Inv-loop components n phase₀ last₀ k₀ c₀ phase last k c = (c ≤ n) × (k ≤ c) × (k ≡ length (keep (isAtomic (componentsIn components)) (upFrom 0 c))) × Wide (held phase last) × (entriesOf k (held phase last) ≡ startedTo (componentsIn components) c)
 
 abbrev μ-loop : tie.MeasureT-loop
-μ-loop components n st₀ k₀ c₀ st k c = n - c
+μ-loop components n phase₀ last₀ k₀ c₀ phase last k c = n - c
 
 -- src/lib.rt:195:9
 component-count-requires : tie.Need-component-count-requires Inv-loop μ-loop
 component-count-requires c κs = search needs
 
--- src/lib.rt:196:9
-blank-requires : tie.Need-blank-requires Inv-loop μ-loop
-blank-requires c κs = search needs
-
 -- src/lib.rt:199:5
 loop-holds : tie.Need-loop-holds Inv-loop μ-loop
 unfolding keep upFrom
 loop-holds c =
-    (omega arith, omega arith, refl, wide-blank (c .blank .result) (c .blank .ensures), started-none (componentsIn (c .before .before .before .args .components .now)) (c .blank .result))
+    (omega arith, omega arith, refl, wide-blank _ refl, started-none (componentsIn (c .before .before .args .components .now)) _)
 
 -- src/lib.rt:200:13
 component-at-requires : tie.Need-component-at-requires Inv-loop μ-loop
 component-at-requires c κs = search needs
 
--- src/lib.rt:201:9
-with-requires : tie.Need-with-requires Inv-loop μ-loop
-with-requires c κs =
-    omega (arith, c .before .before .before .before .component-count .ensures, c .before .before .before .before .before .before .pre)
+slice-aggregate-put-at : tie.Need-slice-aggregate-put-at Inv-loop μ-loop
+slice-aggregate-put-at c = sym (c .before .before .before .loop .inv .3 .0)
+
+slice-aggregate-put-at-2 : tie.Need-slice-aggregate-put-at-2 Inv-loop μ-loop
+slice-aggregate-put-at-2 c = sym (c .before .before .before .before .loop .inv .3 .1)
+
+put-at-requires : tie.Need-put-at-requires Inv-loop μ-loop
+put-at-requires c κs = search needs
 
 -- src/lib.rt:202:17
 one-if-requires : tie.Need-one-if-requires Inv-loop μ-loop
@@ -59,7 +58,7 @@ one-if-requires c κs = search needs
 -- src/lib.rt:202:13
 add-k : tie.Need-add-k Inv-loop μ-loop
 add-k c =
-    let b = one-most (eqb (c .before .before .before .component-at .result .kind) 1) in
+    let b = one-most (eqb (c .before .before .before .before .before .before .before .component-at .result .kind) 1) in
     search needs
 
 -- src/lib.rt:203:13
@@ -73,24 +72,26 @@ loop-less c = search needs
 -- src/lib.rt:199:5
 loop-again : tie.Need-loop-again Inv-loop μ-loop
 loop-again c =
-    let l = c .before .before .before .before .before .loop in
-    let cs = componentsIn (c .before .before .before .before .before .before .before .before .before .args .components .now) in
-    let own = c .before .before .before .component-at .result in
-    let g = atomic-said cs (l .c) (componentOf own) (c .before .before .before .component-at .ensures) in
-    let o = c .one-if .ensures ∙ ap (λ (b : Bool). cond b 1 0) g in (
+    let l = c .before .before .before .before .before .before .before .before .before .loop in
+    let cs = componentsIn (c .before .before .before .before .before .before .before .before .before .before .before .before .args .components .now) in
+    let own = c .before .before .before .before .before .before .before .component-at .result in
+    let g = atomic-said cs (l .c) (componentOf own) (c .before .before .before .before .before .before .before .component-at .ensures) in
+    let o = c .one-if .ensures ∙ ap (λ (b : Bool). cond b 1 0) g in
+    let st = held (l .phase) (l .last) in
+    let new = sym (c .before .before .before .before .put-at .ensures) in (
       omega arith,
       omega (arith, c .one-if .ensures, one-most (eqb (own .kind) 1)),
       ap₂ _+_ (l .inv .2) o ∙ kept-more (isAtomic cs) (l .c),
-      rw (c .before .before .with .ensures) (wide-changed (l .st) (l .k) (own .initial) 0 (l .inv .3)),
-      rw (c .before .before .with .ensures, o) (started-more cs (l .st) (l .c) (l .k) (own .initial) (l .inv .3) (omega (arith, c .before .before .before .before .before .before .before .component-count .ensures, c .before .before .before .before .before .before .before .before .before .pre)) (ap (λ (k : Component). k .initial) (c .before .before .before .component-at .ensures)) (l .inv .4)),
+      subst Wide new (wide-changed st (l .k) (own .initial) 0 (l .inv .3)),
+      subst (λ (s : State). entriesOf (l .k + c .one-if .result) s ≡ startedTo cs (l .c + 1)) new (rw o (started-more cs st (l .c) (l .k) (own .initial) (l .inv .3) (omega (arith, c .before .before .before .before .before .before .before .before .before .before .component-count .ensures, c .before .before .before .before .before .before .before .before .before .before .before .before .pre)) (ap (λ (k : Component). k .initial) (c .before .before .before .before .before .before .before .component-at .ensures)) (l .inv .4))),
     )
 
 -- src/lib.rt:191:1
 returns : tie.Need-returns Inv-loop μ-loop
 returns c =
     let l = c .before .loop in
-    let cs = componentsIn (c .before .before .before .before .before .args .components .now) in
-    let e : l .c ≡ length cs = omega (arith, c .before .before .before .component-count .ensures) in
+    let cs = componentsIn (c .before .before .before .before .args .components .now) in
+    let e : l .c ≡ length cs = omega (arith, c .before .before .component-count .ensures) in
     let f : l .k ≡ length (atomics cs) = rw e at (l .inv .2) ∙ length-atomics cs in
     rw (← f) (l .inv .4 ∙ ap (startedTo cs) e ∙ started-all cs)
 
@@ -101,10 +102,11 @@ start-state-spec =
     Inv-loop
     μ-loop
     component-count-requires
-    blank-requires
     loop-holds
     component-at-requires
-    with-requires
+    slice-aggregate-put-at
+    slice-aggregate-put-at-2
+    put-at-requires
     one-if-requires
     add-k
     add-c
