@@ -1,66 +1,74 @@
 -- The first rule that holds from i on is the first from the range's begin on; each break is one case of the definition.
 use borrow.Author.Needs.{needs}
 use native.Mathlib.Omega.{arith}
-use Prim.Native.Nat.{ℕ, _-_}
-use mathlib.Core.Path.{_≡_, _∙_, refl, sym, ap}
+use Rattle.deciding.proofs.Laws.{first-here, first-later}
+use Rattle.pull_laws.specs.TableStep.{decidingIn}
+use Rattle.pull_laws.specs.Put.{messageOf}
+use Rattle.model_records.specs.Values.{rulesIn}
+use Rattle.definition.specs.Model.{noRule}
+use Rattle.definition.specs.Atomic.{holds}
 use denote.Ref.{now}
 use lib.ListN.{getD}
-use mathlib.Core.Bool.{Bool}
-use Rattle.model_records.specs.Values.{rulesIn}
-use Rattle.definition.specs.Atomic.{holds}
-use Rattle.definition.specs.Model.{noRule}
-use Rattle.pull_laws.specs.TableStep.{firstFrom, decidingIn}
-use Rattle.pull_laws.specs.Put.{messageOf}
+use Prim.Native.Nat.{ℕ, _-_, _*_}
 use mathlib.Core.List.{map}
-use Rattle.deciding.proofs.Laws.{first-here, first-later, first-none}
+use mathlib.Core.Bool.{Bool}
+use mathlib.Core.Path.{sym, ap, _∙_, _≡_, refl}
 use Rattle.deciding.proofs.deciding.Statement.{statement}
 use Rattle.deciding.proofs.deciding.Tie as tie
 
 abbrev Inv-loop : tie.InvT-loop
-Inv-loop rules first end component phase elapsed bag i₀ i = firstFrom (λ j. holds component phase (elapsed .0) (map messageOf bag) (getD (rulesIn rules) j noRule)) (end - i) i ≡ decidingIn (rulesIn rules) first end component phase (elapsed .0) (map messageOf bag)
+Inv-loop rules first end component phase elapsed bag stop head i₀ at₀ i at = (at ≡ 18 * i) × (decidingIn (rulesIn rules) i end component phase (elapsed .0) (map messageOf bag) ≡ decidingIn (rulesIn rules) first end component phase (elapsed .0) (map messageOf bag))
 
 abbrev μ-loop : tie.MeasureT-loop
-μ-loop rules first end component phase elapsed bag i₀ i = end - i
+μ-loop rules first end component phase elapsed bag stop head i₀ at₀ i at = end - i
+
+stop-before-requires : tie.Need-stop-before-requires Inv-loop μ-loop
+stop-before-requires c κs = search needs
+
+head-of-requires : tie.Need-head-of-requires Inv-loop μ-loop
+head-of-requires c κs = search needs
+
+mul-at : tie.Need-mul-at Inv-loop μ-loop
+mul-at c = search needs
 
 loop-holds : tie.Need-loop-holds Inv-loop μ-loop
-unfolding decidingIn
 loop-holds c =
-    refl
+    (refl, refl)
 
-cast-rule-at : tie.Need-cast-rule-at Inv-loop μ-loop
-cast-rule-at c = search needs
+decided-past-requires : tie.Need-decided-past-requires Inv-loop μ-loop
+decided-past-requires c κs = search needs
 
-rule-at-requires : tie.Need-rule-at-requires Inv-loop μ-loop
-rule-at-requires c κs = search needs
-
-rule-holds-requires : tie.Need-rule-holds-requires Inv-loop μ-loop
-rule-holds-requires c κs = search needs
+decides-requires : tie.Need-decides-requires Inv-loop μ-loop
+decides-requires c κs = search needs
 
 add-i : tie.Need-add-i Inv-loop μ-loop
 add-i c = search needs
+
+add-at : tie.Need-add-at Inv-loop μ-loop
+add-at c = search needs
 
 loop-less : tie.Need-loop-less Inv-loop μ-loop
 loop-less c = search needs
 
 loop-again : tie.Need-loop-again Inv-loop μ-loop
+unfolding decidingIn
 loop-again c =
-    let a = c .before .before .before .before .before .before .before .args in
-    let l = c .before .before .before .before .loop in
+    let a = c .before .before .before .before .before .before .before .before .args in
+    let l = c .before .before .before .loop in
     let p : ℕ → Bool = λ j. holds (a .component) (a .phase) (a .elapsed .0) (map messageOf (now (a .bag))) (getD (rulesIn (now (a .rules))) j noRule) in
-    let e : p (l .i) ≡ c .before .rule-holds .result = ap (holds (a .component) (a .phase) (a .elapsed .0) (map messageOf (now (a .bag)))) (sym (c .before .before .rule-at .ensures)) ∙ sym (c .before .rule-holds .ensures) in
-    first-later p (a .end) (l .i) (omega arith) (e ∙ c .if2 .left) ∙ l .inv
+    (omega arith, first-later p (a .end) (l .i) (omega arith) (sym (c .before .decides .ensures) ∙ c .if2 .left) ∙ l .inv .1)
 
 returns : tie.Need-returns Inv-loop μ-loop
 returns c =
-    first-none _ (c .before .before .before .before .args .end) (c .before .loop .i) (c .if1 .taken) ∙ c .before .loop .inv
+    c .decided-past .ensures ∙ c .before .before .loop .inv .1
 
 returns-2 : tie.Need-returns-2 Inv-loop μ-loop
+unfolding decidingIn
 returns-2 c =
-    let a = c .before .before .before .before .before .before .before .args in
-    let l = c .before .before .before .before .loop in
+    let a = c .before .before .before .before .before .before .before .before .args in
+    let l = c .before .before .before .loop in
     let p : ℕ → Bool = λ j. holds (a .component) (a .phase) (a .elapsed .0) (map messageOf (now (a .bag))) (getD (rulesIn (now (a .rules))) j noRule) in
-    let e : p (l .i) ≡ c .before .rule-holds .result = ap (holds (a .component) (a .phase) (a .elapsed .0) (map messageOf (now (a .bag)))) (sym (c .before .before .rule-at .ensures)) ∙ sym (c .before .rule-holds .ensures) in
-    first-here p (a .end) (l .i) (omega arith) (e ∙ c .if2 .taken) ∙ l .inv
+    first-here p (a .end) (l .i) (omega arith) (sym (c .before .decides .ensures) ∙ c .if2 .taken) ∙ l .inv .1
 
 pub deciding-spec : {M : Type 1} → statement M
 deciding-spec =
@@ -68,11 +76,14 @@ deciding-spec =
     (tie.spec
     Inv-loop
     μ-loop
+    stop-before-requires
+    head-of-requires
+    mul-at
     loop-holds
-    cast-rule-at
-    rule-at-requires
-    rule-holds-requires
+    decided-past-requires
+    decides-requires
     add-i
+    add-at
     loop-less
     loop-again
     returns
