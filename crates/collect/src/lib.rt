@@ -10,19 +10,22 @@ ghost use Rattle.model_records.specs.Values.{phasesIn};
 ghost use Rattle.pull_laws.specs.Put.{puts, putPorts};
 ghost use lib.ListN.{getD};
 ghost use Rattle.route_laws.specs.Nodes.{inputNode, outputNode};
-ghost use Rattle.pull_laws.specs.Tables.{firstAt, nextAt, sourceAt, nodeComponent, nodePort, atomicNode};
+ghost use Rattle.pull_laws.specs.Tables.{firstAt, nextAt, sourceAt, nodePort};
 ghost use Rattle.pull_laws.specs.TableStep.{mayCome, isOpen, pulledBelow, pulledInto};
-ghost use Rattle.bag_keys.specs.Sent.{sentOn};
-ghost use Rattle.collect.specs.Turns.{pulledChild, pulledFrom};
+ghost use Rattle.collect.specs.Turns.{pulledFrom};
+
+mod outputs;
+
 use bag_keys::key_at;
 use bag_keys::put_given;
-use bag_keys::put_sent;
 use limits::MAX_ANCESTORS;
 use limits::MAX_COUPLINGS;
 use limits::PORT_COUNT;
 use little_endian::size16;
+use outputs::collect_coupled;
+use outputs::is_atomic;
+use outputs::put_output;
 use table_words::FIRST_AT;
-use table_words::KINDS_AT;
 use table_words::LIVE_AT;
 use table_words::NEXT_AT;
 use table_words::SOURCE_AT;
@@ -85,73 +88,6 @@ fn is_open(tables: &[u16], marks: &[u32], reached: &[u32], x: u32) -> bool
     ensures { λ r. ⌜ r ≡ isOpen [] (now (tables .entry)) (now (marks .entry)) (now (reached .entry)) x ⌝ }
 {
     (word_at(tables, LIVE_AT + size(x)) != 0) & may_come(marks, reached, x)
-}
-
-// The component of node y is an atomic.
-fn is_atomic(tables: &[u16], y: u32) -> bool
-    ensures { λ r. ⌜ r ≡ atomicNode (now (tables .entry)) y ⌝ }
-{
-    word_at(tables, KINDS_AT + size(y / PORT_NODES)) == 1
-}
-
-// What the atomic of output node y puts out there.
-fn put_output(phases: &[u8], marks: &[u32], own: u8, y: u32, buf: &mut [u32], at: usize) -> usize
-    ensures { λ r. ⌜ (now (buf .exit), r) ≡ puts own (sentOn (phasesIn (now (phases .entry))) (getD (now (marks .entry)) (nodeComponent y) 0) (nodePort y)) (now (buf .entry), at) ⌝ }
-{
-    let mark = key_at(marks, size(y / PORT_NODES));
-    put_sent(phases, mark, port_of(y), own, buf, at)
-}
-
-// What the coupled component of output node x puts out there, at most `depth` levels down.
-fn collect_coupled(
-    phases: &[u8],
-    tables: &[u16],
-    marks: &[u32],
-    reached: &[u32],
-    depth: usize,
-    own: u8,
-    x: u32,
-    buf: &mut [u32],
-    at: usize,
-) -> usize
-    ensures { λ r. ⌜ (now (buf .exit), r) ≡ puts own (pulledBelow (phasesIn (now (phases .entry))) (now (tables .entry)) (now (marks .entry)) (now (reached .entry)) depth x) (now (buf .entry), at) ⌝ }
-{
-    if depth == 0 {
-        return at;
-    }
-    if !is_open(tables, marks, reached, x) {
-        return at;
-    }
-    let mut next = at;
-    let mut left = MAX_COUPLINGS;
-    let mut link = first_link(tables, x);
-    while (0 < left) & (0 < link) {
-        let y = source_of(tables, link);
-        next = collect_child(phases, tables, marks, reached, depth - 1, own, y, buf, next);
-        link = next_link(tables, link);
-        left = left - 1;
-    }
-    next
-}
-
-// What the child of output node y puts out there.
-fn collect_child(
-    phases: &[u8],
-    tables: &[u16],
-    marks: &[u32],
-    reached: &[u32],
-    depth: usize,
-    own: u8,
-    y: u32,
-    buf: &mut [u32],
-    at: usize,
-) -> usize
-    ensures { λ r. ⌜ (now (buf .exit), r) ≡ puts own (pulledChild (phasesIn (now (phases .entry))) (now (tables .entry)) (now (marks .entry)) (now (reached .entry)) depth y) (now (buf .entry), at) ⌝ }
-{
-    if is_atomic(tables, y) {
-        return put_output(phases, marks, own, y, buf, at);
-    }
-    collect_coupled(phases, tables, marks, reached, depth, own, y, buf, at)
 }
 
 // What arrives at input node x, at most `depth` levels up.

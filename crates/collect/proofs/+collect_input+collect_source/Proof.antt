@@ -26,13 +26,13 @@ use Rattle.collect.proofs.collect_source.Reads as collect-source
 use Rattle.collect.proofs.collect_source.Kinds as collect-source-kinds
 use Rattle.collect.proofs.+collect_input+collect_source.Lts-collect_source as collect-source-lts
 use Rattle.bag_keys.proofs.put_given.Reads as put-given-reads
-use Rattle.collect.proofs.collect_coupled.Reads as collect-coupled-reads
+use Rattle.collect.proofs.outputs.collect_coupled.Reads as collect-coupled-reads
 use Rattle.collect.proofs.first_link.Reads as first-link-reads
-use Rattle.collect.proofs.is_atomic.Reads as is-atomic-reads
+use Rattle.collect.proofs.outputs.is_atomic.Reads as is-atomic-reads
 use Rattle.collect.proofs.is_open.Reads as is-open-reads
 use Rattle.collect.proofs.next_link.Reads as next-link-reads
 use Rattle.collect.proofs.port_of.Reads as port-of-reads
-use Rattle.collect.proofs.put_output.Reads as put-output-reads
+use Rattle.collect.proofs.outputs.put_output.Reads as put-output-reads
 use Rattle.collect.proofs.source_of.Reads as source-of-reads
 use Rattle.collect.proofs.+collect_input+collect_source.{statement}
 use Rattle.collect.proofs.+collect_input+collect_source.Tie.{close}

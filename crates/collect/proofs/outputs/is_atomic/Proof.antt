@@ -1,8 +1,8 @@
 -- The kind of the node's component, as the definition reads it.
 use borrow.Author.Needs.{needs}
 use Rattle.pull_laws.specs.Tables.{nodeComponent, atomicAt, atomicNode}
-use Rattle.collect.proofs.is_atomic.Statement.{statement}
-use Rattle.collect.proofs.is_atomic.Tie as tie
+use Rattle.collect.proofs.outputs.is_atomic.Statement.{statement}
+use Rattle.collect.proofs.outputs.is_atomic.Tie as tie
 
 size-requires : tie.Need-size-requires
 size-requires c κs = search needs

@@ -1,8 +1,8 @@
 -- The mark of the node's component and the node's port are what the definition names.
 use borrow.Author.Needs.{needs}
 use Rattle.pull_laws.specs.Tables.{nodeComponent}
-use Rattle.collect.proofs.put_output.Statement.{statement}
-use Rattle.collect.proofs.put_output.Tie as tie
+use Rattle.collect.proofs.outputs.put_output.Statement.{statement}
+use Rattle.collect.proofs.outputs.put_output.Tie as tie
 
 size-requires : tie.Need-size-requires
 size-requires c κs = search needs

@@ -17,20 +17,20 @@ use Rattle.collect.specs.Turns.{pulledChild}
 use Rattle.collect.proofs.Laws.{rowsFrom, both-left, chain-more, chain-end, coupled-open, coupled-shut, sent-by}
 use borrow.Fn.Kinds.{In}
 use borrow.Fn.PlainCycle.{Measures, is, falls, and}
-use Rattle.collect.proofs.collect_child.Reads as collect-child
-use Rattle.collect.proofs.collect_child.Kinds as collect-child-kinds
-use Rattle.collect.proofs.+collect_child+collect_coupled.Lts-collect_child as collect-child-lts
-use Rattle.collect.proofs.collect_coupled.Reads as collect-coupled
-use Rattle.collect.proofs.collect_coupled.Kinds as collect-coupled-kinds
-use Rattle.collect.proofs.+collect_child+collect_coupled.Lts-collect_coupled as collect-coupled-lts
+use Rattle.collect.proofs.outputs.collect_child.Reads as collect-child
+use Rattle.collect.proofs.outputs.collect_child.Kinds as collect-child-kinds
+use Rattle.collect.proofs.outputs.+collect_child+collect_coupled.Lts-collect_child as collect-child-lts
+use Rattle.collect.proofs.outputs.collect_coupled.Reads as collect-coupled
+use Rattle.collect.proofs.outputs.collect_coupled.Kinds as collect-coupled-kinds
+use Rattle.collect.proofs.outputs.+collect_child+collect_coupled.Lts-collect_coupled as collect-coupled-lts
 use Rattle.collect.proofs.first_link.Reads as first-link-reads
-use Rattle.collect.proofs.is_atomic.Reads as is-atomic-reads
+use Rattle.collect.proofs.outputs.is_atomic.Reads as is-atomic-reads
 use Rattle.collect.proofs.is_open.Reads as is-open-reads
 use Rattle.collect.proofs.next_link.Reads as next-link-reads
-use Rattle.collect.proofs.put_output.Reads as put-output-reads
+use Rattle.collect.proofs.outputs.put_output.Reads as put-output-reads
 use Rattle.collect.proofs.source_of.Reads as source-of-reads
-use Rattle.collect.proofs.+collect_child+collect_coupled.{statement}
-use Rattle.collect.proofs.+collect_child+collect_coupled.Tie.{close}
+use Rattle.collect.proofs.outputs.+collect_child+collect_coupled.{statement}
+use Rattle.collect.proofs.outputs.+collect_child+collect_coupled.Tie.{close}
 
 abbrev μ-collect-child : Measures 5 collect-child-kinds.ps ℕ
 μ-collect-child κs a = 2 * a .1 .1 .1 .1 .0 + 1

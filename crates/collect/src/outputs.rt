@@ -1,0 +1,95 @@
+// Output collection, by turns: a coupled component asks its children, and a child that is coupled is asked in the same way.
+ghost use mathlib.Core.Path.{_≡_};
+ghost use lib.ListN.{getD};
+ghost use Rattle.model_records.specs.Values.{phasesIn};
+ghost use Rattle.pull_laws.specs.Put.{puts};
+ghost use Rattle.pull_laws.specs.Tables.{nodeComponent, nodePort, atomicNode};
+ghost use Rattle.pull_laws.specs.TableStep.{pulledBelow};
+ghost use Rattle.bag_keys.specs.Sent.{sentOn};
+ghost use Rattle.collect.specs.Turns.{pulledChild};
+use super::PORT_NODES;
+use super::first_link;
+use super::is_open;
+use super::next_link;
+use super::port_of;
+use super::size;
+use super::source_of;
+use bag_keys::key_at;
+use bag_keys::put_sent;
+use limits::MAX_COUPLINGS;
+use table_words::KINDS_AT;
+use table_words::word_at;
+
+// The component of node y is an atomic.
+pub fn is_atomic(tables: &[u16], y: u32) -> bool
+    ensures { λ r. ⌜ r ≡ atomicNode (now (tables .entry)) y ⌝ }
+{
+    word_at(tables, KINDS_AT + size(y / PORT_NODES)) == 1
+}
+
+// What the atomic of output node y puts out there.
+pub fn put_output(
+    phases: &[u8],
+    marks: &[u32],
+    own: u8,
+    y: u32,
+    buf: &mut [u32],
+    at: usize,
+) -> usize
+    ensures { λ r. ⌜ (now (buf .exit), r) ≡ puts own (sentOn (phasesIn (now (phases .entry))) (getD (now (marks .entry)) (nodeComponent y) 0) (nodePort y)) (now (buf .entry), at) ⌝ }
+{
+    let mark = key_at(marks, size(y / PORT_NODES));
+    put_sent(phases, mark, port_of(y), own, buf, at)
+}
+
+// What the coupled component of output node x puts out there, at most `depth` levels down.
+pub fn collect_coupled(
+    phases: &[u8],
+    tables: &[u16],
+    marks: &[u32],
+    reached: &[u32],
+    depth: usize,
+    own: u8,
+    x: u32,
+    buf: &mut [u32],
+    at: usize,
+) -> usize
+    ensures { λ r. ⌜ (now (buf .exit), r) ≡ puts own (pulledBelow (phasesIn (now (phases .entry))) (now (tables .entry)) (now (marks .entry)) (now (reached .entry)) depth x) (now (buf .entry), at) ⌝ }
+{
+    if depth == 0 {
+        return at;
+    }
+    if !is_open(tables, marks, reached, x) {
+        return at;
+    }
+    let mut next = at;
+    let mut left = MAX_COUPLINGS;
+    let mut link = first_link(tables, x);
+    while (0 < left) & (0 < link) {
+        let y = source_of(tables, link);
+        next = collect_child(phases, tables, marks, reached, depth - 1, own, y, buf, next);
+        link = next_link(tables, link);
+        left = left - 1;
+    }
+    next
+}
+
+// What the child of output node y puts out there.
+fn collect_child(
+    phases: &[u8],
+    tables: &[u16],
+    marks: &[u32],
+    reached: &[u32],
+    depth: usize,
+    own: u8,
+    y: u32,
+    buf: &mut [u32],
+    at: usize,
+) -> usize
+    ensures { λ r. ⌜ (now (buf .exit), r) ≡ puts own (pulledChild (phasesIn (now (phases .entry))) (now (tables .entry)) (now (marks .entry)) (now (reached .entry)) depth y) (now (buf .entry), at) ⌝ }
+{
+    if is_atomic(tables, y) {
+        return put_output(phases, marks, own, y, buf, at);
+    }
+    collect_coupled(phases, tables, marks, reached, depth, own, y, buf, at)
+}
