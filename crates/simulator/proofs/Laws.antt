@@ -1,12 +1,12 @@
 -- What the buffers hold after a bag was pulled and after it was sorted; one atomic more. Assumes nothing.
 use mathlib.Core.Path.{_≡_, refl, sym, ap, _∙_, subst}
-use mathlib.Core.List.{List, [], _++_, map}
+use mathlib.Core.List.{List, [], _∷_, _++_, map}
 use Prim.Native.Nat.{ℕ, suc, _+_, _-_, _≤_, _<_, min}
 use native.Mathlib.Omega.{arith}
-use lib.Dec.{leb}
+use lib.Dec.{leb, eqb}
 use lib.ListN.{length, take, drop, getD, set, replicate, length-map, length-take}
 use lib.Seq.{take-at, length-take-le}
-use mathlib.Core.Bool.{cond}
+use mathlib.Core.Bool.{true, cond, _&&_, not}
 use Rattle.definition.specs.Lists.{isEmpty, sortBy}
 use Rattle.definition.specs.Limits.{maxComponents, maxAncestors, portCount}
 use Rattle.definition.specs.Model.{Bag, Phase, Rule, messageLe}
@@ -19,6 +19,7 @@ use Rattle.pull_laws.specs.Put.{messageOf, putPorts, keysOf}
 use Rattle.definition.specs.Step.{Stepped}
 use Rattle.pull_laws.specs.Tables.{numbersAt, countAt}
 use Rattle.pull_laws.specs.TableStep.{isUp, marked, raised, marks, reachedFrom, reached, pulledInto, pulledBelow, keysInto, rootKeys, rootRoom, changedBy, changedFrom, tableStep}
+use Rattle.collect.proofs.Laws.{unreached}
 use Rattle.marks.proofs.Laws.{flags-any}
 use Rattle.pull_laws.proofs.Putting.{Front, bag-front}
 
@@ -30,6 +31,13 @@ module _ (ps : List Phase) (t es fs : List ℕ) where
   into-held x c b d k e =
       let f : ℕ → List ℕ = λ q. pulledInto ps t es fs x maxAncestors (inputNode c q) in
       subst (λ (st : List ℕ × ℕ). Front (length b) st (keysOf f portCount 0)) (sym e) (bag-front f portCount 0 b)
+
+  -- a component that nothing may reach has no bag
+  pub keys-unreached : (x : Bag) (c : ℕ) → (not (eqb c 0) && eqb (getD fs c 0) 0) ≡ true → length (keysInto ps t es fs x c) ≡ 0
+  keys-unreached x c h =
+      let b : List ℕ = 0 ∷ [] in
+      let f = into-held x c b b 0 (sym (unreached ps t es fs x maxAncestors c portCount 0 (b, 0) h (omega arith))) in
+      omega (arith, f .position)
 
   -- the root's output bag in a buffer
   pub root-held : (b d : List ℕ) (k : ℕ) → (d, k) ≡ putPorts (λ q. pulledBelow ps t es fs maxAncestors (outputNode 0 q)) portCount 0 (b, 0)

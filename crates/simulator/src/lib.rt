@@ -2,6 +2,8 @@
 // root's output bag is pulled and sorted. Work buffers are lent from the call.
 ghost use mathlib.Core.Path.{_≡_};
 ghost use mathlib.Core.List.{map};
+ghost use mathlib.Core.Bool.{_&&_, not};
+ghost use lib.Dec.{eqb};
 ghost use Prim.Native.Nat.{_≤_, min};
 ghost use lib.ListN.{getD, length, take};
 ghost use Rattle.definition.specs.Lists.{sortBy};
@@ -22,6 +24,14 @@ use limits::MAX_COMPONENTS;
 use little_endian::size16;
 use table_words::NUMBERS_AT;
 
+// Nothing of component c changes: it is not due, and nothing may reach it. What is given reaches the root whatever its flag.
+fn is_still(marks: &[u32], reached: &[u32], c: u16) -> bool
+    ensures { λ r. ⌜ r ≡ (eqb (getD (now (marks .entry)) c 0) 0 && (not (eqb c 0) && eqb (getD (now (reached .entry)) c 0) 0)) ⌝ }
+{
+    let at = size16(c);
+    (key_at(marks, at) == 0) & ((c != 0) & (key_at(reached, at) == 0))
+}
+
 // The atomic at position i: its bag is pulled into `work`, and it changes.
 fn change_one(
     phases: &[u8],
@@ -39,6 +49,9 @@ fn change_one(
 )
     ensures { λ _. ⌜ held (now (phase .exit)) (now (last .exit)) ≡ changedBy (phasesIn (now (phases .entry))) (now (tables .entry)) (rulesIn (now (rules .entry))) (at .0) (held (now (phase .entry)) (now (last .entry))) i c (isUp (now (marks .entry)) c) (map messageOf (take (length (now (work .entry))) (keysInto (phasesIn (now (phases .entry))) (now (tables .entry)) (now (marks .entry)) (now (reached .entry)) (toBag (now (given .entry))) c))) ⌝ }
 {
+    if is_still(marks, reached, c) {
+        return;
+    }
     let k = collect_bag(phases, tables, marks, reached, given, c, work);
     let due = key_at(marks, size16(c)) != 0;
     let bag = &work[..k];

@@ -1,13 +1,18 @@
 -- What `collect_bag` leaves at the front of the buffer is the bag, as much as has room; the transition is the definition's with it.
 use borrow.Author.Needs.{needs}
 use native.Mathlib.Omega.{arith}
-use Rattle.simulator.proofs.Laws.{into-held}
+use Rattle.simulator.proofs.Laws.{into-held, keys-unreached}
 use Rattle.definition.specs.Engine.{toBag}
-use Rattle.model_records.specs.Values.{phasesIn}
-use Rattle.pull_laws.specs.TableStep.{isUp}
+use Rattle.model_records.specs.Values.{phasesIn, rulesIn}
+use Rattle.pull_laws.specs.TableStep.{isUp, keysInto}
 use denote.Ref.{now}
 use lib.Seq.{length-take-le}
-use mathlib.Core.Path.{sym}
+use mathlib.Core.Path.{_≡_, _∙_, sym}
+use lib.Dec.{eqb}
+use lib.ListN.{length, take, getD, length-take}
+use Rattle.laws.proofs.Sorting.{and-left, and-right}
+use Rattle.run_state.specs.Held.{held}
+use Rattle.transitions.proofs.Laws.{still-case}
 use Rattle.simulator.proofs.change_one.Statement.{statement}
 use Rattle.simulator.proofs.change_one.Tie as tie
 use Rattle.simulator.proofs.change_one.Reads as reads
@@ -18,6 +23,18 @@ use Rattle.little_endian.proofs.size16.Reads as size16-reads
 use Rattle.transitions.proofs.transition.Reads as transition-reads
 
 -- src/lib.rt:42:9
+is-still-requires : tie.Need-is-still-requires
+is-still-requires c κs = search needs
+
+returns : tie.Need-returns
+unfolding isUp
+returns c =
+    let a = c .before .before .before .before .before .before .before .before .before .before .before .args in
+    let h = sym (c .before .is-still .ensures) ∙ c .if1 .taken in
+    let keys = keysInto (phasesIn (now (a .phases))) (now (a .tables)) (now (a .marks)) (now (a .reached)) (toBag (now (a .given))) (a .c) in
+    let none : length (take (length (now (a .work))) keys) ≡ 0 = omega (arith, length-take (length (now (a .work))) keys, keys-unreached (phasesIn (now (a .phases))) (now (a .tables)) (now (a .marks)) (now (a .reached)) (toBag (now (a .given))) (a .c) (and-right (eqb (getD (now (a .marks)) (a .c) 0) 0) _ h)) in
+    rw (and-left (eqb (getD (now (a .marks)) (a .c) 0) 0) _ h) (still-case (phasesIn (now (a .phases))) (now (a .tables)) (rulesIn (now (a .rules))) (a .at .0) (held (now (a .phase)) (now (a .last))) (a .i) (a .c) (take (length (now (a .work))) keys) none)
+
 collect-bag-requires : tie.Need-collect-bag-requires
 collect-bag-requires c κs = search needs
 
@@ -32,7 +49,7 @@ key-at-requires c κs = search needs
 -- src/lib.rt:44:15
 slice-reshare-prefix-bag : tie.Need-slice-reshare-prefix-bag
 slice-reshare-prefix-bag c =
-    let a = c .before .before .before .before .before .before .before .before .before .before .before .before .before .before .before .args in
+    let a = c .before .before .before .before .before .before .before .before .before .before .before .before .before .before .before .before .before .args in
     let m = c .before .before .before .before .collect-bag in
     let f = into-held (phasesIn (now (a .phases))) (now (a .tables)) (now (a .marks)) (now (a .reached)) (toBag (now (a .given))) (a .c) (now (a .work)) (m .last .1 .1 .1 .1 .1 .1 .0) (m .result) (m .ensures) in
     omega (arith, f .position, f .size)
@@ -40,7 +57,7 @@ slice-reshare-prefix-bag c =
 -- src/lib.rt:44:9
 slice-aggregate-bag : tie.Need-slice-aggregate-bag
 slice-aggregate-bag c =
-    let a = c .before .before .before .before .before .before .before .before .before .before .before .before .before .before .before .before .args in
+    let a = c .before .before .before .before .before .before .before .before .before .before .before .before .before .before .before .before .before .before .args in
     let m = c .before .before .before .before .before .collect-bag in
     let f = into-held (phasesIn (now (a .phases))) (now (a .tables)) (now (a .marks)) (now (a .reached)) (toBag (now (a .given))) (a .c) (now (a .work)) (m .last .1 .1 .1 .1 .1 .1 .0) (m .result) (m .ensures) in
     sym (length-take-le (m .result) (m .last .1 .1 .1 .1 .1 .1 .0) (omega (arith, f .position, f .size)))
@@ -62,10 +79,10 @@ same-length-3 : tie.Need-same-length-3
 same-length-3 c = search needs
 
 -- src/lib.rt:26:1
-returns : tie.Need-returns
+returns-2 : tie.Need-returns-2
 unfolding isUp
-returns c =
-    let a = c .before .before .before .before .before .before .before .before .before .before .before .before .before .before .before .before .before .before .before .before .before .before .before .args in
+returns-2 c =
+    let a = c .before .before .before .before .before .before .before .before .before .before .before .before .before .before .before .before .before .before .before .before .before .before .before .before .before .args in
     let m = c .before .before .before .before .before .before .before .before .before .before .before .before .collect-bag in
     let f = into-held (phasesIn (now (a .phases))) (now (a .tables)) (now (a .marks)) (now (a .reached)) (toBag (now (a .given))) (a .c) (now (a .work)) (m .last .1 .1 .1 .1 .1 .1 .0) (m .result) (m .ensures) in
     rw (c .before .before .before .before .before .before .before .before .key-at .ensures, c .before .before .before .before .before .before .before .before .before .size16 .ensures, f .held) at (c .before .before .before .before .transition .ensures)
@@ -74,6 +91,8 @@ pub change-one-spec : {M : Type 1} → statement M
 change-one-spec =
     tie.close
     (tie.spec
+    is-still-requires
+    returns
     collect-bag-requires
     size16-requires
     key-at-requires
@@ -83,4 +102,4 @@ change-one-spec =
     same-length
     same-length-2
     same-length-3
-    returns)
+    returns-2)
