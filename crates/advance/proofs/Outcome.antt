@@ -13,11 +13,12 @@ use Rattle.definition.specs.Step.{Simulator}
 use Rattle.definition.specs.Advance.{Progress, Ended, ended, advancing, advanceFrom}
 use Rattle.definition.specs.Engine.{Advanced, advanced}
 use Rattle.run_state.specs.declared.State.{State}
+use Rattle.run_state.specs.Held.{heldEnd}
 use Rattle.saved_run.specs.Runs.{runIn}
 use Rattle.attempt.specs.Progress.{progressOf, Beyond}
 use Rattle.attempt.specs.declared.Going.{Going}
 use Rattle.attempt.specs.declared.Ending.{Ending}
-use Rattle.advance.specs.Ends.{endedOf, savedEnd, outcomeOf}
+use Rattle.advance.specs.Ends.{endedOf, outcomeOf}
 
 -- The trace with its records in front.
 trace-stored : (used : ℕ) (trace₀ trace : Bytes) → Beyond trace₀ trace used → stored (take used trace) trace₀ ≡ trace
@@ -27,10 +28,10 @@ trace-stored used trace₀ trace b =
     rw l (ap (λ r. take used trace ++ r) (sym (b .2)) ∙ take-append-drop used trace)
 
 fields : (n : ℕ) (run₀ trace₀ trace : Bytes) (e : Ending) → Beyond trace₀ trace (e .going .used)
-    → advanced run₀ trace₀ (ok (savedEnd n (endedOf trace e)))
+    → advanced run₀ trace₀ (ok (heldEnd n (endedOf trace e)))
     ≡ outcomeOf (stored (runBytes (runIn (e .going .opening .0) n (e .going .state))) run₀) trace
     (record { number = e .number; instants = e .going .instants; steps = e .going .steps; used = e .going .used })
-unfolding advanced savedEnd ended progressOf runIn
+unfolding advanced heldEnd ended progressOf runIn
 fields n run₀ trace₀ trace e b =
     let l : length (take (e .going .used) trace) ≡ e .going .used = length-take-le (e .going .used) trace (omega (arith, b .0, b .1)) in
     rw (trace-stored (e .going .used) trace₀ trace b, l)
@@ -39,9 +40,9 @@ fields n run₀ trace₀ trace e b =
 pub outcome : (n : ℕ) (run₀ run trace₀ trace : Bytes) (e : Ending) (a : Ended State) → endedOf trace e ≡ a → Beyond trace₀ trace (e .going .used)
     → run ≡ stored (runBytes (runIn (e .going .opening .0) n (e .going .state))) run₀
     → outcomeOf run trace (record { number = e .number; instants = e .going .instants; steps = e .going .steps; used = e .going .used })
-    ≡ advanced run₀ trace₀ (ok (savedEnd n a))
+    ≡ advanced run₀ trace₀ (ok (heldEnd n a))
 outcome n run₀ run trace₀ trace e a q b r =
-    rw r (sym (ap (λ z. advanced run₀ trace₀ (ok (savedEnd n z))) (sym q) ∙ fields n run₀ trace₀ trace e b))
+    rw r (sym (ap (λ z. advanced run₀ trace₀ (ok (heldEnd n z))) (sym q) ∙ fields n run₀ trace₀ trace e b))
 
 -- A call begins with nothing done.
 pub begins : (k : Simulator State) (room t : ℕ) (x : Bag) (trace : Bytes) (g : Going) → g .instants ≡ 0 → g .steps ≡ 0 → g .used ≡ 0

@@ -10,9 +10,10 @@ ghost use Rattle.definition.specs.SavedRun.{runLength};
 ghost use Rattle.definition.specs.Advance.{isBefore, moment, advancing, advanceFrom};
 ghost use Rattle.definition.specs.Engine.{toBag, advanced};
 ghost use Rattle.clock.specs.Times.{timeOf, latest};
+ghost use Rattle.run_state.specs.Held.{heldEnd};
 ghost use Rattle.instant.specs.Sim.{simOf, Lent};
 ghost use Rattle.attempt.specs.Progress.{progressOf, Beyond};
-ghost use Rattle.advance.specs.Ends.{endedOf, finishedOf, savedEnd, outcomeOf};
+ghost use Rattle.advance.specs.Ends.{endedOf, finishedOf, outcomeOf};
 use attempt::Ending;
 use attempt::Going;
 use attempt::attempt;
@@ -160,7 +161,7 @@ pub fn advance_from(
 ) -> Answer
     requires { ⌜ Lent (length (now work)) (length (now keys)) × (t .0 ≤ maxMoment) × (n ≤ maxComponents) × (runLength n ≤ length (now run)) ⌝ }
     ensures { λ r. ⌜ outcomeOf (now (run .exit)) (now (trace .exit)) r ≡ advanced (now (run .entry)) (now (trace .entry))
-        (ok (savedEnd n (advanceFrom (simOf (now (phases .entry)) (now (rules .entry)) (now (tables .entry)) n (length (now (work .entry))))
+        (ok (heldEnd n (advanceFrom (simOf (now (phases .entry)) (now (rules .entry)) (now (tables .entry)) n (length (now (work .entry))))
         (opening .0) st (length (now (trace .entry))) (t .0) (toBag (now (bag .entry)))))) ⌝ }
 {
     let from = Going {

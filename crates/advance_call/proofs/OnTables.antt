@@ -14,10 +14,10 @@ use Rattle.definition.specs.Engine.{advanceChecks, advanced, advance, toBag}
 use Rattle.model_laws.proofs.Sound.{Accepted}
 use Rattle.model_laws.proofs.Reading.{accepted-sound}
 use Rattle.run_state.specs.declared.State.{State}
-use Rattle.run_state.specs.Held.{entriesOf}
+use Rattle.run_state.specs.Held.{entriesOf, heldEnd}
 use Rattle.pull_laws.specs.TableStep.{tableSim}
 use Rattle.pull_laws.specs.Tabled.{Tabled}
-use Rattle.table_laws.proofs.Calls.{heldEnd, advance-on-tables}
+use Rattle.table_laws.proofs.Calls.{advance-on-tables}
 use Rattle.advance_call.proofs.Checks.{advance-is}
 
 pub call-on-tables : (file run : Bytes) (t : ℕ) (bag trace : Bytes) (m : Model) → AllBytes file → AllBytes bag → ok m ≡ accepted file → advanceChecks m run t bag ≡ ok tt

@@ -21,13 +21,12 @@ use Rattle.model_records.specs.Values.{componentsIn, rulesIn, couplingsIn, mode
 use Rattle.model.specs.Checked.{modelOf, componentsPart, phasesPart, rulesPart, couplingsPart}
 use Rattle.model.specs.declared.Counts.{Counts}
 use Rattle.run_state.specs.declared.State.{State}
-use Rattle.run_state.specs.Held.{entriesOf}
+use Rattle.run_state.specs.Held.{entriesOf, heldEnd}
 use Rattle.pull_laws.specs.Tables.{tableSize}
 use Rattle.tables.specs.Filled.{filled}
 use Rattle.tables.proofs.Tables.{tables-hold}
-use Rattle.table_laws.proofs.Calls.{heldEnd, atomics-few}
+use Rattle.table_laws.proofs.Calls.{atomics-few}
 use Rattle.instant.specs.Sim.{simOf}
-use Rattle.advance.specs.Ends.{savedEnd}
 use Rattle.run_calls.proofs.Starts.{all-bytes}
 use Rattle.advance_call.proofs.OnTables.{call-on-tables}
 
@@ -66,11 +65,11 @@ module _ (file : Bytes) (n : Counts) (bytes : (i : ℕ) → getD file i 0 < 256)
       → (count : ℕ) → count ≡ length (atomics (modelOf file n .components)) → (st : State) → entriesOf count st ≡ toRun count run .entries
       → length (st .phase) ≡ maxComponents → length (st .last) ≡ maxComponents
       → (blank : List ℕ) → length blank ≡ tableSize → (room : ℕ) → maxGiven * length (routes (modelOf file n)) ≤ room
-      → advanced run trace (ok (savedEnd count (advanceFrom
+      → advanced run trace (ok (heldEnd count (advanceFrom
       (simOf (phasesPart file n) (rulesPart file n) (filled (componentsIn (componentsPart file n)) (rulesIn (rulesPart file n)) (couplingsIn (couplingsPart file n)) blank) count room)
       (number 8 0 run) st (length trace) t (toBag bag))))
       ≡ advance file run t bag trace
-  unfolding modelOf modelIn runOf toRun atomicCount savedEnd heldEnd ended
+  unfolding modelOf modelIn runOf toRun atomicCount heldEnd
   call-whole run t bag trace given c count e st same phases lasts blank long room enough =
       let m = modelOf file n in
       let w = accepted-sound file m (all-bytes file bytes) (sym told) .sound in
@@ -86,6 +85,6 @@ module _ (file : Bytes) (n : Counts) (bytes : (i : ℕ) → getD file i 0 < 256)
       → (blank : List ℕ) → length blank ≡ tableSize → (room : ℕ) → maxGiven * length (routes (modelOf file n)) ≤ room
       → (ps rs : Bytes) (tables : List ℕ) (opening : ℕ) → ps ≡ phasesPart file n → rs ≡ rulesPart file n
       → tables ≡ filled (componentsIn (componentsPart file n)) (rulesIn (rulesPart file n)) (couplingsIn (couplingsPart file n)) blank → opening ≡ number 8 0 run
-      → advanced run trace (ok (savedEnd count (advanceFrom (simOf ps rs tables count room) opening st (length trace) t (toBag bag)))) ≡ advance file run t bag trace
+      → advanced run trace (ok (heldEnd count (advanceFrom (simOf ps rs tables count room) opening st (length trace) t (toBag bag)))) ≡ advance file run t bag trace
   call-parts run t bag trace given c count e st same phases lasts blank long room enough ps rs tables opening p q r o =
       rw (p, q, r, o) (call-whole run t bag trace given c count e st same phases lasts blank long room enough)

@@ -9,7 +9,7 @@ ghost use Rattle.definition.specs.Lists.{count};
 ghost use Rattle.definition.specs.Model.{noRule};
 ghost use Rattle.definition.specs.Atomic.{withinElapsed, meets, holds};
 ghost use Rattle.model_records.specs.Values.{ruleOf, rulesIn};
-ghost use Rattle.pull_laws.specs.Put.{messageOf};
+ghost use Rattle.laws.specs.Keys.{messageOf};
 ghost use Rattle.pull_laws.specs.TableStep.{decidingIn};
 ghost use Rattle.deciding.specs.Search.{foundOf, headOf, between};
 use clock::Stay;

@@ -30,7 +30,8 @@ use Rattle.nest_laws.proofs.Carry.{root-hits, carry, carry-root, carry-atomic}
 use Rattle.nest_laws.proofs.Renumber.{isListed}
 use Rattle.flat_laws.proofs.FlatComponents.{listed-cases}
 use Rattle.flat_laws.proofs.RouteEnds.{routeFits, routes-fit, route-parts}
-use Rattle.pull_laws.specs.Put.{messageOf, valuesOn}
+use Rattle.laws.specs.Keys.{messageOf}
+use Rattle.pull_laws.specs.Put.{valuesOn}
 use Rattle.pull_laws.specs.Tables.{inputNode, outputNode}
 use Rattle.pull_laws.specs.TableStep.{keysInto, rootKeys}
 use Rattle.pull_laws.specs.Tabled.{Tabled}

@@ -16,7 +16,8 @@ use Rattle.laws.proofs.Sorting.{clash, and-left, and-right}
 use Rattle.laws.proofs.Lists.{all-and, all-if}
 use Rattle.model_laws.proofs.Sound.{Sound}
 use Rattle.pull_laws.specs.Pull.{coupledOut, inputIn}
-use Rattle.pull_laws.specs.Put.{keyOf, keysOf, valuesOn}
+use Rattle.laws.specs.Keys.{keyOf}
+use Rattle.pull_laws.specs.Put.{keysOf, valuesOn}
 use Rattle.pull_laws.specs.Tables.{inputNode, outputNode, nodePort, isOutput, isRootNode, chainRows, atomicNode}
 use Rattle.pull_laws.specs.TableStep.{anyOf, isUp, mayCome, isOpen, openRows, sentBy, givenBy, keysInto, rootKeys}
 use Rattle.pull_laws.specs.Tabled.{Tabled, isLive, mayLead}

@@ -24,12 +24,12 @@ use Rattle.nest_laws.proofs.Components.{atomics-atomic}
 use Rattle.nest_laws.proofs.Renumber.{new-root, new-atomic, distinct-atomics, all-at}
 use Rattle.flat_laws.proofs.FlatComponents.{new-byte}
 use Rattle.flat_laws.proofs.RouteEnds.{routeFits, routes-fit, route-parts}
-use Rattle.pull_laws.specs.Put.{valueRange, messageOf}
+use Rattle.laws.specs.Keys.{valueRange, messageOf}
 use Rattle.pull_laws.specs.Tables.{portNodes, inputNode, outputNode, nodeComponent, nodePort, numbersAt}
 use Rattle.pull_laws.specs.TableStep.{keysInto, rootKeys}
 use Rattle.pull_laws.specs.Tabled.{Tabled}
 use Rattle.pull_laws.proofs.Positions.{place-of}
-use Rattle.sort.specs.Keys.{couplingOf}
+use Rattle.laws.specs.Keys.{couplingOf}
 use Rattle.sort.proofs.Keys.{sort-couplings}
 use Rattle.flat_ranks.specs.Ranks.{rankOf}
 use Rattle.flat_ranks.proofs.Ranks.{rank-is}

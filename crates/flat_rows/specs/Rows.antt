@@ -4,7 +4,7 @@ use Prim.Native.Nat.{ℕ, zero, suc, _+_, _*_, _/_, _%_}
 use mathlib.Core.List.{List, [], _++_, map}
 use lib.ListN.{getD}
 use Rattle.definition.specs.Model.{Bag, Phase}
-use Rattle.pull_laws.specs.Put.{valueRange}
+use Rattle.laws.specs.Keys.{valueRange}
 use Rattle.pull_laws.specs.Tables.{nodeComponent, nodePort, numbersAt}
 use Rattle.pull_laws.specs.TableStep.{keysInto, rootKeys}
 use Rattle.flat_ranks.specs.Ranks.{rankOf}

@@ -17,7 +17,7 @@ use Rattle.model_laws.proofs.Sound.{Sound, rules-fit}
 use Rattle.nest_laws.proofs.Renumber.{listed-atomic}
 use Rattle.pull_laws.specs.Tables.{numbersAt}
 use Rattle.pull_laws.specs.Tabled.{Tabled}
-use Rattle.sort.specs.Keys.{couplingOf}
+use Rattle.laws.specs.Keys.{couplingOf}
 use Rattle.flat_ranks.specs.Ranks.{rankOf}
 use Rattle.flat_ranks.proofs.Ranks.{rank-is}
 use Rattle.flat_writer.specs.Written.{numbersIn, underRoot, atomicsBy, componentsBy, ruleBy, flatBy}

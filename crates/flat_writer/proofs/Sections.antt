@@ -21,7 +21,7 @@ use Rattle.pull_laws.specs.Tables.{numbersAt}
 use Rattle.pull_laws.proofs.Positions.{getD-up}
 use Rattle.store_laws.proofs.Stores.{sets-append, sets-front}
 use Rattle.flat_ranks.specs.Ranks.{rankOf}
-use Rattle.sort.specs.Keys.{couplingOf}
+use Rattle.laws.specs.Keys.{couplingOf}
 use Rattle.flat_writer.specs.Written.{numbersIn, underRoot, atomicsBy, componentsBy, ruleBy, flatBy}
 use Rattle.flat_writer.proofs.Pieces.{records-more, records-none, phases-copied, rule-copied, length-component, length-phase, length-rule, length-coupling}
 

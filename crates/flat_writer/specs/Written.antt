@@ -6,7 +6,7 @@ use lib.ListN.{getD}
 use Rattle.definition.specs.Lists.{upFrom}
 use Rattle.definition.specs.Model.{Component, Phase, Rule, Model, noComponent, componentAt}
 use Rattle.pull_laws.specs.Tables.{numbersAt}
-use Rattle.sort.specs.Keys.{couplingOf}
+use Rattle.laws.specs.Keys.{couplingOf}
 use Rattle.flat_ranks.specs.Ranks.{rankOf}
 
 -- The component numbers of n atomics, by position.

@@ -10,7 +10,7 @@ ghost use Rattle.definition.specs.Limits.{maxPhases, maxRules, maxRoutes, ruleS
 ghost use Rattle.definition.specs.Records.{componentBytes, phaseBytes, toRule, ruleBytes, couplingBytes};
 ghost use Rattle.definition.specs.File.{sectionBytes, modelBytes};
 ghost use Rattle.model_records.specs.Values.{componentOf, componentsIn, phasesIn, rulesIn};
-ghost use Rattle.sort.specs.Keys.{couplingOf};
+ghost use Rattle.laws.specs.Keys.{couplingOf};
 ghost use Rattle.flat_writer.specs.Written.{underRoot, atomicsBy, componentsBy, ruleBy, flatBy};
 use flat_ranks::rank_of;
 use limits::COMPONENT_SIZE;

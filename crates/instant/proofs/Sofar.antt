@@ -19,7 +19,7 @@ use Rattle.definition.specs.Engine.{toBag}
 use Rattle.laws.proofs.Sorting.{clash}
 use Rattle.clock.specs.declared.Due.{Due}
 use Rattle.run_state.specs.declared.State.{State}
-use Rattle.pull_laws.specs.Put.{messageOf}
+use Rattle.laws.specs.Keys.{messageOf}
 use Rattle.trace_records.specs.Written.{stepBytes, stepSize, stepPut}
 use Rattle.trace_records.proofs.Records.{length-step}
 use Rattle.store_laws.proofs.Stores.{sets-append}

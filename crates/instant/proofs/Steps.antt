@@ -20,7 +20,7 @@ use Rattle.definition.specs.Instant.{Instant, done, jammed, stepped, isDue, goe
 use Rattle.definition.specs.Engine.{toBag}
 use Rattle.laws.proofs.Lists.{sort-permutes, length-perm}
 use Rattle.run_state.specs.declared.State.{State}
-use Rattle.pull_laws.specs.Put.{messageOf}
+use Rattle.laws.specs.Keys.{messageOf}
 use Rattle.trace_records.specs.Written.{recordOf, stepBytes, stepSize, stepPut}
 use Rattle.trace_records.proofs.Records.{length-step}
 use Rattle.store_laws.proofs.Stores.{sets-append}

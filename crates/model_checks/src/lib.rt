@@ -6,7 +6,7 @@ ghost use Rattle.definition.specs.Bytes.{numberOf};
 ghost use Rattle.definition.specs.Model.{noPhase, noRule, noCoupling, componentAt, messageLe, couplingLe};
 ghost use Rattle.definition.specs.Records.{coupledFields, atomicFields, kindFields, rootWithin, componentFits, usedFit, unusedFit, phaseFields, ruleFields, related, couplingFields, notFalling, couplingFits};
 ghost use Rattle.model_records.specs.Values.{componentOf, phaseOf, ruleOf, couplingOf, componentsIn, phasesIn, rulesIn, couplingsIn};
-ghost use Rattle.sort.specs.Keys.{messageOf};
+ghost use Rattle.laws.specs.Keys.{messageOf};
 ghost use Rattle.model_checks.specs.Reads.{rowOf, checked, componentRead, phaseRead, ruleRead, couplingRead};
 use limits::MAX_ADVANCE;
 use limits::MAX_ANCESTORS;

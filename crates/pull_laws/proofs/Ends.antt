@@ -15,7 +15,8 @@ use Rattle.definition.specs.SavedRun.{Entry}
 use Rattle.model_laws.proofs.Sound.{Sound, couplings-fit}
 use Rattle.nest_laws.proofs.Components.{atomic-below, rooted, near-root, partsOfRoot, root, shape}
 use Rattle.nest_laws.proofs.Nest.{Fresh, Ready, ReadyAll, outTo, bagAt}
-use Rattle.pull_laws.specs.Put.{messageOf, keysOf}
+use Rattle.laws.specs.Keys.{messageOf}
+use Rattle.pull_laws.specs.Put.{keysOf}
 use Rattle.route_laws.proofs.Placed.{coupled-parents}
 use Rattle.route_laws.proofs.Placed as P
 use Rattle.route_laws.specs.Ways.{Rising, sub}

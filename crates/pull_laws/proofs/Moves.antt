@@ -16,7 +16,7 @@ use Rattle.definition.specs.FlatMachine.{moved}
 use Rattle.model_laws.proofs.Sound.{Sound}
 use Rattle.run_state.specs.declared.State.{State}
 use Rattle.run_state.specs.Held.{changedAt}
-use Rattle.pull_laws.specs.Put.{messageOf}
+use Rattle.laws.specs.Keys.{messageOf}
 use Rattle.pull_laws.specs.Tables.{numbersAt}
 use Rattle.pull_laws.specs.TableStep.{isUp, keysInto, changedBy, changedFrom}
 use Rattle.pull_laws.specs.Tabled.{Tabled}

@@ -9,7 +9,8 @@ use lib.Dec.{ltb}
 use lib.ListN.{length, set, take, length-set, length-append}
 use lib.Seq.{set-out, take-all, take-nil, take-append-le, take-suc-set}
 use borrow.Author.Tests.{ltb-true, ltb-false}
-use Rattle.pull_laws.specs.Put.{keyOf, put1, puts, putPorts, keysOf}
+use Rattle.laws.specs.Keys.{keyOf}
+use Rattle.pull_laws.specs.Put.{put1, puts, putPorts, keysOf}
 
 -- A buffer of so much room after the keys ks: the position, and what stands before it.
 pub record Front (room : ℕ) (st : List ℕ × ℕ) (ks : List ℕ) : Type 0 where

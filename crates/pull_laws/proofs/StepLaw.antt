@@ -32,7 +32,7 @@ use Rattle.nest_laws.proofs.Capacity.{atomic-bag, root-bag}
 use Rattle.clock.specs.Times.{latest}
 use Rattle.run_state.specs.declared.State.{State}
 use Rattle.run_state.specs.Held.{entriesOf}
-use Rattle.pull_laws.specs.Put.{messageOf}
+use Rattle.laws.specs.Keys.{messageOf}
 use Rattle.pull_laws.specs.Tables.{numbersAt}
 use Rattle.pull_laws.specs.TableStep.{isUp, keysInto, rootKeys, rootRoom, tableStep}
 use Rattle.pull_laws.specs.Tabled.{Tabled}

@@ -16,7 +16,8 @@ use Rattle.nest_laws.proofs.Nest.{due, outOf, outDue}
 use Rattle.clock.specs.Times.{latest}
 use Rattle.run_state.specs.declared.State.{State}
 use Rattle.pull_laws.specs.Pull.{coupledOut, inputIn}
-use Rattle.pull_laws.specs.Put.{keyOf, keysOf, valuesOn}
+use Rattle.laws.specs.Keys.{keyOf}
+use Rattle.pull_laws.specs.Put.{keysOf, valuesOn}
 use Rattle.route_laws.specs.Nodes.{inputNode, outputNode}
 use Rattle.pull_laws.specs.Tables.{nodePort, isOutput, isRootNode, chainRows, atomicNode}
 use Rattle.pull_laws.specs.TableStep.{isOpen, openRows, sentBy, givenBy, keysInto, rootKeys}

@@ -22,7 +22,8 @@ use Rattle.model_laws.proofs.Sound.{Sound}
 use Rattle.route_laws.proofs.Placed.{kept}
 use Rattle.nest_laws.proofs.Nest.{due, outOf, outTo, bagAt, bagAtAll, outDue}
 use Rattle.pull_laws.specs.Pull.{joined, childOut, coupledOut, sourceIn, inputIn}
-use Rattle.pull_laws.specs.Put.{valueRange, valuesOn}
+use Rattle.laws.specs.Keys.{valueRange}
+use Rattle.pull_laws.specs.Put.{valuesOn}
 use Rattle.pull_laws.proofs.Keys.{isValue}
 
 -- a message with a 16-bit value

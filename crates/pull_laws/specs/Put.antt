@@ -1,23 +1,14 @@
 -- Messages as keys, one number each, and a buffer of keys with a position: what stands in it, and where the next key goes.
 -- Assumes nothing.
-use Prim.Native.Nat.{ℕ, zero, suc, _+_, _*_, _/_, _%_}
+use Prim.Native.Nat.{ℕ, zero, suc, _+_}
 use mathlib.Core.List.{List, [], _∷_, _++_, map}
 use mathlib.Core.Bool.{cond}
 use lib.ListN.{set, length}
 use lib.Dec.{ltb, eqb}
-use Rattle.definition.specs.Model.{Message, Bag}
+use Rattle.definition.specs.Model.{Bag}
+use Rattle.laws.specs.Keys.{keyOf}
 
 -- ---- keys
-
--- Values are 16-bit numbers: the order of keys is the order by port, then value.
-abbrev pub valueRange : ℕ
-valueRange = 65536
-
-unfoldable pub keyOf : ℕ → ℕ → ℕ
-keyOf port value = port * valueRange + value
-
-unfoldable pub messageOf : ℕ → Message
-messageOf key = record { port = key / valueRange; value = key % valueRange }
 
 -- The values of the bag's messages on port q.
 unfoldable pub valuesOn : ℕ → Bag → List ℕ

@@ -16,7 +16,8 @@ use Rattle.clock.specs.Times.{latest}
 use Rattle.run_state.specs.declared.State.{State}
 use Rattle.run_state.specs.Held.{changedAt}
 use Rattle.pull_laws.specs.Pull.{coupledOut, inputIn}
-use Rattle.pull_laws.specs.Put.{messageOf, valuesOn, keysOf}
+use Rattle.laws.specs.Keys.{messageOf}
+use Rattle.pull_laws.specs.Put.{valuesOn, keysOf}
 use Rattle.route_laws.specs.Nodes.{inputNode, outputNode}
 use Rattle.pull_laws.specs.Tables.{nodeComponent, nodePort, isOutput, isRootNode, numbersAt, positionsAt, ordersAt, phasesAt, parentsAt, rulesFromAt, rulesToAt, liveAt, countAt, chainRows, childRows, atomicAt, atomicNode}
 

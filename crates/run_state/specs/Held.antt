@@ -4,6 +4,7 @@ use mathlib.Core.List.{List, map}
 use lib.ListN.{getD, set}
 use Rattle.definition.specs.Lists.{upFrom}
 use Rattle.definition.specs.SavedRun.{Entry}
+use Rattle.definition.specs.Advance.{Ended}
 use Rattle.run_state.specs.declared.State.{State}
 
 -- The state whose phases and last moments stand in two slices.
@@ -16,3 +17,12 @@ entriesOf n st = map (λ i. record { phase = getD (st .phase) i 0; last = getD (
 
 unfoldable pub changedAt : State → ℕ → ℕ → ℕ → State
 changedAt st i p last = record { phase = set (st .phase) i p; last = set (st .last) i last }
+
+-- The end of a call with the entries that its state holds for n atomics.
+unfoldable pub heldEnd : ℕ → Ended State → Ended (List Entry)
+heldEnd n e =
+    let p = e .progress in
+    record {
+      number = e .number;
+      progress = record { opening = p .opening; state = entriesOf n (p .state); instants = p .instants; steps = p .steps; trace = p .trace };
+    }

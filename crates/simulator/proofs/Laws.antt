@@ -11,11 +11,11 @@ use Rattle.definition.specs.Lists.{isEmpty, sortBy}
 use Rattle.definition.specs.Limits.{maxComponents, maxAncestors, portCount}
 use Rattle.definition.specs.Model.{Bag, Phase, Rule, messageLe}
 use Rattle.run_state.specs.declared.State.{State}
-use Rattle.sort.specs.Keys as S
 use Rattle.sort.proofs.Keys.{sort-messages}
 use Rattle.sort.proofs.Merging.{length-sort}
 use Rattle.route_laws.specs.Nodes.{inputNode, outputNode}
-use Rattle.pull_laws.specs.Put.{messageOf, putPorts, keysOf}
+use Rattle.laws.specs.Keys.{messageOf}
+use Rattle.pull_laws.specs.Put.{putPorts, keysOf}
 use Rattle.definition.specs.Step.{Stepped}
 use Rattle.pull_laws.specs.Tables.{numbersAt, countAt}
 use Rattle.pull_laws.specs.TableStep.{isUp, marked, raised, marks, reachedFrom, reached, pulledInto, pulledBelow, keysInto, rootKeys, rootRoom, changedBy, changedFrom, tableStep}
@@ -48,16 +48,12 @@ module _ (ps : List Phase) (t es fs : List ℕ) where
       subst (λ (st : List ℕ × ℕ). Front (length b) st (keysOf f portCount 0)) (sym e) (bag-front f portCount 0 b)
 
 -- The front of a buffer, sorted.
-same-messages : (l : List ℕ) → map S.messageOf l ≡ map messageOf l
-unfolding S.messageOf messageOf
-same-messages l = refl
-
 pub sorted-front : (n : ℕ) (b d : List ℕ) → n ≤ length b → d ≡ sortBy leb (take n b) ++ drop n b
     → map messageOf (take n d) ≡ sortBy messageLe (map messageOf (take n b))
 sorted-front n b d h e =
     ap (λ l. map messageOf (take n l)) e
     ∙ ap (map messageOf) (take-at (sortBy leb (take n b)) (drop n b) n (length-sort (take n b) ∙ length-take-le n b h))
-    ∙ sym (same-messages (sortBy leb (take n b))) ∙ sort-messages (take n b) ∙ ap (sortBy messageLe) (same-messages (take n b))
+    ∙ sort-messages (take n b)
 
 -- one atomic more
 module _ (ps : List Phase) (t : List ℕ) (rs : List Rule) (es fs : List ℕ) (room now : ℕ) (x : Bag) (n i : ℕ) (st : State) where

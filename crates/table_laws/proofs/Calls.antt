@@ -29,8 +29,8 @@ use Rattle.theory.proofs.Lift.{EndsAlike}
 use Rattle.theory.proofs.Kept.{Fit}
 use Rattle.theory.proofs.Fitting.{fits-run}
 use Rattle.run_state.specs.declared.State.{State}
-use Rattle.run_state.specs.Held.{entriesOf}
-use Rattle.pull_laws.specs.Put.{valueRange}
+use Rattle.run_state.specs.Held.{entriesOf, heldEnd}
+use Rattle.laws.specs.Keys.{valueRange}
 use Rattle.pull_laws.specs.TableStep.{tableNext, tableSim}
 use Rattle.pull_laws.specs.Tabled.{Tabled}
 use Rattle.pull_laws.proofs.Keys.{isValue}
@@ -40,19 +40,6 @@ use Rattle.pull_laws.proofs.NextLaw.{table-next}
 use Rattle.table_laws.proofs.Tables.{BetweenTables, advance-tables}
 
 -- ---- the outcome
-
--- The state of n atomics read as entries.
-unfoldable pub heldEnd : ℕ → Ended State → Ended (List Entry)
-heldEnd n e = record {
-  number = e .number;
-  progress = record {
-    opening = e .progress .opening;
-    state = entriesOf n (e .progress .state);
-    instants = e .progress .instants;
-    steps = e .progress .steps;
-    trace = e .progress .trace;
-  };
-}
 
 module _ (m : Model) (w : Sound m) (t : List ℕ) (h : Tabled m t) (room : ℕ) (enough : maxGiven * length (routes m) ≤ room) where
   ends-held : (u : ℕ) (a : Ended (List Entry)) (b : Ended State) → EndsAlike (BetweenTables m w t h room enough) u a b → a ≡ heldEnd (length (atomics (m .components))) b

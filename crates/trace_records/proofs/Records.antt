@@ -17,7 +17,7 @@ use Rattle.definition.specs.Records.{messageBytes}
 use Rattle.definition.specs.Instant.{recordBytes}
 use Rattle.model_laws.proofs.Codec.{length-bytes, rows-length}
 use Rattle.store_laws.proofs.Stores.{sets-append}
-use Rattle.pull_laws.specs.Put.{messageOf}
+use Rattle.laws.specs.Keys.{messageOf}
 use Rattle.trace_records.specs.Written.{recordOf, stepBytes, stepSize, stepPut}
 
 -- ---- messages

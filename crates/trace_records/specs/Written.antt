@@ -9,7 +9,7 @@ use Rattle.definition.specs.Bytes.{Bytes}
 use Rattle.definition.specs.Limits.{messageSize, maxRootBag}
 use Rattle.definition.specs.Model.{Bag}
 use Rattle.definition.specs.Instant.{TraceRecord, recordBytes}
-use Rattle.pull_laws.specs.Put.{messageOf}
+use Rattle.laws.specs.Keys.{messageOf}
 
 -- "moment (8), step in the instant from 0 (2), message count (2)"
 abbrev pub recordHead : ℕ

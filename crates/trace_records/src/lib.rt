@@ -8,7 +8,7 @@ ghost use Rattle.definition.specs.Lists.{concat};
 ghost use Rattle.definition.specs.Limits.{messageSize, maxRootBag};
 ghost use Rattle.definition.specs.Records.{messageBytes};
 ghost use Rattle.definition.specs.Instant.{recordBytes};
-ghost use Rattle.pull_laws.specs.Put.{messageOf};
+ghost use Rattle.laws.specs.Keys.{messageOf};
 ghost use Rattle.trace_records.specs.Written.{recordHead, recordOf, stepSize, stepPut, wordMax};
 use clock::Moment;
 use little_endian::put_number;

@@ -8,7 +8,7 @@ use lib.ListN.{length, getD}
 use Rattle.definition.specs.Model.{Bag, Phase, Rule}
 use Rattle.run_state.specs.declared.State.{State}
 use Rattle.run_state.specs.Held.{changedAt}
-use Rattle.pull_laws.specs.Put.{messageOf}
+use Rattle.laws.specs.Keys.{messageOf}
 use Rattle.pull_laws.specs.TableStep.{phaseIn, decidedIn, confluentIn, changedBy}
 
 module _ (ps : List Phase) (t : List ℕ) (rs : List Rule) (now : ℕ) (st : State) (i c : ℕ) where

@@ -5,7 +5,7 @@ ghost use Rattle.definition.specs.Atomic.{ledTo};
 ghost use Rattle.model_records.specs.Values.{phasesIn, rulesIn};
 ghost use Rattle.run_state.specs.Held.{held};
 ghost use Rattle.deciding.specs.Search.{foundOf};
-ghost use Rattle.pull_laws.specs.Put.{messageOf};
+ghost use Rattle.laws.specs.Keys.{messageOf};
 ghost use Rattle.pull_laws.specs.TableStep.{phaseIn, decidedIn, confluentIn, changedBy};
 use clock::Moment;
 use clock::Stay;

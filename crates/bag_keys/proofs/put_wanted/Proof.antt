@@ -1,7 +1,8 @@
 -- One value is put where it is wanted, none otherwise.
 use borrow.Author.Needs.{needs}
 use Rattle.bag_keys.specs.Sent.{wantedValue}
-use Rattle.pull_laws.specs.Put.{puts, keyOf}
+use Rattle.laws.specs.Keys.{keyOf}
+use Rattle.pull_laws.specs.Put.{puts}
 use Rattle.bag_keys.proofs.put_wanted.Statement.{statement}
 use Rattle.bag_keys.proofs.put_wanted.Tie as tie
 

@@ -4,7 +4,7 @@ use native.Mathlib.Omega.{arith}
 use lib.ListN.{getD}
 use Prim.Native.Nat.{_*_, _<_}
 use Rattle.deciding.proofs.Heads.{other-head}
-use Rattle.pull_laws.specs.Put.{messageOf}
+use Rattle.laws.specs.Keys.{messageOf}
 use Rattle.definition.specs.Atomic.{holds}
 use denote.Ref.{now}
 use mathlib.Core.List.{map}

@@ -3,7 +3,7 @@ use borrow.Author.Needs.{needs}
 use native.Mathlib.Omega.{arith}
 use Rattle.deciding.proofs.Laws.{first-here, first-later}
 use Rattle.pull_laws.specs.TableStep.{decidingIn}
-use Rattle.pull_laws.specs.Put.{messageOf}
+use Rattle.laws.specs.Keys.{messageOf}
 use Rattle.model_records.specs.Values.{rulesIn}
 use Rattle.definition.specs.Model.{noRule}
 use Rattle.definition.specs.Atomic.{holds}

@@ -4,7 +4,7 @@ use native.Mathlib.Omega.{arith}
 use mathlib.Core.Path.{_∙_, ap}
 use mathlib.Core.List.{map}
 use denote.Ref.{now}
-use Rattle.pull_laws.specs.Put.{messageOf}
+use Rattle.laws.specs.Keys.{messageOf}
 use Rattle.model_records.specs.Values.{phasesIn}
 use Rattle.definition.specs.Model.{messageLe}
 use Rattle.definition.specs.Lists.{sortBy}

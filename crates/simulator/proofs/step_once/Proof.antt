@@ -7,7 +7,7 @@ use Rattle.definition.specs.Model.{messageLe}
 use Rattle.definition.specs.Engine.{toBag}
 use Rattle.run_state.specs.Held.{held}
 use Rattle.model_records.specs.Values.{phasesIn, rulesIn}
-use Rattle.pull_laws.specs.Put.{messageOf}
+use Rattle.laws.specs.Keys.{messageOf}
 use Rattle.pull_laws.specs.TableStep.{rootKeys, rootRoom}
 use denote.Ref.{now}
 use lib.ListN.{length, take}

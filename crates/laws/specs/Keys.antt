@@ -1,10 +1,16 @@
 -- What a 32-bit key stands for: a message, or a coupling. The order of keys is theirs. Assumes nothing.
-use Prim.Native.Nat.{ℕ, _/_, _%_}
+use Prim.Native.Nat.{ℕ, _+_, _*_, _/_, _%_}
 use Rattle.definition.specs.Model.{Message, Coupling}
 
--- "port × 65,536 + value"
+-- Values are 16-bit numbers: "port × 65,536 + value".
+abbrev pub valueRange : ℕ
+valueRange = 65536
+
+unfoldable pub keyOf : ℕ → ℕ → ℕ
+keyOf port value = port * valueRange + value
+
 unfoldable pub messageOf : ℕ → Message
-messageOf k = record { port = k / 65536; value = k % 65536 }
+messageOf key = record { port = key / valueRange; value = key % valueRange }
 
 -- A coupling's row with its first byte highest.
 unfoldable pub couplingOf : ℕ → Coupling
