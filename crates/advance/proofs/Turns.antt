@@ -1,15 +1,15 @@
 -- One turn of advance, by the moment that is next and by what the tried instant gave: it goes on, it stops, or it was the last. Over
 -- anything that takes steps. Assumes nothing.
 use mathlib.Core.Path.{_≡_, refl, _∙_, sym, ap, ap₂, subst}
-use mathlib.Core.List.{List, []}
+use mathlib.Core.List.{[]}
 use mathlib.Core.Bool.{Bool, true, false, cond}
-use Prim.Native.Nat.{ℕ, zero, suc, _+_, _-_, _≤_, _<_}
+use Prim.Native.Nat.{ℕ, suc, _+_, _-_, _≤_, _<_}
 use native.Mathlib.Omega.{arith}
 use lib.ListN.{length, drop}
 use lib.Dec.{ltb, eqb}
 use lib.Seq.{drop-drop}
 use borrow.Author.Tests.{ltb-true, eq-eqb, ne-eqb, eqb-false}
-use Rattle.definition.specs.Bytes.{Bytes, Result, ok, refused}
+use Rattle.definition.specs.Bytes.{Bytes, ok, refused}
 use Rattle.definition.specs.Model.{Bag}
 use Rattle.definition.specs.Devs.{Time, finite, never}
 use Rattle.definition.specs.Step.{Simulator}

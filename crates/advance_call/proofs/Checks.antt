@@ -1,11 +1,11 @@
 -- The checks of an advance, in the order of the table, and what each leaves of the definition. Assumes nothing.
 use mathlib.Core.Path.{_≡_, refl}
 use Prim.Native.Nat.{ℕ, _≤_, _<_}
-use mathlib.Core.Bool.{Bool, true, false, _||_, not}
+use mathlib.Core.Bool.{Bool, true, false, _||_}
 use lib.Dec.{ltb}
 use lib.ListN.{length}
 use borrow.Author.Tests.{lt-ltb, le-ltb}
-use Rattle.definition.specs.Bytes.{Bytes, ok, refused, _>>=_, refuseIf}
+use Rattle.definition.specs.Bytes.{Bytes, ok, refused, _>>=_}
 use Rattle.definition.specs.Limits.{maxMoment}
 use Rattle.definition.specs.Model.{Model}
 use Rattle.definition.specs.Routes.{accepted}

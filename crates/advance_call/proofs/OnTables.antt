@@ -2,7 +2,6 @@
 use mathlib.Core.Path.{_≡_, sym, ap, _∙_}
 use Prim.Native.Nat.{ℕ, _*_, _≤_}
 use mathlib.Core.List.{List}
-use native.Mathlib.Omega.{arith}
 use lib.ListN.{length}
 use Rattle.definition.specs.Bytes.{Bytes, AllBytes, ok}
 use Rattle.definition.specs.Limits.{maxGiven}
@@ -11,7 +10,6 @@ use Rattle.definition.specs.Routes.{routes, accepted}
 use Rattle.definition.specs.SavedRun.{runOf}
 use Rattle.definition.specs.Advance.{advanceFrom}
 use Rattle.definition.specs.Engine.{advanceChecks, advanced, advance, toBag}
-use Rattle.model_laws.proofs.Sound.{Accepted}
 use Rattle.model_laws.proofs.Reading.{accepted-sound}
 use Rattle.run_state.specs.declared.State.{State}
 use Rattle.run_state.specs.Held.{entriesOf, heldEnd}

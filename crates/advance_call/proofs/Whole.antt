@@ -1,18 +1,18 @@
 -- The call on the parts of its file: what the code has after its checks, from the buffers lent to the outcome. Assumes nothing.
-use mathlib.Core.Path.{_≡_, refl, sym, ap, _∙_}
+use mathlib.Core.Path.{_≡_, sym, ap, _∙_}
 use mathlib.Core.List.{List}
-use mathlib.Core.Bool.{Bool, true, _&&_}
+use mathlib.Core.Bool.{true, _&&_}
 use Prim.Native.Nat.{ℕ, suc, _*_, _≤_, _<_}
 use native.Mathlib.Omega.{arith}
 use lib.Dec.{leb, eqb}
-use lib.ListN.{length, getD, replicate, length-replicate}
+use lib.ListN.{length, getD}
 use borrow.Author.Tests.{leb-true}
 use Rattle.definition.specs.Bytes.{Bytes, ok, number}
 use Rattle.definition.specs.Limits.{maxComponents, maxGiven, maxRoutes, maxMoment}
 use Rattle.definition.specs.Model.{Model, atomics}
 use Rattle.definition.specs.Routes.{routes, accepted}
-use Rattle.definition.specs.SavedRun.{runLength, atomicCount, runOf, toRun, entriesFit, fits}
-use Rattle.definition.specs.Advance.{ended, advanceFrom}
+use Rattle.definition.specs.SavedRun.{runLength, atomicCount, runOf, toRun, fits}
+use Rattle.definition.specs.Advance.{advanceFrom}
 use Rattle.definition.specs.Engine.{advanceChecks, advanced, advance, toBag}
 use Rattle.laws.proofs.Sorting.{and-left}
 use Rattle.model_laws.proofs.Reading.{accepted-sound}

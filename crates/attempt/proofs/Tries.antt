@@ -1,14 +1,14 @@
 -- A tried instant by its verdict: what the definition's `tried` is in each case, and what stands in the trace. Assumes nothing.
-use mathlib.Core.Path.{_≡_, refl, _∙_, sym, ap, ap₂, subst}
+use mathlib.Core.Path.{_≡_, refl, _∙_, sym, ap, subst}
 use mathlib.Core.List.{List, [], _∷_, _++_}
 use mathlib.Core.Bool.{Bool, true, false, cond}
 use Prim.Native.Nat.{ℕ, suc, _+_, _-_, _≤_, _<_}
 use native.Mathlib.Omega.{arith}
-use lib.ListN.{length, length-append, take, drop}
+use lib.ListN.{length, length-append, take}
 use lib.Seq.{sets, length-sets, length-take-le}
 use borrow.Author.Tests.{le-ltb, lt-ltb}
 use Rattle.definition.specs.Lists.{all}
-use Rattle.definition.specs.Bytes.{Bytes, Result, ok, refused}
+use Rattle.definition.specs.Bytes.{Bytes, ok, refused}
 use Rattle.definition.specs.Limits.{maxSteps}
 use Rattle.definition.specs.Model.{Bag}
 use Rattle.definition.specs.Instant.{Instant, done, jammed, records, over}
@@ -17,13 +17,12 @@ use Rattle.laws.proofs.Sorting.{clash}
 use Rattle.clock.specs.declared.Due.{Due}
 use Rattle.run_state.specs.declared.State.{State}
 use Rattle.store_laws.proofs.Stores.{take-sets, drop-sets}
-use Rattle.instant.specs.Verdicts.{ranOf, Recorded, Judged}
+use Rattle.instant.specs.Verdicts.{ranOf, Recorded}
 use Rattle.instant.specs.declared.Ran.{Ran}
 use Rattle.instant.specs.declared.Verdict.{Verdict}
 use Rattle.instant.specs.declared.Verdict.the-variants as VV
-use Rattle.attempt.specs.Progress.{progressOf, triedOf, Beyond, Attempted}
+use Rattle.attempt.specs.Progress.{progressOf, triedOf, Attempted}
 use Rattle.attempt.specs.declared.Going.{Going}
-use Rattle.attempt.specs.declared.Ending.{Ending}
 
 -- ---- the definition's `tried`, case by case
 

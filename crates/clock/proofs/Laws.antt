@@ -1,6 +1,6 @@
 -- The earlier of two times, case by case. Assumes nothing.
 use mathlib.Core.Path.{_≡_, refl, ap}
-use Prim.Native.Nat.{ℕ, _≤_, min}
+use Prim.Native.Nat.{ℕ, _≤_}
 use native.Mathlib.Omega.{arith}
 use Rattle.definition.specs.Devs.{Time, finite, never, earlier}
 

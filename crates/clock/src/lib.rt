@@ -2,7 +2,7 @@
 // moments are never added." Every function is total.
 ghost use mathlib.Core.Path.{_≡_};
 ghost use Prim.Native.Nat.{_+_, _-_, min};
-ghost use lib.Dec.{ltb, leb, eqb};
+ghost use lib.Dec.{ltb, eqb};
 ghost use Rattle.definition.specs.Devs.{earlier};
 ghost use Rattle.clock.specs.Times.{timeOf, latest};
 

@@ -1,18 +1,18 @@
 -- One turn of each loop that fills tables by component or by rule, and its end. Assumes nothing.
-use mathlib.Core.Path.{_≡_, refl, sym, ap, _∙_}
+use mathlib.Core.Path.{_≡_, refl}
 use Prim.Native.Nat.{ℕ, zero, suc, _+_, _-_, _<_, _≤_}
-use mathlib.Core.List.{List, [], _∷_, map}
+use mathlib.Core.List.{List, [], _∷_}
 use native.Mathlib.Omega.{arith}
 use native.Mathlib.Numerals.{add-one}
 use mathlib.Core.Bool.{Bool, true, false, cond}
-use lib.ListN.{length, take, set}
+use lib.ListN.{length, set}
 use Rattle.definition.specs.Limits.{maxComponents}
 use Rattle.definition.specs.Lists.{sum}
 use Rattle.definition.specs.Model.{Component, Rule, componentAt, isAtomic}
 use Rattle.pull_laws.specs.Tables.{numbersAt, rulesFromAt, rulesToAt}
 use Rattle.table_words.specs.Writes.{putIn}
 use Rattle.component_tables.specs.declared.Field.{Field}
-use Rattle.component_tables.specs.Columns.{fieldOf, fieldAt, fieldsBefore, numberAt, numbered, ruleNames, ruleStarts, ruleEnds}
+use Rattle.component_tables.specs.Columns.{fieldAt, fieldsBefore, numberAt, numbered, ruleNames, ruleStarts, ruleEnds}
 
 -- one component more before
 fields-suc : (which : Field) (cs : List Component) (c : ℕ) → c < length cs → fieldsBefore which cs (suc c) ≡ fieldsBefore which cs c + fieldAt which cs c

@@ -1,7 +1,7 @@
 -- The tables by component, by position and the ranges of rules, as they are written. Assumes nothing.
 use Prim.Native.Nat.{ℕ, zero, suc, _+_, _-_}
-use mathlib.Core.List.{List, [], _∷_, map}
-use mathlib.Core.Bool.{Bool, cond}
+use mathlib.Core.List.{List, map}
+use mathlib.Core.Bool.{cond}
 use lib.ListN.{length, getD, set, take}
 use lib.Dec.{eqb}
 use Rattle.definition.specs.Limits.{maxComponents}

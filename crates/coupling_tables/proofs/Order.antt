@@ -1,6 +1,6 @@
 -- The beginnings of the links stand in the table before its chains are made, and are read from it while flags are spread: writes to
 -- different regions may change places, and none of them moves a beginning. Assumes nothing.
-use mathlib.Core.Path.{_≡_, refl, sym, ap, _∙_}
+use mathlib.Core.Path.{_≡_, refl, ap, _∙_}
 use Prim.Native.Nat.{ℕ, zero, suc, _+_, _-_, _*_, _<_, _≤_}
 use mathlib.Core.List.{List}
 use mathlib.Core.Bool.{Bool, true, false, cond}

@@ -1,6 +1,5 @@
 // The bag of a call, as bytes: whether it keeps its lines, and nothing more.
 ghost use mathlib.Core.Path.{_≡_};
-ghost use mathlib.Core.List.{map};
 ghost use Prim.Native.Nat.{_/_};
 ghost use lib.ListN.{length};
 ghost use Rattle.definition.specs.Lists.{all};

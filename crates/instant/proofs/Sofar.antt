@@ -2,13 +2,13 @@
 -- was over the limit, their records are counted, and stand in the buffer while they fit there. Assumes nothing.
 use mathlib.Core.Path.{_≡_, refl, _∙_, sym, ap, ap₂, subst}
 use mathlib.Core.List.{List, [], _∷_, _++_, map}
-use mathlib.Core.Bool.{Bool, true, false, _&&_, _||_, not, cond}
-use Prim.Native.Nat.{ℕ, zero, suc, _+_, _-_, _≤_, _<_, min}
+use mathlib.Core.Bool.{Bool, true, false, _&&_, _||_, not}
+use Prim.Native.Nat.{ℕ, zero, suc, _+_, _-_, _≤_, _<_}
 use native.Mathlib.Omega.{arith}
 use lib.ListN.{length, length-append, length-map, length-take, take}
 use lib.Dec.{ltb, leb}
 use lib.Seq.{sets}
-use borrow.Author.Tests.{ltb-true, ltb-false, le-ltb, lt-ltb, le-leb, leb-true, leb-false}
+use borrow.Author.Tests.{ltb-false, le-ltb, lt-ltb, le-leb, leb-true, leb-false}
 use Rattle.definition.specs.Lists.{concat, all, sortBy}
 use Rattle.definition.specs.Bytes.{Bytes}
 use Rattle.definition.specs.Limits.{maxSteps, maxRootBag}
@@ -24,7 +24,7 @@ use Rattle.trace_records.specs.Written.{stepBytes, stepSize, stepPut}
 use Rattle.trace_records.proofs.Records.{length-step}
 use Rattle.store_laws.proofs.Stores.{sets-append}
 use Rattle.instant.specs.Sim.{Lent}
-use Rattle.instant.specs.Verdicts.{ranOf, Recorded, Judged}
+use Rattle.instant.specs.Verdicts.{ranOf, Judged}
 use Rattle.instant.specs.declared.Verdict.the-variants as VV
 use Rattle.instant.proofs.Steps.{bag-none, length-sort, records-snoc}
 

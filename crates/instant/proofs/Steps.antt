@@ -1,31 +1,23 @@
 -- The steps of an instant as a loop takes them: those taken so far, put in front of what is left of the instant, are the whole instant;
 -- and the verdict at each way out of the loop. Over anything that takes steps. Assumes nothing.
-use mathlib.Core.Path.{_≡_, refl, _∙_, sym, ap, ap₂, subst}
+use mathlib.Core.Path.{_≡_, refl, _∙_, sym, ap}
 use mathlib.Core.List.{List, [], _∷_, _++_, map, append-assoc, append-nil}
-use mathlib.Core.Bool.{Bool, true, false, _&&_, _||_, not, cond}
-use Prim.Native.Nat.{ℕ, zero, suc, _+_, _*_, _-_, _/_, _≤_, _<_, min}
+use mathlib.Core.Bool.{Bool, true, false, _&&_, not, cond}
+use Prim.Native.Nat.{ℕ, zero, suc, _+_, _*_, _/_, _≤_, _<_, min}
 use native.Mathlib.Omega.{arith}
 use native.Mathlib.Nat.{add-zero}
-use lib.ListN.{length, length-append, length-map, length-take, take}
-use lib.Dec.{ltb, leb}
-use lib.Seq.{sets}
-use borrow.Author.Tests.{ltb-true, ltb-false, le-ltb, lt-ltb, le-leb, lt-leb, leb-true, leb-false}
-use Rattle.definition.specs.Lists.{concat, all, isEmpty, sortBy}
+use lib.ListN.{length, length-map, length-take, take}
+use lib.Dec.{leb}
+use borrow.Author.Tests.{le-leb, lt-leb, leb-true, leb-false}
+use Rattle.definition.specs.Lists.{concat, isEmpty, sortBy}
 use Rattle.definition.specs.Bytes.{Bytes, chunks}
-use Rattle.definition.specs.Limits.{maxSteps, maxRootBag}
 use Rattle.definition.specs.Model.{Message, Bag, messageLe}
 use Rattle.definition.specs.Records.{messageAt}
-use Rattle.definition.specs.Step.{Simulator}
-use Rattle.definition.specs.Instant.{Instant, done, jammed, stepped, isDue, goesOn, stepsAt, instant, over, TraceRecord, recordBytes, traceBytes, recordsFrom, records}
+use Rattle.definition.specs.Instant.{TraceRecord, recordBytes, traceBytes, recordsFrom, records}
 use Rattle.definition.specs.Engine.{toBag}
 use Rattle.laws.proofs.Lists.{sort-permutes, length-perm}
-use Rattle.run_state.specs.declared.State.{State}
 use Rattle.laws.specs.Keys.{messageOf}
-use Rattle.trace_records.specs.Written.{recordOf, stepBytes, stepSize, stepPut}
-use Rattle.trace_records.proofs.Records.{length-step}
-use Rattle.store_laws.proofs.Stores.{sets-append}
-use Rattle.instant.specs.Verdicts.{ranOf, Recorded, Judged}
-use Rattle.instant.specs.declared.Ran.{Ran}
+use Rattle.trace_records.specs.Written.{recordOf, stepBytes}
 
 -- ---- the given bag
 

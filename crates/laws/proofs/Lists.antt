@@ -1,12 +1,12 @@
 -- General laws of lists: tests that all elements pass, congruences over such elements, permutations. Assumes nothing.
-use mathlib.Core.Path.{_≡_, refl, sym, ap, ap₂, _∙_, subst}
+use mathlib.Core.Path.{_≡_, refl, ap, ap₂, _∙_}
 use Prim.Native.Nat.{ℕ, zero, suc, _+_, _≤_, _<_}
 use mathlib.Core.List.{List, [], _∷_, _++_, map, List·Permᴰ, List·Permᴰ·nil, List·Permᴰ·cons, List·Permᴰ·swap, List·Permᴰ·trans, Permᴰ·refl}
-use mathlib.Core.Bool.{Bool, true, false, _&&_, _||_, not, cond}
+use mathlib.Core.Bool.{Bool, true, false, _&&_, _||_, cond}
 use native.Mathlib.Omega.{arith}
-use lib.ListN.{length, take, drop, getD}
+use lib.ListN.{length, take, getD}
 use Rattle.definition.specs.Lists.{concat, sum, all, keep, count, insertBy, sortBy}
-use Rattle.laws.proofs.Sorting.{clash, and-left, and-right}
+use Rattle.laws.proofs.Sorting.{and-left, and-right}
 use Rattle.laws.proofs.Sums.{sumOf}
 
 pub and-true : (a b : Bool) → a ≡ true → b ≡ true → a && b ≡ true

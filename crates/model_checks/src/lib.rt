@@ -4,7 +4,7 @@ ghost use mathlib.Core.Bool.{_&&_};
 ghost use lib.ListN.{getD};
 ghost use Rattle.definition.specs.Bytes.{numberOf};
 ghost use Rattle.definition.specs.Model.{noPhase, noRule, noCoupling, componentAt, messageLe, couplingLe};
-ghost use Rattle.definition.specs.Records.{coupledFields, atomicFields, kindFields, rootWithin, componentFits, usedFit, unusedFit, phaseFields, ruleFields, related, couplingFields, notFalling, couplingFits};
+ghost use Rattle.definition.specs.Records.{kindFields, rootWithin, componentFits, usedFit, unusedFit, phaseFields, ruleFields, related, couplingFields, notFalling, couplingFits};
 ghost use Rattle.model_records.specs.Values.{componentOf, phaseOf, ruleOf, couplingOf, componentsIn, phasesIn, rulesIn, couplingsIn};
 ghost use Rattle.laws.specs.Keys.{messageOf};
 ghost use Rattle.model_checks.specs.Reads.{rowOf, checked, componentRead, phaseRead, ruleRead, couplingRead};

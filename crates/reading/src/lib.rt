@@ -3,7 +3,6 @@ ghost use mathlib.Core.Path.{_≡_};
 ghost use mathlib.Core.Bool.{true};
 ghost use lib.ListN.{length};
 ghost use Rattle.definition.specs.Bytes.{ok};
-ghost use Rattle.definition.specs.Limits.{maxComponents};
 ghost use Rattle.definition.specs.Model.{atomics};
 ghost use Rattle.definition.specs.Routes.{accepted};
 ghost use Rattle.definition.specs.SavedRun.{runOf, nextDue, fits};

@@ -8,7 +8,6 @@ ghost use Rattle.definition.specs.Limits.{maxComponents};
 ghost use Rattle.definition.specs.SavedRun.{runBytes};
 ghost use Rattle.definition.specs.Engine.{wrote, startRun, start};
 ghost use Rattle.model_records.specs.Values.{componentsIn};
-ghost use Rattle.model.specs.Checked.{checkedNumber};
 ghost use Rattle.saved_run.specs.Runs.{bare};
 ghost use Rattle.run_calls.specs.Answers.{wroteOf};
 use clock::Moment;

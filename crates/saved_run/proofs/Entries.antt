@@ -4,12 +4,11 @@ use mathlib.Core.List.{List, [], _∷_, _++_, map, map-append}
 use mathlib.Core.Bool.{Bool, true, false, cond}
 use Prim.Native.Nat.{ℕ, zero, suc, _+_, _*_, _≤_, _<_}
 use native.Mathlib.Omega.{arith}
-use native.Mathlib.Numerals.{add-one}
 use lib.Dec.{ltb}
-use lib.ListN.{length, take, drop, getD, set, replicate, length-set, length-append, length-replicate}
+use lib.ListN.{length, take, drop, getD, replicate, length-set, length-append, length-replicate}
 use lib.Seq.{drop-drop, getD-set-same, getD-set-other}
 use borrow.Author.Tests.{ltb-true, lt-ltb}
-use Rattle.definition.specs.Lists.{all, keep, upFrom}
+use Rattle.definition.specs.Lists.{keep, upFrom}
 use Rattle.definition.specs.Bytes.{Bytes, number, chunks, row}
 use Rattle.definition.specs.Limits.{headSize, entrySize, maxComponents}
 use Rattle.definition.specs.SavedRun.{Entry, toEntry, toRun}

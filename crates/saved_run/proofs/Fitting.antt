@@ -1,7 +1,7 @@
 -- The entries of a run against the atomics, component by component: from a component on, with k atomics before it, the rest is the
 -- whole. Assumes nothing.
 use mathlib.Core.Path.{_≡_, refl, sym, ap, ap₂, _∙_}
-use mathlib.Core.List.{List, [], _∷_, _++_, map}
+use mathlib.Core.List.{List, [], _∷_, map}
 use mathlib.Core.Bool.{Bool, true, false, _&&_, _||_, not, cond}
 use Prim.Native.Nat.{ℕ, zero, suc, _+_, _*_, _-_, _≤_, _<_}
 use native.Mathlib.Omega.{arith}
@@ -11,9 +11,9 @@ use lib.ListN.{length, drop, getD}
 use lib.Seq.{drop-drop}
 use Rattle.definition.specs.Lists.{keep, upFrom}
 use Rattle.definition.specs.Bytes.{Bytes, number, chunks, row}
-use Rattle.definition.specs.Limits.{headSize, entrySize, neverField}
+use Rattle.definition.specs.Limits.{headSize, entrySize}
 use Rattle.definition.specs.Model.{Component, noPhase, componentAt, isAtomic, atomics, phasesBefore, phaseAt}
-use Rattle.definition.specs.Devs.{Time, later}
+use Rattle.definition.specs.Devs.{Time}
 use Rattle.definition.specs.Atomic.{advanceOf}
 use Rattle.definition.specs.SavedRun.{Entry, toEntry, toRun, atomicCount, runOf, dueOf, notBefore, runLength, entryFits, entriesFit, fits}
 use Rattle.laws.proofs.Sorting.{clash}

@@ -1,15 +1,14 @@
 -- The bytes of a run as they are put one after the other, and the whole buffer afterwards. Assumes nothing.
 use mathlib.Core.Path.{_≡_, refl, sym, ap, ap₂, _∙_}
-use mathlib.Core.List.{List, [], _∷_, _++_, map, map-map, append-assoc}
+use mathlib.Core.List.{[], _∷_, _++_, map, map-map}
 use Prim.Native.Nat.{ℕ, zero, suc, _+_, _*_, _-_, _≤_, _<_}
 use native.Mathlib.Omega.{arith}
-use native.Mathlib.Nat.{add-zero}
-use lib.ListN.{length, length-append, length-map, drop, getD}
+use lib.ListN.{length, length-append, length-map}
 use lib.Seq.{sets, sets-eq}
 use Rattle.definition.specs.Lists.{concat, upFrom}
 use Rattle.definition.specs.Bytes.{Bytes, bytesOf, stored}
 use Rattle.definition.specs.Limits.{headSize, entrySize}
-use Rattle.definition.specs.SavedRun.{Entry, Run, runLength, entryBytes, runBytes}
+use Rattle.definition.specs.SavedRun.{Entry, runLength, entryBytes, runBytes}
 use Rattle.model_laws.proofs.Codec.{length-bytes}
 use Rattle.model_laws.proofs.RunBack.{length-run}
 use Rattle.run_state.specs.declared.State.{State}

@@ -12,7 +12,6 @@ ghost use Rattle.definition.specs.Engine.{toBag};
 ghost use Rattle.model_records.specs.Values.{phasesIn, rulesIn};
 ghost use Rattle.run_state.specs.Held.{held};
 ghost use Rattle.laws.specs.Keys.{messageOf};
-ghost use Rattle.pull_laws.specs.Tables.{numbersAt};
 ghost use Rattle.pull_laws.specs.TableStep.{isUp, keysInto, rootKeys, rootRoom, changedBy, changedFrom};
 ghost use Rattle.simulator.specs.Simulator.{tableStep};
 use bag_keys::key_at;

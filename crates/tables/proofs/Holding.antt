@@ -1,40 +1,33 @@
 -- The tables of a call, as they are filled from a sound model, hold what the step's laws ask of them. Each part writes its own places, so
 -- that what one part wrote stands in the end. Assumes nothing.
-use mathlib.Core.Path.{_≡_, refl, sym, ap, _∙_, subst}
-use Prim.Native.Nat.{ℕ, zero, suc, _+_, _-_, _*_, _/_, _<_, _≤_}
-use mathlib.Core.List.{List, [], _∷_, map}
-use mathlib.Core.Bool.{Bool, true, false, _||_, not, cond}
-use mathlib.Core.Logic.{_⊎_, inl, inr}
+use mathlib.Core.Path.{_≡_, refl, sym, ap, _∙_}
+use Prim.Native.Nat.{ℕ, _+_, _-_, _*_, _<_, _≤_}
+use mathlib.Core.List.{List, map}
+use mathlib.Core.Bool.{not}
+use mathlib.Core.Logic.{inl, inr}
 use native.Mathlib.Omega.{arith}
 use lib.ListN.{length, getD, set}
 use lib.Seq.{getD-set-same}
-use lib.Dec.{eqb, ltb}
-use borrow.Author.Tests.{eqb-true, eq-eqb, lt-ltb}
-use Rattle.definition.specs.Limits.{maxComponents, maxCouplings, portCount}
-use Rattle.definition.specs.Lists.{keep, upFrom}
-use Rattle.definition.specs.Model.{Component, Rule, Coupling, Model, noCoupling, noRule, componentAt, isAtomic, atomics, phasesBefore, children}
-use Rattle.definition.specs.Flatten.{placeIn}
-use Rattle.laws.proofs.Sorting.{clash}
-use Rattle.model_laws.proofs.Sound.{Sound}
-use Rattle.route_laws.specs.Nodes.{portNodes, inputNode, outputNode, sourceNumber, targetNumber}
-use Rattle.route_laws.proofs.Placed.{rising, kept-at}
-use Rattle.pull_laws.specs.Tables.{nodeComponent, isOutput, isRootNode, numbersAt, positionsAt, kindsAt, ordersAt, phasesAt, parentsAt, rulesFromAt, rulesToAt, childAt, siblingAt, firstAt, liveAt, nextAt, sourceAt, countAt, tableSize, links, chainRows, childRows, atomicAt, atomicNode}
-use Rattle.pull_laws.specs.TableStep.{anyOf}
-use Rattle.pull_laws.specs.Tabled.{isLive, mayLead, Tabled}
+use lib.Dec.{eqb}
+use Rattle.definition.specs.Limits.{maxComponents, maxCouplings}
+use Rattle.definition.specs.Lists.{keep}
+use Rattle.definition.specs.Model.{Component, Rule, Coupling, noCoupling, children}
+use Rattle.route_laws.specs.Nodes.{portNodes, sourceNumber, targetNumber}
+use Rattle.pull_laws.specs.Tables.{numbersAt, rulesFromAt, rulesToAt, childAt, siblingAt, firstAt, liveAt, nextAt, sourceAt, countAt, tableSize, chainRows, childRows}
+use Rattle.pull_laws.specs.Tabled.{isLive}
 use Rattle.table_words.specs.Writes.{column, cleared, linked}
-use Rattle.table_words.proofs.Columns.{Within, within-none, within-both, within-set, column-within, column-at, cleared-long, cleared-at}
+use Rattle.table_words.proofs.Columns.{Within, within-both, within-set, column-within, column-at, cleared-long, cleared-at}
 use Rattle.table_words.proofs.Chains.{having, linked-else, linked-long}
 use Rattle.component_tables.specs.declared.Field.the-variants.{Parent}
-use Rattle.component_tables.specs.Columns.{fieldAt, ruleNames, ruleStarts, ruleEnds, byComponent, byRule, byParent}
+use Rattle.component_tables.specs.Columns.{fieldAt, ruleNames, ruleStarts, byComponent, byRule, byParent}
 use Rattle.coupling_tables.specs.declared.End.the-variants.{Source, Target}
 use Rattle.coupling_tables.proofs.Order.{up-within}
-use Rattle.coupling_tables.specs.Links.{linkEnd, isSource, sourceFlag, spreadUp, spreadDown, byLink, byCoupling}
+use Rattle.coupling_tables.specs.Links.{linkEnd, sourceFlag, spreadUp, spreadDown, byLink, byCoupling}
 use Rattle.tables.specs.Filled.{filled}
-use Rattle.tables.proofs.Rows.{atomic-known, place-right, components-within, numbers-hold, positions-hold, kinds-hold, orders-hold, phases-hold, parents-hold}
+use Rattle.tables.proofs.Rows.{components-within}
 use Rattle.tables.proofs.Ranges.{starts-within, ends-within, starts-right, ends-right, ends-in}
 use Rattle.tables.proofs.Links.{linked-rows, child-links, coupling-links}
-use Rattle.tables.proofs.Live.{nodes, Closed, down-within, up-keeps, down-keeps, spread-closed}
-use Rattle.tables.proofs.Kin.{src-in, tgt-in, up-order, down-order, down-input, source-component, source-in}
+use Rattle.tables.proofs.Live.{nodes, down-within}
 
 module _ (cs : List Component) (rs : List Rule) (ks : List Coupling) (t : List ℕ) (long : length t ≡ tableSize) (some : 0 < length cs) (few : length cs ≤ maxComponents)
     (short : length ks ≤ maxCouplings) where

@@ -9,7 +9,7 @@ use lib.Dec.{eqb}
 use borrow.Author.Tests.{eq-eqb, ne-eqb}
 use Rattle.definition.specs.Lists.{keep, upFrom}
 use Rattle.definition.specs.Model.{Component, Coupling, noCoupling, componentAt, isChild, children}
-use Rattle.pull_laws.specs.Tables.{links, sourceNumber, targetNumber}
+use Rattle.pull_laws.specs.Tables.{links}
 use Rattle.table_words.specs.Writes.{linked}
 use Rattle.table_words.proofs.Chains.{Chain, having, chain-move, linked-chain}
 use Rattle.component_tables.specs.declared.Field.the-variants.{Parent}

@@ -1,19 +1,19 @@
 -- The ranges of rules hold every rule that names a component. Assumes nothing.
-use mathlib.Core.Path.{_≡_, refl, sym, ap, _∙_, subst}
-use Prim.Native.Nat.{ℕ, zero, suc, _+_, _-_, _<_, _≤_}
-use mathlib.Core.List.{List, [], _∷_}
+use mathlib.Core.Path.{_≡_, refl, sym, ap, _∙_}
+use Prim.Native.Nat.{ℕ, zero, suc, _+_, _<_, _≤_}
+use mathlib.Core.List.{List}
 use mathlib.Core.Bool.{Bool, true, false, cond}
 use native.Mathlib.Omega.{arith}
 use lib.ListN.{length, getD, set}
 use lib.Seq.{getD-set-same, getD-set-other}
 use lib.Dec.{eqb, ltb}
-use borrow.Author.Tests.{eqb-true, eqb-false, eq-eqb, lt-ltb, ltb-true, ltb-false}
+use borrow.Author.Tests.{eqb-true, eqb-false, eq-eqb, ltb-true, ltb-false}
 use Rattle.definition.specs.Limits.{maxComponents}
 use Rattle.definition.specs.Model.{Rule}
-use Rattle.pull_laws.specs.Tables.{rulesFromAt, rulesToAt, childAt, tableSize}
+use Rattle.pull_laws.specs.Tables.{rulesFromAt, rulesToAt}
 use Rattle.table_words.specs.Writes.{putIn}
 use Rattle.table_words.proofs.Columns.{Within, within-none, within-both, within-put}
-use Rattle.component_tables.specs.Columns.{ruleNames, ruleStarts, ruleEnds, byRule}
+use Rattle.component_tables.specs.Columns.{ruleNames, ruleStarts, ruleEnds}
 
 -- a row after a number was put into its region
 pub put-row : (at size k v c : ℕ) (t : List ℕ) → c < size → at + size ≤ length t → getD (putIn at size k v t) (at + c) 0 ≡ cond (eqb k c) v (getD t (at + c) 0)

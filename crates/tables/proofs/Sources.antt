@@ -1,11 +1,11 @@
 -- Where nothing is live, no source leads: every link from a live node ends at one, and every source is live. Assumes nothing.
 use mathlib.Core.Path.{_≡_, refl, sym, ap, _∙_}
-use Prim.Native.Nat.{ℕ, zero, suc, _+_, _-_, _*_, _/_, _%_, _<_, _≤_}
+use Prim.Native.Nat.{ℕ, suc, _+_, _-_, _*_, _%_, _<_, _≤_}
 use mathlib.Core.List.{List, [], _∷_, map}
 use mathlib.Core.Bool.{Bool, true, false, _||_, not, cond}
 use native.Mathlib.Omega.{arith}
 use lib.ListN.{length, getD}
-use lib.Dec.{eqb, ltb}
+use lib.Dec.{eqb}
 use borrow.Author.Tests.{eqb-true, lt-ltb}
 use Rattle.definition.specs.Limits.{maxComponents, maxCouplings, portCount}
 use Rattle.definition.specs.Lists.{keep}
@@ -22,9 +22,9 @@ use Rattle.coupling_tables.specs.declared.End.the-variants.{Source, Target}
 use Rattle.coupling_tables.proofs.Order.{up-within}
 use Rattle.coupling_tables.specs.Links.{linkEnd, isSource, sourceFlag}
 use Rattle.tables.proofs.Rows.{kinds-hold}
-use Rattle.tables.proofs.Live.{nodes, up-keeps, down-keeps, spread-closed}
+use Rattle.tables.proofs.Live.{up-keeps, down-keeps, spread-closed}
 use Rattle.tables.proofs.Kin.{src-in, tgt-in, up-order, down-order, down-input}
-use Rattle.tables.proofs.Holding.{t0, t5, sources, marked, up, down, l0, lm, ls, live-kept, kept1, rows-hold}
+use Rattle.tables.proofs.Holding.{t0, t5, sources, marked, up, l0, lm, ls, live-kept, kept1, rows-hold}
 
 any-none : (p : ℕ → Bool) (S T : Coupling → ℕ) (x : ℕ) (ks : List Coupling)
     → ((i : ℕ) → i < length ks → T (getD ks i noCoupling) ≡ x → p (S (getD ks i noCoupling)) ≡ false) → anyOf p (map S (keep (λ k. eqb (T k) x) ks)) ≡ false

@@ -1,6 +1,6 @@
 -- The filled tables are those of the model, where it is sound. Assumes nothing.
 use mathlib.Core.Path.{_≡_, _∙_, subst, sym}
-use Prim.Native.Nat.{ℕ, _+_, _<_}
+use Prim.Native.Nat.{ℕ, _+_}
 use mathlib.Core.List.{List}
 use native.Mathlib.Omega.{arith}
 use lib.ListN.{length}
@@ -12,7 +12,7 @@ use Rattle.pull_laws.specs.Tabled.{Tabled}
 use Rattle.component_tables.specs.Columns.{ruleNames}
 use Rattle.tables.specs.Filled.{filled}
 use Rattle.tables.proofs.Rows.{atomic-known, place-right, atomics-few, numbers-hold, positions-hold, kinds-hold, orders-hold, phases-hold, parents-hold}
-use Rattle.tables.proofs.Holding.{t0, t5, l0, is-filled, kept1, count-holds, children-hold, rows-hold, ranges-in, ranges-from, ranges-to}
+use Rattle.tables.proofs.Holding.{t0, l0, is-filled, kept1, count-holds, children-hold, rows-hold, ranges-in, ranges-from, ranges-to}
 use Rattle.tables.proofs.Sources.{given-holds, live-holds}
 
 pub tables-hold : (m : Model) → Sound m → (t : List ℕ) → length t ≡ tableSize → Tabled m (filled (m .components) (m .rules) (m .couplings) t)

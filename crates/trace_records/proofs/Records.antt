@@ -2,11 +2,10 @@
 use mathlib.Core.Path.{_≡_, refl, _∙_, sym, ap}
 use mathlib.Core.List.{List, [], _∷_, _++_, map}
 use mathlib.Core.Bool.{Bool, true, false, _&&_, cond}
-use Prim.Native.Nat.{ℕ, zero, suc, _+_, _*_, _-_, _/_, _%_, _≤_, _<_}
+use Prim.Native.Nat.{ℕ, zero, suc, _+_, _*_, _/_, _%_, _≤_, _<_}
 use native.Mathlib.Omega.{arith}
-use native.Mathlib.Nat.{add-zero}
 use lib.Dec.{leb}
-use lib.ListN.{length, length-append, length-map, set, getD, take}
+use lib.ListN.{length, length-append, length-map, getD, take}
 use lib.Seq.{sets, length-take-le, slice, slice-cons, slice-empty}
 use borrow.Author.Tests.{le-leb, lt-leb}
 use Rattle.definition.specs.Bytes.{Bytes, bytesOf}

@@ -7,7 +7,6 @@ use lib.ListN.{length, take}
 use lib.Seq.{sets}
 use Rattle.definition.specs.Bytes.{Bytes}
 use Rattle.definition.specs.Limits.{messageSize, maxRootBag}
-use Rattle.definition.specs.Model.{Bag}
 use Rattle.definition.specs.Instant.{TraceRecord, recordBytes}
 use Rattle.laws.specs.Keys.{messageOf}
 

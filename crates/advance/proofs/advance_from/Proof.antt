@@ -2,24 +2,19 @@
 use borrow.Author.Needs.{needs}
 use native.Mathlib.Omega.{arith}
 use denote.Ref.{now}
-use mathlib.Core.Path.{_∙_, refl, sym, ap}
-use Prim.Native.Nat.{ℕ, _≤_}
+use mathlib.Core.Path.{_∙_, refl, ap}
+use Prim.Native.Nat.{ℕ}
 use lib.ListN.{length}
 use Rattle.attempt.specs.declared.Going.{Going}
 use Rattle.instant.specs.Sim.{simOf}
 use Rattle.saved_run.specs.Runs.{runIn}
-use Rattle.definition.specs.SavedRun.{runBytes, runLength}
-use Rattle.definition.specs.Bytes.{Bytes, stored}
+use Rattle.definition.specs.SavedRun.{runBytes}
+use Rattle.definition.specs.Bytes.{stored}
 use Rattle.definition.specs.Engine.{toBag}
 use Rattle.definition.specs.Advance.{advanceFrom}
 use Rattle.advance.proofs.Outcome.{outcome, begins}
 use Rattle.advance.proofs.advance_from.Statement.{statement}
 use Rattle.advance.proofs.advance_from.Tie as tie
-use Rattle.advance.proofs.advance_from.Reads as reads
-use Rattle.advance.proofs.advance_from.Lts as lts
-use Rattle.advance.proofs.advance_on.Reads as advance-on-reads
-use Rattle.little_endian.proofs.size.Reads as size-reads
-use Rattle.saved_run.proofs.store.Reads as store-reads
 
 -- src/lib.rt:153:9
 advance-on-requires : tie.Need-advance-on-requires

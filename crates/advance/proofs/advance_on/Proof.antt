@@ -5,10 +5,9 @@ use native.Mathlib.Omega.{arith}
 use Rattle.instant.proofs.Sofar.{lent-kept}
 use denote.Ref.{now}
 use mathlib.Core.Path.{_≡_, _∙_, refl, sym, ap, subst}
-use Prim.Native.Nat.{ℕ, suc, _≤_, _*_, _+_, _-_}
+use Prim.Native.Nat.{ℕ, suc, _≤_, _*_, _+_}
 use lib.ListN.{length, take}
 use lib.Seq.{take-length}
-use Rattle.advance.specs.Ends.{endedOf}
 use Rattle.advance.proofs.Turns.{nextOf, no-turn, ends-last, ends-stop, goes-on}
 use Rattle.attempt.specs.Progress.{progressOf, Beyond, Attempted}
 use Rattle.instant.proofs.Steps.{bag-none}
@@ -17,17 +16,11 @@ use Rattle.clock.specs.Times.{timeOf, latest}
 use Rattle.definition.specs.Bytes.{Bytes}
 use Rattle.definition.specs.Devs.{Time}
 use Rattle.definition.specs.Engine.{toBag}
-use Rattle.definition.specs.Instant.{Instant, instant}
-use Rattle.definition.specs.Advance.{advancing, isBefore, moment}
+use Rattle.definition.specs.Instant.{instant}
+use Rattle.definition.specs.Advance.{advancing}
 use Rattle.definition.specs.Limits.{maxSteps}
 use Rattle.advance.proofs.advance_on.Statement.{statement}
 use Rattle.advance.proofs.advance_on.Tie as tie
-use Rattle.advance.proofs.advance_on.Reads as reads
-use Rattle.advance.proofs.advance_on.Lts as lts
-use Rattle.advance.proofs.finish.Reads as finish-reads
-use Rattle.advance.proofs.next_moment.Reads as next-moment-reads
-use Rattle.attempt.proofs.attempt.Reads as attempt-reads
-use Rattle.dues.proofs.next_due.Reads as next-due-reads
 
 abbrev Inv-loop : tie.InvT-loop
 Inv-loop phases rules tables n t bag work₀ keys₀ scratch₀ trace₀ g₀ due₀ left₀ work keys scratch trace g due left =

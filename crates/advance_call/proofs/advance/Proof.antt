@@ -1,6 +1,5 @@
 -- A refused model gives its number (`model-refused`); an accepted one is advanced.
 use borrow.Author.Needs.{needs}
-use native.Mathlib.Omega.{arith}
 use mathlib.Core.Path.{_∙_, ap, sym, subst}
 use Rattle.model.specs.Checked.{checkedAs}
 use Rattle.model.specs.declared.Checked.{Checked}
@@ -8,13 +7,6 @@ use Rattle.route_count.specs.Routed.{Routed}
 use Rattle.advance_call.proofs.Checks.{model-refused}
 use Rattle.advance_call.proofs.advance.Statement.{statement}
 use Rattle.advance_call.proofs.advance.Tie as tie
-use Rattle.advance_call.proofs.advance.Reads as reads
-use Rattle.advance_call.proofs.advance.Lts as lts
-use Rattle.advance_call.proofs.advance_accepted.Reads as advance-accepted-reads
-use Rattle.advance_call.proofs.refused.Reads as refused-reads
-use Rattle.advance_call.proofs.wide16.Reads as wide16-reads
-use Rattle.model.proofs.checked_number.Reads as checked-number-reads
-use Rattle.route_count.proofs.check_routes.Reads as check-routes-reads
 
 -- src/lib.rt:138:9
 check-routes-requires : tie.Need-check-routes-requires

@@ -16,16 +16,6 @@ use Rattle.advance_call.proofs.Checks.{run-unfit, too-early, too-late, 
 use Rattle.advance_call.proofs.Whole.{opens-after, opens-by}
 use Rattle.advance_call.proofs.advance_accepted.Statement.{statement}
 use Rattle.advance_call.proofs.advance_accepted.Tie as tie
-use Rattle.advance_call.proofs.advance_accepted.Reads as reads
-use Rattle.advance_call.proofs.advance_accepted.Lts as lts
-use Rattle.advance_call.proofs.advance_few.Reads as advance-few-reads
-use Rattle.advance_call.proofs.refused.Reads as refused-reads
-use Rattle.given_bag.proofs.bag_fits.Reads as bag-fits-reads
-use Rattle.model.proofs.components_of.Reads as components-of-reads
-use Rattle.model.proofs.phases_of.Reads as phases-of-reads
-use Rattle.saved_run.proofs.atomic_count.Reads as atomic-count-reads
-use Rattle.saved_run.proofs.fits.Reads as fits-reads
-use Rattle.saved_run.proofs.opening_of.Reads as opening-of-reads
 
 -- src/lib.rt:110:9
 components-of-requires : tie.Need-components-of-requires

@@ -11,16 +11,6 @@ use Rattle.reading.proofs.Whole.{same-tables, few-records, few-atomics}
 use Rattle.advance_call.proofs.Whole.{checked-room, call-parts}
 use Rattle.advance_call.proofs.advance_let_in.Statement.{statement}
 use Rattle.advance_call.proofs.advance_let_in.Tie as tie
-use Rattle.advance_call.proofs.advance_let_in.Reads as reads
-use Rattle.advance_call.proofs.advance_let_in.Lts as lts
-use Rattle.advance.proofs.advance_from.Reads as advance-from-reads
-use Rattle.model.proofs.components_of.Reads as components-of-reads
-use Rattle.model.proofs.couplings_of.Reads as couplings-of-reads
-use Rattle.model.proofs.phases_of.Reads as phases-of-reads
-use Rattle.model.proofs.rules_of.Reads as rules-of-reads
-use Rattle.saved_run.proofs.load.Reads as load-reads
-use Rattle.saved_run.proofs.opening_of.Reads as opening-of-reads
-use Rattle.tables.proofs.fill_tables.Reads as fill-tables-reads
 
 -- src/lib.rt:65:9
 components-of-requires : tie.Need-components-of-requires

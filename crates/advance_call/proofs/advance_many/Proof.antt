@@ -4,9 +4,6 @@ use native.Mathlib.Omega.{arith}
 use Rattle.advance_call.proofs.Whole.{most-routes}
 use Rattle.advance_call.proofs.advance_many.Statement.{statement}
 use Rattle.advance_call.proofs.advance_many.Tie as tie
-use Rattle.advance_call.proofs.advance_many.Reads as reads
-use Rattle.advance_call.proofs.advance_many.Lts as lts
-use Rattle.advance_call.proofs.advance_let_in.Reads as advance-let-in-reads
 
 -- src/lib.rt:148:56
 slice-aggregate-advance-let-in : tie.Need-slice-aggregate-advance-let-in

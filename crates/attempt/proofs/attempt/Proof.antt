@@ -5,7 +5,7 @@ use borrow.Author.Needs.{needs}
 use native.Mathlib.Omega.{arith}
 use Rattle.instant.proofs.Sofar.{lent-kept}
 use denote.Ref.{now}
-use mathlib.Core.Path.{_≡_, _∙_, ap, subst}
+use mathlib.Core.Path.{_∙_, ap, subst}
 use Prim.Native.Nat.{ℕ}
 use lib.ListN.{length, take}
 use lib.Seq.{sets}
@@ -13,13 +13,9 @@ use Rattle.attempt.proofs.Tries.{told-jams, told-over, told-stands, att
 use Rattle.instant.specs.Verdicts.{Recorded}
 use Rattle.instant.specs.Sim.{simOf}
 use Rattle.definition.specs.Engine.{toBag}
-use Rattle.definition.specs.Instant.{Instant, instant}
+use Rattle.definition.specs.Instant.{instant}
 use Rattle.attempt.proofs.attempt.Statement.{statement}
 use Rattle.attempt.proofs.attempt.Tie as tie
-use Rattle.attempt.proofs.attempt.Reads as reads
-use Rattle.attempt.proofs.attempt.Lts as lts
-use Rattle.attempt.proofs.copy.Reads as copy-reads
-use Rattle.instant.proofs.instant.Reads as instant-reads
 
 -- src/lib.rt:57:9
 instant-requires : tie.Need-instant-requires

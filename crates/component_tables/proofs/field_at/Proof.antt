@@ -1,14 +1,9 @@
 -- The field of the record read at that number. Assumes nothing.
 use borrow.Author.Needs.{needs}
-use native.Mathlib.Omega.{arith}
 use Rattle.component_tables.specs.Columns.{fieldAt, fieldOf}
-use mathlib.Core.Path.{_≡_, ap, _∙_}
+use mathlib.Core.Path.{ap, _∙_}
 use Rattle.component_tables.proofs.field_at.Statement.{statement}
 use Rattle.component_tables.proofs.field_at.Tie as tie
-use Rattle.component_tables.proofs.field_at.Reads as reads
-use Rattle.component_tables.proofs.field_at.Lts as lts
-use Rattle.component_tables.proofs.field_of.Reads as field-of-reads
-use Rattle.model_records.proofs.component_at.Reads as component-at-reads
 
 component-at-requires : tie.Need-component-at-requires
 component-at-requires c κs = search needs

@@ -1,11 +1,7 @@
 -- One arm for each field; an atomic is told by its kind. Assumes nothing.
 use borrow.Author.Needs.{needs}
-use native.Mathlib.Omega.{arith}
 use Rattle.component_tables.proofs.field_of.Statement.{statement}
 use Rattle.component_tables.proofs.field_of.Tie as tie
-use Rattle.component_tables.proofs.field_of.Reads as reads
-use Rattle.component_tables.proofs.field_of.Lts as lts
-use Rattle.component_tables.proofs.one_if.Reads as one-if-reads
 
 enum-told : tie.Need-enum-told
 enum-told c = search needs

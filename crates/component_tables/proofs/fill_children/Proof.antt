@@ -7,7 +7,7 @@ use Rattle.table_words.proofs.Columns.{column-rows}
 use Rattle.table_words.specs.Writes.{linked}
 use Rattle.pull_laws.specs.Tables.{childAt, siblingAt}
 use Rattle.definition.specs.Limits.{maxComponents}
-use lib.ListN.{length, getD, replicate, length-replicate}
+use lib.ListN.{length, getD, replicate}
 use mathlib.Core.Path.{_≡_, ap, _∙_}
 use Prim.Native.Nat.{ℕ, _-_, _<_, _≤_}
 use Rattle.component_tables.specs.Columns.{byParent, fieldAt}
@@ -15,12 +15,6 @@ use Rattle.model_records.specs.Values.{componentsIn}
 use denote.Ref.{now}
 use Rattle.component_tables.proofs.fill_children.Statement.{statement}
 use Rattle.component_tables.proofs.fill_children.Tie as tie
-use Rattle.component_tables.proofs.fill_children.Reads as reads
-use Rattle.component_tables.proofs.fill_children.Lts as lts
-use Rattle.component_tables.proofs.count_word.Reads as count-word-reads
-use Rattle.component_tables.proofs.less_one.Reads as less-one-reads
-use Rattle.component_tables.proofs.put_fields.Reads as put-fields-reads
-use Rattle.table_words.proofs.link_all.Reads as link-all-reads
 
 slice-aggregate-put-fields : tie.Need-slice-aggregate-put-fields
 slice-aggregate-put-fields c = search needs

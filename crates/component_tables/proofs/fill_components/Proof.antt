@@ -1,6 +1,5 @@
 -- Six parts, one after the other, each over the table that the one before it left. Assumes nothing.
 use borrow.Author.Needs.{needs}
-use native.Mathlib.Omega.{arith}
 use Rattle.component_tables.specs.declared.Field.the-variants.{Kind, Parent, Order, Phases, Atomic}
 use Rattle.component_tables.specs.Columns.{byComponent, fieldAt, fieldsBefore}
 use Rattle.table_words.specs.Writes.{column}
@@ -11,11 +10,6 @@ use denote.Ref.{now}
 use mathlib.Core.Path.{ap, _∙_}
 use Rattle.component_tables.proofs.fill_components.Statement.{statement}
 use Rattle.component_tables.proofs.fill_components.Tie as tie
-use Rattle.component_tables.proofs.fill_components.Reads as reads
-use Rattle.component_tables.proofs.fill_components.Lts as lts
-use Rattle.component_tables.proofs.put_fields.Reads as put-fields-reads
-use Rattle.component_tables.proofs.put_numbers.Reads as put-numbers-reads
-use Rattle.component_tables.proofs.put_sums.Reads as put-sums-reads
 
 put-numbers-requires : tie.Need-put-numbers-requires
 put-numbers-requires c κs = search needs

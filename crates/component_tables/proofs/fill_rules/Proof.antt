@@ -1,6 +1,5 @@
 -- The starts, then the ends over them. Assumes nothing.
 use borrow.Author.Needs.{needs}
-use native.Mathlib.Omega.{arith}
 use Rattle.component_tables.specs.Columns.{byRule, ruleEnds}
 use Rattle.model_records.specs.Values.{rulesIn}
 use lib.ListN.{length}
@@ -8,10 +7,6 @@ use denote.Ref.{now}
 use mathlib.Core.Path.{ap, _∙_}
 use Rattle.component_tables.proofs.fill_rules.Statement.{statement}
 use Rattle.component_tables.proofs.fill_rules.Tie as tie
-use Rattle.component_tables.proofs.fill_rules.Reads as reads
-use Rattle.component_tables.proofs.fill_rules.Lts as lts
-use Rattle.component_tables.proofs.put_rule_ends.Reads as put-rule-ends-reads
-use Rattle.component_tables.proofs.put_rule_starts.Reads as put-rule-starts-reads
 
 put-rule-starts-requires : tie.Need-put-rule-starts-requires
 put-rule-starts-requires c κs = search needs

@@ -1,18 +1,13 @@
 -- An atomic is stored at the position and takes it; any other component changes nothing. Assumes nothing.
 use borrow.Author.Needs.{needs}
-use native.Mathlib.Omega.{arith}
 use Rattle.component_tables.specs.Columns.{numberAt}
 use Rattle.model_records.specs.Values.{componentsIn}
 use Rattle.definition.specs.Model.{isAtomic}
 use denote.Ref.{now}
 use mathlib.Core.Bool.{true, false}
-use mathlib.Core.Path.{_≡_, sym, ap, _∙_}
+use mathlib.Core.Path.{_≡_, sym, _∙_}
 use Rattle.component_tables.proofs.put_number.Statement.{statement}
 use Rattle.component_tables.proofs.put_number.Tie as tie
-use Rattle.component_tables.proofs.put_number.Reads as reads
-use Rattle.component_tables.proofs.put_number.Lts as lts
-use Rattle.little_endian.proofs.size16.Reads as size16-reads
-use Rattle.model_records.proofs.is_atomic.Reads as is-atomic-reads
 
 size16-requires : tie.Need-size16-requires
 size16-requires c κs = search needs

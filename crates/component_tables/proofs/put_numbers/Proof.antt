@@ -11,10 +11,6 @@ use mathlib.Core.Path.{_≡_, refl, sym, ap, _∙_}
 use Prim.Native.Nat.{_≤_, _-_, _+_}
 use Rattle.component_tables.proofs.put_numbers.Statement.{statement}
 use Rattle.component_tables.proofs.put_numbers.Tie as tie
-use Rattle.component_tables.proofs.put_numbers.Reads as reads
-use Rattle.component_tables.proofs.put_numbers.Lts as lts
-use Rattle.component_tables.proofs.count_word.Reads as count-word-reads
-use Rattle.component_tables.proofs.put_number.Reads as put-number-reads
 
 abbrev Inv-loop : tie.InvT-loop
 Inv-loop components t₀ n i₀ c₀ t i c = (c ≤ n) × (i ≤ c) × (length t ≡ length t₀) × (numbered (componentsIn components) (n - c) c (t, i) ≡ numbered (componentsIn components) n 0 (t₀, 0))

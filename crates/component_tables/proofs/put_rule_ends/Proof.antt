@@ -14,12 +14,6 @@ use mathlib.Core.Path.{_≡_, refl, sym, ap, _∙_}
 use Prim.Native.Nat.{_≤_, _-_, _+_}
 use Rattle.component_tables.proofs.put_rule_ends.Statement.{statement}
 use Rattle.component_tables.proofs.put_rule_ends.Tie as tie
-use Rattle.component_tables.proofs.put_rule_ends.Reads as reads
-use Rattle.component_tables.proofs.put_rule_ends.Lts as lts
-use Rattle.component_tables.proofs.rule_name.Reads as rule-name-reads
-use Rattle.component_tables.proofs.rule_word.Reads as rule-word-reads
-use Rattle.little_endian.proofs.size.Reads as size-reads
-use Rattle.table_words.proofs.put_in.Reads as put-in-reads
 
 abbrev Inv-loop : tie.InvT-loop
 Inv-loop rules t₀ n i₀ t i = (i ≤ n) × (length t ≡ length t₀) × (ruleEnds (rulesIn rules) (n - i) i t ≡ ruleEnds (rulesIn rules) n 0 t₀)

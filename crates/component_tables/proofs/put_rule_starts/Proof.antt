@@ -10,15 +10,9 @@ use Rattle.definition.specs.Limits.{maxComponents}
 use lib.ListN.{length}
 use denote.Ref.{now}
 use mathlib.Core.Path.{_≡_, refl, sym, ap, _∙_}
-use Prim.Native.Nat.{_≤_, _-_, _+_}
+use Prim.Native.Nat.{_≤_, _-_}
 use Rattle.component_tables.proofs.put_rule_starts.Statement.{statement}
 use Rattle.component_tables.proofs.put_rule_starts.Tie as tie
-use Rattle.component_tables.proofs.put_rule_starts.Reads as reads
-use Rattle.component_tables.proofs.put_rule_starts.Lts as lts
-use Rattle.component_tables.proofs.rule_name.Reads as rule-name-reads
-use Rattle.component_tables.proofs.rule_word.Reads as rule-word-reads
-use Rattle.little_endian.proofs.size.Reads as size-reads
-use Rattle.table_words.proofs.put_in.Reads as put-in-reads
 
 abbrev Inv-loop : tie.InvT-loop
 Inv-loop rules t₀ i₀ t i = (i ≤ length (rulesIn rules)) × (length t ≡ length t₀) × (ruleStarts (rulesIn rules) i t ≡ ruleStarts (rulesIn rules) (length (rulesIn rules)) t₀)

@@ -1,12 +1,8 @@
 -- Eight nodes a component, inputs first. Assumes nothing.
 use borrow.Author.Needs.{needs}
-use native.Mathlib.Omega.{arith}
 use Rattle.pull_laws.specs.Tables.{inputNode}
 use Rattle.coupling_tables.proofs.input_node.Statement.{statement}
 use Rattle.coupling_tables.proofs.input_node.Tie as tie
-use Rattle.coupling_tables.proofs.input_node.Reads as reads
-use Rattle.coupling_tables.proofs.input_node.Lts as lts
-use Rattle.table_words.proofs.word.Reads as word-reads
 
 cast-result : tie.Need-cast-result
 cast-result c = search needs

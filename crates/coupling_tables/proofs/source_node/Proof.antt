@@ -1,6 +1,5 @@
 -- A coupling from a parent begins at an input, any other at an output: the definition's test. Assumes nothing.
 use borrow.Author.Needs.{needs}
-use native.Mathlib.Omega.{arith}
 use Rattle.pull_laws.specs.Tables.{sourceNumber}
 use Rattle.model_records.specs.Values.{componentsIn}
 use Rattle.definition.specs.Model.{isChild}
@@ -9,12 +8,6 @@ use mathlib.Core.Bool.{true, false}
 use mathlib.Core.Path.{_≡_, sym, _∙_}
 use Rattle.coupling_tables.proofs.source_node.Statement.{statement}
 use Rattle.coupling_tables.proofs.source_node.Tie as tie
-use Rattle.coupling_tables.proofs.source_node.Reads as reads
-use Rattle.coupling_tables.proofs.source_node.Lts as lts
-use Rattle.coupling_tables.proofs.input_node.Reads as input-node-reads
-use Rattle.coupling_tables.proofs.output_node.Reads as output-node-reads
-use Rattle.little_endian.proofs.size.Reads as size-reads
-use Rattle.model_records.proofs.is_child.Reads as is-child-reads
 
 size-requires : tie.Need-size-requires
 size-requires c κs = search needs

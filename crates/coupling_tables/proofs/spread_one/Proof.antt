@@ -1,6 +1,5 @@
 -- The flag read is the definition's test, and the store its one side. Assumes nothing.
 use borrow.Author.Needs.{needs}
-use native.Mathlib.Omega.{arith}
 use Rattle.coupling_tables.specs.Links.{spread}
 use Rattle.pull_laws.specs.Tabled.{isLive}
 use denote.Ref.{now}
@@ -8,10 +7,6 @@ use mathlib.Core.Bool.{true, false}
 use mathlib.Core.Path.{_≡_}
 use Rattle.coupling_tables.proofs.spread_one.Statement.{statement}
 use Rattle.coupling_tables.proofs.spread_one.Tie as tie
-use Rattle.coupling_tables.proofs.spread_one.Reads as reads
-use Rattle.coupling_tables.proofs.spread_one.Lts as lts
-use Rattle.table_words.proofs.put_in.Reads as put-in-reads
-use Rattle.table_words.proofs.word_at.Reads as word-at-reads
 
 add-word-at : tie.Need-add-word-at
 add-word-at c = search needs

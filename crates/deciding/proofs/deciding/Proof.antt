@@ -12,7 +12,7 @@ use lib.ListN.{getD}
 use Prim.Native.Nat.{ℕ, _-_, _*_}
 use mathlib.Core.List.{map}
 use mathlib.Core.Bool.{Bool}
-use mathlib.Core.Path.{sym, ap, _∙_, _≡_, refl}
+use mathlib.Core.Path.{sym, _∙_, _≡_, refl}
 use Rattle.deciding.proofs.deciding.Statement.{statement}
 use Rattle.deciding.proofs.deciding.Tie as tie
 

@@ -1,16 +1,11 @@
 -- The two cases of the advance field; the sum is `Moment.plus`.
 use borrow.Author.Needs.{needs}
-use native.Mathlib.Omega.{arith}
 use Rattle.definition.specs.Devs.{finite}
 use Rattle.due.specs.After.{dueAfter}
-use mathlib.Core.Path.{refl, ap, sym, _∙_}
+use mathlib.Core.Path.{ap}
 use borrow.Author.Tests.{eq-eqb, ne-eqb}
 use Rattle.due.proofs.due_after.Statement.{statement}
 use Rattle.due.proofs.due_after.Tie as tie
-use Rattle.due.proofs.due_after.Reads as reads
-use Rattle.due.proofs.due_after.Lts as lts
-use Rattle.clock.proofs.Moment.plus.Reads as plus-reads
-use Rattle.due.proofs.wide.Reads as wide-reads
 
 -- src/lib.rt:23:9
 returns : tie.Need-returns

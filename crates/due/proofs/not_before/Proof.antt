@@ -1,12 +1,8 @@
 -- The two cases of a due moment.
 use borrow.Author.Needs.{needs}
-use native.Mathlib.Omega.{arith}
 use Rattle.definition.specs.SavedRun.{notBefore}
-use mathlib.Core.Path.{refl, ap, sym, _∙_}
 use Rattle.due.proofs.not_before.Statement.{statement}
 use Rattle.due.proofs.not_before.Tie as tie
-use Rattle.due.proofs.not_before.Reads as reads
-use Rattle.due.proofs.not_before.Lts as lts
 
 -- src/lib.rt:32:17
 enum-known-due : tie.Need-enum-known-due

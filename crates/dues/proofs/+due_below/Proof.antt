@@ -5,12 +5,10 @@ use native.Mathlib.Omega.{arith}
 use Prim.Native.Nat.{_≤_, _-_, ℕ, _<_}
 use mathlib.Core.Path.{_≡_, _∙_, sym, ap}
 use mathlib.Core.Logic.{⊎-elim}
-use mathlib.Core.Bool.{true, false, _&&_}
 use lib.Dec.{ltb}
 use denote.Ref.{now}
 use borrow.Author.Tests.{ltb-true}
 use Rattle.pull_laws.specs.TableStep.{leastOf, dueBelow}
-use Rattle.pull_laws.specs.Tables.{atomicAt}
 use Rattle.model_records.specs.Values.{phasesIn}
 use Rattle.run_state.specs.Held.{held}
 use Rattle.clock.specs.Times.{timeOf}

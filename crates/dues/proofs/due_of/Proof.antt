@@ -1,11 +1,6 @@
 use borrow.Author.Needs.{needs}
-use native.Mathlib.Omega.{arith}
 use Rattle.dues.proofs.due_of.Statement.{statement}
 use Rattle.dues.proofs.due_of.Tie as tie
-use Rattle.dues.proofs.due_of.Reads as reads
-use Rattle.dues.proofs.due_of.Lts as lts
-use Rattle.dues.proofs.due_at.Reads as due-at-reads
-use Rattle.dues.proofs.row_word.Reads as row-word-reads
 
 -- src/lib.rt:78:9
 row-word-requires : tie.Need-row-word-requires

@@ -1,11 +1,7 @@
 use borrow.Author.Needs.{needs}
-use native.Mathlib.Omega.{arith}
 use Rattle.pull_laws.specs.Tables.{atomicAt}
 use Rattle.dues.proofs.is_atomic.Statement.{statement}
 use Rattle.dues.proofs.is_atomic.Tie as tie
-use Rattle.dues.proofs.is_atomic.Reads as reads
-use Rattle.dues.proofs.is_atomic.Lts as lts
-use Rattle.dues.proofs.row_word.Reads as row-word-reads
 
 -- src/lib.rt:71:5
 row-word-requires : tie.Need-row-word-requires

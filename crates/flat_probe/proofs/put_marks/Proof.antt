@@ -10,9 +10,6 @@ use denote.Ref.{now}
 use Rattle.definition.specs.Limits.{maxComponents}
 use Rattle.flat_probe.proofs.put_marks.Statement.{statement}
 use Rattle.flat_probe.proofs.put_marks.Tie as tie
-use Rattle.flat_probe.proofs.put_marks.Reads as reads
-use Rattle.flat_probe.proofs.put_marks.Lts as lts
-use Rattle.flat_probe.proofs.mark.Reads as mark-reads
 
 abbrev Inv-loop : tie.InvT-loop
 Inv-loop marks₀ c₀ marks c = (c ≤ maxComponents) × (length marks ≡ length marks₀) × (sets marks c (marksFrom c) ≡ sets marks₀ 0 (marksFrom 0))

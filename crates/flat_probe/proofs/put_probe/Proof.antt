@@ -4,10 +4,6 @@ use Rattle.flat_probe.proofs.Stored.{probe-puts}
 use denote.Ref.{now}
 use Rattle.flat_probe.proofs.put_probe.Statement.{statement}
 use Rattle.flat_probe.proofs.put_probe.Tie as tie
-use Rattle.flat_probe.proofs.put_probe.Reads as reads
-use Rattle.flat_probe.proofs.put_probe.Lts as lts
-use Rattle.flat_probe.proofs.put_slot.Reads as put-slot-reads
-use Rattle.little_endian.proofs.put_number.Reads as put-number-reads
 
 -- src/lib.rt:40:5
 put-number-requires : tie.Need-put-number-requires

@@ -11,9 +11,6 @@ use denote.Ref.{now}
 use Rattle.definition.specs.Limits.{maxComponents}
 use Rattle.flat_probe.proofs.put_probes.Statement.{statement}
 use Rattle.flat_probe.proofs.put_probes.Tie as tie
-use Rattle.flat_probe.proofs.put_probes.Reads as reads
-use Rattle.flat_probe.proofs.put_probes.Lts as lts
-use Rattle.flat_probe.proofs.put_probe.Reads as put-probe-reads
 
 abbrev Inv-loop : tie.InvT-loop
 Inv-loop out₀ c₀ out c = (c ≤ maxComponents) × (length out ≡ length out₀) × (sets out (18 * c) (probesFrom c) ≡ sets out₀ 0 (probesFrom 0))

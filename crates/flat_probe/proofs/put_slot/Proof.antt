@@ -4,11 +4,6 @@ use Rattle.flat_probe.proofs.Stored.{slot-puts}
 use denote.Ref.{now}
 use Rattle.flat_probe.proofs.put_slot.Statement.{statement}
 use Rattle.flat_probe.proofs.put_slot.Tie as tie
-use Rattle.flat_probe.proofs.put_slot.Reads as reads
-use Rattle.flat_probe.proofs.put_slot.Lts as lts
-use Rattle.flat_probe.proofs.wide.Reads as wide-reads
-use Rattle.flat_probe.proofs.wide_size.Reads as wide-size-reads
-use Rattle.little_endian.proofs.put_number.Reads as put-number-reads
 
 -- src/lib.rt:31:28
 wide-requires : tie.Need-wide-requires

@@ -9,11 +9,6 @@ use mathlib.Core.Path.{_≡_}
 use denote.Ref.{now}
 use Rattle.flat_ranks.proofs.rank_of.Statement.{statement}
 use Rattle.flat_ranks.proofs.rank_of.Tie as tie
-use Rattle.flat_ranks.proofs.rank_of.Reads as reads
-use Rattle.flat_ranks.proofs.rank_of.Lts as lts
-use Rattle.flat_ranks.proofs.size.Reads as size-reads
-use Rattle.flat_ranks.proofs.wide.Reads as wide-reads
-use Rattle.table_words.proofs.word_at.Reads as word-at-reads
 
 -- src/lib.rt:23:9
 returns : tie.Need-returns

@@ -10,10 +10,6 @@ use mathlib.Core.Path.{_≡_, refl, _∙_}
 use denote.Ref.{now}
 use Rattle.flat_rows.proofs.add_all.Statement.{statement}
 use Rattle.flat_rows.proofs.add_all.Tie as tie
-use Rattle.flat_rows.proofs.add_all.Reads as reads
-use Rattle.flat_rows.proofs.add_all.Lts as lts
-use Rattle.flat_rows.proofs.add_atomic.Reads as add-atomic-reads
-use Rattle.flat_rows.proofs.add_root.Reads as add-root-reads
 
 abbrev Inv-loop : tie.InvT-loop
 Inv-loop phases tables marks given n keys₀ rows₀ at₀ i₀ keys rows at i = (i ≤ n) × (length keys ≡ length keys₀) × (length rows ≡ length rows₀) × So (phasesIn phases) tables marks (toBag given) n i at rows

@@ -10,13 +10,6 @@ use mathlib.Core.Path.{sym, ap, _∙_}
 use denote.Ref.{now}
 use Rattle.flat_rows.proofs.add_atomic.Statement.{statement}
 use Rattle.flat_rows.proofs.add_atomic.Tie as tie
-use Rattle.flat_rows.proofs.add_atomic.Reads as reads
-use Rattle.flat_rows.proofs.add_atomic.Lts as lts
-use Rattle.collect.proofs.collect_bag.Reads as collect-bag-reads
-use Rattle.flat_rows.proofs.put_rows.Reads as put-rows-reads
-use Rattle.flat_rows.proofs.wide.Reads as wide-reads
-use Rattle.little_endian.proofs.size.Reads as size-reads
-use Rattle.table_words.proofs.word_at.Reads as word-at-reads
 
 -- src/lib.rt:95:42
 size-requires : tie.Need-size-requires

@@ -10,10 +10,6 @@ use mathlib.Core.Path.{ap, _∙_}
 use denote.Ref.{now}
 use Rattle.flat_rows.proofs.add_root.Statement.{statement}
 use Rattle.flat_rows.proofs.add_root.Tie as tie
-use Rattle.flat_rows.proofs.add_root.Reads as reads
-use Rattle.flat_rows.proofs.add_root.Lts as lts
-use Rattle.collect.proofs.collect_root.Reads as collect-root-reads
-use Rattle.flat_rows.proofs.put_rows.Reads as put-rows-reads
 
 -- src/lib.rt:74:9
 collect-root-requires : tie.Need-collect-root-requires

@@ -8,12 +8,6 @@ use mathlib.Core.Path.{_≡_, sym, ap, _∙_, subst}
 use denote.Ref.{now}
 use Rattle.flat_rows.proofs.flat_rows.Statement.{statement}
 use Rattle.flat_rows.proofs.flat_rows.Tie as tie
-use Rattle.flat_rows.proofs.flat_rows.Reads as reads
-use Rattle.flat_rows.proofs.flat_rows.Lts as lts
-use Rattle.flat_probe.proofs.put_marks.Reads as put-marks-reads
-use Rattle.flat_probe.proofs.put_probes.Reads as put-probes-reads
-use Rattle.flat_rows.proofs.add_all.Reads as add-all-reads
-use Rattle.sort.proofs.sort.Reads as sort-reads
 
 -- src/lib.rt:130:16
 slice-aggregate-put-probes : tie.Need-slice-aggregate-put-probes

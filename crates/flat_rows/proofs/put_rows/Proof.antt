@@ -12,9 +12,6 @@ use mathlib.Core.Path.{_≡_, refl, sym, ap, _∙_}
 use denote.Ref.{now}
 use Rattle.flat_rows.proofs.put_rows.Statement.{statement}
 use Rattle.flat_rows.proofs.put_rows.Tie as tie
-use Rattle.flat_rows.proofs.put_rows.Reads as reads
-use Rattle.flat_rows.proofs.put_rows.Lts as lts
-use Rattle.flat_rows.proofs.row_of.Reads as row-of-reads
 
 abbrev Inv-loop : tie.InvT-loop
 Inv-loop tables end keys count rows₀ at i₀ rows i = (i ≤ count) × (length rows ≡ length rows₀) × (sets rows (at + i) (map (rowOf tables end) (drop i (take count keys))) ≡ sets rows₀ at (map (rowOf tables end) (take count keys)))

@@ -4,8 +4,6 @@ use Rattle.flat_rows.specs.Rows.{rowNumber}
 use mathlib.Core.Path.{refl}
 use Rattle.flat_rows.proofs.row_number.Statement.{statement}
 use Rattle.flat_rows.proofs.row_number.Tie as tie
-use Rattle.flat_rows.proofs.row_number.Reads as reads
-use Rattle.flat_rows.proofs.row_number.Lts as lts
 
 -- src/lib.rt:37:5
 mul-result : tie.Need-mul-result

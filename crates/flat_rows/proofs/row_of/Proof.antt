@@ -4,10 +4,6 @@ use Rattle.flat_rows.specs.Rows.{rowOf}
 use Rattle.pull_laws.specs.Tables.{nodeComponent, nodePort}
 use Rattle.flat_rows.proofs.row_of.Statement.{statement}
 use Rattle.flat_rows.proofs.row_of.Tie as tie
-use Rattle.flat_rows.proofs.row_of.Reads as reads
-use Rattle.flat_rows.proofs.row_of.Lts as lts
-use Rattle.flat_ranks.proofs.rank_of.Reads as rank-of-reads
-use Rattle.flat_rows.proofs.row_number.Reads as row-number-reads
 
 -- src/lib.rt:45:9
 rank-of-requires : tie.Need-rank-of-requires

@@ -8,8 +8,6 @@ use Prim.Native.Nat.{_+_, _<_}
 use denote.Ref.{now}
 use Rattle.flat_writer.proofs.put_atomic.Statement.{statement}
 use Rattle.flat_writer.proofs.put_atomic.Tie as tie
-use Rattle.flat_writer.proofs.put_atomic.Reads as reads
-use Rattle.flat_writer.proofs.put_atomic.Lts as lts
 
 -- src/lib.rt:71:5
 slice-write-out : tie.Need-slice-write-out

@@ -14,13 +14,6 @@ use mathlib.Core.Path.{_≡_, refl, sym, _∙_}
 use denote.Ref.{now}
 use Rattle.flat_writer.proofs.put_atomics.Statement.{statement}
 use Rattle.flat_writer.proofs.put_atomics.Tie as tie
-use Rattle.flat_writer.proofs.put_atomics.Reads as reads
-use Rattle.flat_writer.proofs.put_atomics.Lts as lts
-use Rattle.flat_writer.proofs.put_atomic.Reads as put-atomic-reads
-use Rattle.little_endian.proofs.size.Reads as size-reads
-use Rattle.little_endian.proofs.size16.Reads as size16-reads
-use Rattle.model_records.proofs.component_at.Reads as component-at-reads
-use Rattle.table_words.proofs.word_at.Reads as word-at-reads
 
 abbrev Inv-loop : tie.InvT-loop
 Inv-loop components tables n out₀ i₀ out i = (i ≤ n) × (length out ≡ length out₀) × (sets out (7 + 5 * i) (concat (map componentBytes (drop i (atomicsBy (componentsIn components) tables n)))) ≡ sets out₀ 7 (concat (map componentBytes (atomicsBy (componentsIn components) tables n))))

@@ -11,8 +11,6 @@ use mathlib.Core.Path.{_≡_, refl, sym, ap, _∙_}
 use denote.Ref.{now}
 use Rattle.flat_writer.proofs.put_bytes.Statement.{statement}
 use Rattle.flat_writer.proofs.put_bytes.Tie as tie
-use Rattle.flat_writer.proofs.put_bytes.Reads as reads
-use Rattle.flat_writer.proofs.put_bytes.Lts as lts
 
 abbrev Inv-loop : tie.InvT-loop
 Inv-loop part out₀ at i₀ out i = (i ≤ length part) × (length out ≡ length out₀) × (sets out (at + i) (slice i (length part) part) ≡ sets out₀ at part)

@@ -5,12 +5,6 @@ use Rattle.model_records.specs.Values.{componentsIn}
 use denote.Ref.{now}
 use Rattle.flat_writer.proofs.put_components.Statement.{statement}
 use Rattle.flat_writer.proofs.put_components.Tie as tie
-use Rattle.flat_writer.proofs.put_components.Reads as reads
-use Rattle.flat_writer.proofs.put_components.Lts as lts
-use Rattle.flat_writer.proofs.put_atomics.Reads as put-atomics-reads
-use Rattle.flat_writer.proofs.wide.Reads as wide-reads
-use Rattle.little_endian.proofs.put_number.Reads as put-number-reads
-use Rattle.little_endian.proofs.size.Reads as size-reads
 
 -- src/lib.rt:96:41
 size-requires : tie.Need-size-requires

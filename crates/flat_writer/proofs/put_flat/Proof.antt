@@ -8,15 +8,6 @@ use lib.ListN.{take}
 use denote.Ref.{now}
 use Rattle.flat_writer.proofs.put_flat.Statement.{statement}
 use Rattle.flat_writer.proofs.put_flat.Tie as tie
-use Rattle.flat_writer.proofs.put_flat.Reads as reads
-use Rattle.flat_writer.proofs.put_flat.Lts as lts
-use Rattle.flat_writer.proofs.put_components.Reads as put-components-reads
-use Rattle.flat_writer.proofs.put_phases.Reads as put-phases-reads
-use Rattle.flat_writer.proofs.put_rows.Reads as put-rows-reads
-use Rattle.flat_writer.proofs.put_rules.Reads as put-rules-reads
-use Rattle.little_endian.proofs.size.Reads as size-reads
-use Rattle.model_records.proofs.phase_count.Reads as phase-count-reads
-use Rattle.model_records.proofs.rule_count.Reads as rule-count-reads
 
 -- src/lib.rt:200:5
 put-components-requires : tie.Need-put-components-requires

@@ -8,13 +8,6 @@ use Prim.Native.Nat.{_*_}
 use denote.Ref.{now}
 use Rattle.flat_writer.proofs.put_phases.Statement.{statement}
 use Rattle.flat_writer.proofs.put_phases.Tie as tie
-use Rattle.flat_writer.proofs.put_phases.Reads as reads
-use Rattle.flat_writer.proofs.put_phases.Lts as lts
-use Rattle.flat_writer.proofs.put_bytes.Reads as put-bytes-reads
-use Rattle.flat_writer.proofs.wide.Reads as wide-reads
-use Rattle.little_endian.proofs.front.Reads as front-reads
-use Rattle.little_endian.proofs.put_number.Reads as put-number-reads
-use Rattle.model_records.proofs.phase_count.Reads as phase-count-reads
 
 -- src/lib.rt:107:9
 phase-count-requires : tie.Need-phase-count-requires

@@ -7,8 +7,6 @@ use Prim.Native.Nat.{_+_, _<_}
 use denote.Ref.{now}
 use Rattle.flat_writer.proofs.put_row.Statement.{statement}
 use Rattle.flat_writer.proofs.put_row.Tie as tie
-use Rattle.flat_writer.proofs.put_row.Reads as reads
-use Rattle.flat_writer.proofs.put_row.Lts as lts
 
 -- src/lib.rt:152:15
 cast-out : tie.Need-cast-out

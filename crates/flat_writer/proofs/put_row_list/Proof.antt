@@ -13,9 +13,6 @@ use mathlib.Core.Path.{_≡_, refl, sym, ap, _∙_}
 use denote.Ref.{now}
 use Rattle.flat_writer.proofs.put_row_list.Statement.{statement}
 use Rattle.flat_writer.proofs.put_row_list.Tie as tie
-use Rattle.flat_writer.proofs.put_row_list.Reads as reads
-use Rattle.flat_writer.proofs.put_row_list.Lts as lts
-use Rattle.flat_writer.proofs.put_row.Reads as put-row-reads
 
 abbrev Inv-loop : tie.InvT-loop
 Inv-loop rows n out₀ at i₀ out i = (i ≤ n) × (length out ≡ length out₀) × (sets out (at + 4 * i) (concat (map couplingBytes (drop i (map couplingOf (take n rows))))) ≡ sets out₀ at (concat (map couplingBytes (map couplingOf (take n rows)))))

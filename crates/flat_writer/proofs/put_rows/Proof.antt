@@ -9,11 +9,6 @@ use mathlib.Core.Path.{sym}
 use denote.Ref.{now}
 use Rattle.flat_writer.proofs.put_rows.Statement.{statement}
 use Rattle.flat_writer.proofs.put_rows.Tie as tie
-use Rattle.flat_writer.proofs.put_rows.Reads as reads
-use Rattle.flat_writer.proofs.put_rows.Lts as lts
-use Rattle.flat_writer.proofs.put_row_list.Reads as put-row-list-reads
-use Rattle.flat_writer.proofs.wide.Reads as wide-reads
-use Rattle.little_endian.proofs.put_number.Reads as put-number-reads
 
 -- src/lib.rt:173:37
 wide-requires : tie.Need-wide-requires

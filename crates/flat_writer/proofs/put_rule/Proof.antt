@@ -7,16 +7,6 @@ use lib.ListN.{length-take}
 use denote.Ref.{now}
 use Rattle.flat_writer.proofs.put_rule.Statement.{statement}
 use Rattle.flat_writer.proofs.put_rule.Tie as tie
-use Rattle.flat_writer.proofs.put_rule.Reads as reads
-use Rattle.flat_writer.proofs.put_rule.Lts as lts
-use Rattle.flat_ranks.proofs.rank_of.Reads as rank-of-reads
-use Rattle.flat_writer.proofs.number.Reads as number-reads
-use Rattle.flat_writer.proofs.put_bytes.Reads as put-bytes-reads
-use Rattle.flat_writer.proofs.wide32.Reads as wide32-reads
-use Rattle.little_endian.proofs.byte_at.Reads as byte-at-reads
-use Rattle.little_endian.proofs.front.Reads as front-reads
-use Rattle.little_endian.proofs.put_number.Reads as put-number-reads
-use Rattle.little_endian.proofs.rest.Reads as rest-reads
 
 -- src/lib.rt:119:39
 byte-at-requires : tie.Need-byte-at-requires

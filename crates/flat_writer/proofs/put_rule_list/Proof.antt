@@ -14,11 +14,6 @@ use mathlib.Core.Path.{_≡_, refl, sym, ap, _∙_}
 use denote.Ref.{now}
 use Rattle.flat_writer.proofs.put_rule_list.Statement.{statement}
 use Rattle.flat_writer.proofs.put_rule_list.Tie as tie
-use Rattle.flat_writer.proofs.put_rule_list.Reads as reads
-use Rattle.flat_writer.proofs.put_rule_list.Lts as lts
-use Rattle.flat_writer.proofs.put_rule.Reads as put-rule-reads
-use Rattle.little_endian.proofs.front.Reads as front-reads
-use Rattle.little_endian.proofs.rest.Reads as rest-reads
 
 abbrev Inv-loop : tie.InvT-loop
 Inv-loop rules tables n out₀ at i₀ out i = (i ≤ n) × (length out ≡ length out₀) × (sets out (at + 18 * i) (concat (map ruleBytes (drop i (map (ruleBy tables) (rulesIn rules))))) ≡ sets out₀ at (concat (map ruleBytes (map (ruleBy tables) (rulesIn rules)))))

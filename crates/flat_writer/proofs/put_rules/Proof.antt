@@ -10,12 +10,6 @@ use mathlib.Core.Path.{sym, _∙_}
 use denote.Ref.{now}
 use Rattle.flat_writer.proofs.put_rules.Statement.{statement}
 use Rattle.flat_writer.proofs.put_rules.Tie as tie
-use Rattle.flat_writer.proofs.put_rules.Reads as reads
-use Rattle.flat_writer.proofs.put_rules.Lts as lts
-use Rattle.flat_writer.proofs.put_rule_list.Reads as put-rule-list-reads
-use Rattle.flat_writer.proofs.wide.Reads as wide-reads
-use Rattle.little_endian.proofs.put_number.Reads as put-number-reads
-use Rattle.model_records.proofs.rule_count.Reads as rule-count-reads
 
 -- src/lib.rt:141:9
 rule-count-requires : tie.Need-rule-count-requires

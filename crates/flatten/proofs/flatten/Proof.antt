@@ -10,12 +10,6 @@ use Rattle.pull_laws.specs.Tables.{tableSize}
 use Prim.Native.Nat.{ℕ}
 use Rattle.flatten.proofs.flatten.Statement.{statement}
 use Rattle.flatten.proofs.flatten.Tie as tie
-use Rattle.flatten.proofs.flatten.Reads as reads
-use Rattle.flatten.proofs.flatten.Lts as lts
-use Rattle.flatten.proofs.flatten_accepted.Reads as flatten-accepted-reads
-use Rattle.flatten.proofs.wide16.Reads as wide16-reads
-use Rattle.model.proofs.checked_number.Reads as checked-number-reads
-use Rattle.route_count.proofs.check.Reads as check-reads
 
 -- src/lib.rt:75:9
 check-requires : tie.Need-check-requires

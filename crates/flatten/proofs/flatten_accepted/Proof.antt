@@ -10,19 +10,6 @@ use mathlib.Core.Path.{ap, _∙_, subst}
 use denote.Ref.{now}
 use Rattle.flatten.proofs.flatten_accepted.Statement.{statement}
 use Rattle.flatten.proofs.flatten_accepted.Tie as tie
-use Rattle.flatten.proofs.flatten_accepted.Reads as reads
-use Rattle.flatten.proofs.flatten_accepted.Lts as lts
-use Rattle.flat_rows.proofs.flat_rows.Reads as flat-rows-reads
-use Rattle.flat_writer.proofs.flat_size.Reads as flat-size-reads
-use Rattle.flat_writer.proofs.put_flat.Reads as put-flat-reads
-use Rattle.flatten.proofs.small.Reads as small-reads
-use Rattle.flatten.proofs.wide.Reads as wide-reads
-use Rattle.model.proofs.components_of.Reads as components-of-reads
-use Rattle.model.proofs.couplings_of.Reads as couplings-of-reads
-use Rattle.model.proofs.phases_of.Reads as phases-of-reads
-use Rattle.model.proofs.rules_of.Reads as rules-of-reads
-use Rattle.saved_run.proofs.atomic_count.Reads as atomic-count-reads
-use Rattle.tables.proofs.fill_tables.Reads as fill-tables-reads
 
 -- src/lib.rt:51:9
 components-of-requires : tie.Need-components-of-requires

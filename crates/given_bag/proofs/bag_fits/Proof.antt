@@ -3,9 +3,6 @@ use borrow.Author.Needs.{needs}
 use Rattle.definition.specs.Engine.{bagFits}
 use Rattle.given_bag.proofs.bag_fits.Statement.{statement}
 use Rattle.given_bag.proofs.bag_fits.Tie as tie
-use Rattle.given_bag.proofs.bag_fits.Reads as reads
-use Rattle.given_bag.proofs.bag_fits.Lts as lts
-use Rattle.given_bag.proofs.ports_fit.Reads as ports-fit-reads
 
 -- src/lib.rt:34:43
 mul-result : tie.Need-mul-result

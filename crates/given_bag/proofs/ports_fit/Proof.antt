@@ -3,19 +3,15 @@ use borrow.Author.Needs.{needs}
 use native.Mathlib.Omega.{arith}
 use Rattle.given_bag.proofs.Laws.{portAt, port-is, ports-all}
 use Rattle.byte_laws.proofs.Alls.{all-start, all-more, all-no, all-end}
-use Rattle.definition.specs.Limits.{messageSize, portCount}
+use Rattle.definition.specs.Limits.{messageSize}
 use Rattle.definition.specs.Lists.{all, upFrom}
 use borrow.Author.Tests.{le-ltb, lt-ltb}
-use lib.Dec.{ltb}
 use mathlib.Core.Bool.{true, false}
 use lib.ListN.{length}
-use Prim.Native.Nat.{_≤_, _-_, _*_, _/_}
+use Prim.Native.Nat.{_≤_, _-_, _/_}
 use mathlib.Core.Path.{_≡_, refl, sym, _∙_}
 use Rattle.given_bag.proofs.ports_fit.Statement.{statement}
 use Rattle.given_bag.proofs.ports_fit.Tie as tie
-use Rattle.given_bag.proofs.ports_fit.Reads as reads
-use Rattle.given_bag.proofs.ports_fit.Lts as lts
-use Rattle.little_endian.proofs.byte_at.Reads as byte-at-reads
 
 abbrev Inv-loop : tie.InvT-loop
 Inv-loop bag n i₀ i = (i ≤ n) × (n ≡ length bag / messageSize) × (all (portAt bag) (upFrom i (n - i)) ≡ all (portAt bag) (upFrom 0 n))

@@ -1,13 +1,9 @@
 -- The definition's test: something is due there, or the bag has a whole row (`bag-empty`).
 use borrow.Author.Needs.{needs}
-use native.Mathlib.Omega.{arith}
 use Rattle.instant.proofs.Steps.{bag-empty}
 use denote.Ref.{now}
 use Rattle.instant.proofs.goes_on.Statement.{statement}
 use Rattle.instant.proofs.goes_on.Tie as tie
-use Rattle.instant.proofs.goes_on.Reads as reads
-use Rattle.instant.proofs.goes_on.Lts as lts
-use Rattle.dues.proofs.is_now.Reads as is-now-reads
 
 -- src/lib.rt:48:5
 is-now-requires : tie.Need-is-now-requires

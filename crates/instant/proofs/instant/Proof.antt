@@ -5,7 +5,7 @@ use borrow.Author.Needs.{needs}
 use native.Mathlib.Omega.{arith}
 use denote.Ref.{now}
 use mathlib.Core.Path.{_≡_, _∙_, refl, sym, ap, subst}
-use mathlib.Core.Bool.{Bool, true, false, _||_, not}
+use mathlib.Core.Bool.{true, false, _||_, not}
 use Prim.Native.Nat.{ℕ, _≤_, _<_, _*_, _+_, _-_}
 use lib.ListN.{length, take}
 use Rattle.definition.specs.Lists.{isEmpty}
@@ -22,12 +22,6 @@ use Rattle.instant.specs.Sim.{simOf}
 use Rattle.instant.proofs.Sofar.{Gives, Sofar, sofar-none, sofar-more, keys-hold, rest-all, rest-stops, rest-jams, rest-more, judged-jams, judged-over, judged-stands}
 use Rattle.instant.proofs.instant.Statement.{statement}
 use Rattle.instant.proofs.instant.Tie as tie
-use Rattle.instant.proofs.instant.Reads as reads
-use Rattle.instant.proofs.instant.Lts as lts
-use Rattle.dues.proofs.next_due.Reads as next-due-reads
-use Rattle.instant.proofs.goes_on.Reads as goes-on-reads
-use Rattle.simulator.proofs.step_once.Reads as step-once-reads
-use Rattle.trace_records.proofs.put_step.Reads as put-step-reads
 
 abbrev Inv-loop : tie.InvT-loop
 Inv-loop phases rules tables n at bag len st due work₀ keys₀ out₀ from phase₀ last₀ next₀ given₀ used₀ over₀ k₀ work keys out phase last next given used over k =

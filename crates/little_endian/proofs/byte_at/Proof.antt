@@ -1,15 +1,12 @@
 -- `little_endian::byte_at` meets its contract. A one-byte number is the element at its place, and past the end both are 0 (number-one).
 -- Assumes nothing.
 use borrow.Author.Needs.{needs}
-use native.Mathlib.Omega.{arith}
 use Rattle.byte_laws.proofs.Rows.{number-one}
 use lib.ListN.{List·getD-eq-default}
 use denote.Ref.{now}
 use mathlib.Core.Path.{sym, _∙_}
 use Rattle.little_endian.proofs.byte_at.Statement.{statement}
 use Rattle.little_endian.proofs.byte_at.Tie as tie
-use Rattle.little_endian.proofs.byte_at.Reads as reads
-use Rattle.little_endian.proofs.byte_at.Lts as lts
 
 -- src/lib.rt:22:23
 shared-slice-read-result : tie.Need-shared-slice-read-result

@@ -7,8 +7,6 @@ use denote.Ref.{now}
 use mathlib.Core.Path.{sym}
 use Rattle.little_endian.proofs.front.Statement.{statement}
 use Rattle.little_endian.proofs.front.Tie as tie
-use Rattle.little_endian.proofs.front.Reads as reads
-use Rattle.little_endian.proofs.front.Lts as lts
 
 -- src/lib.rt:64:23
 slice-aggregate-result : tie.Need-slice-aggregate-result

@@ -3,7 +3,7 @@
 -- nothing.
 use borrow.Author.Needs.{needs}
 use native.Mathlib.Omega.{arith}
-use Prim.Native.Nat.{ℕ, _≤_, _<_, _*_, _+_, _-_}
+use Prim.Native.Nat.{_≤_, _-_}
 use mathlib.Core.Path.{_≡_, _∙_, sym}
 use denote.Ref.{now}
 use native.Mathlib.Nat.{sub-zero}
@@ -11,10 +11,6 @@ use Rattle.definition.specs.Bytes.{number}
 use Rattle.byte_laws.proofs.Rows.{number-none, number-fits, number-back}
 use Rattle.little_endian.proofs.number_of.Statement.{statement}
 use Rattle.little_endian.proofs.number_of.Tie as tie
-use Rattle.little_endian.proofs.number_of.Reads as reads
-use Rattle.little_endian.proofs.number_of.Lts as lts
-use Rattle.little_endian.proofs.byte_at.Reads as byte-at-reads
-use Rattle.little_endian.proofs.wide.Reads as wide-reads
 
 abbrev Inv-loop : tie.InvT-loop
 Inv-loop s n k₀ v₀ k v = (k ≤ n) × (v ≡ number (n - k) k s)

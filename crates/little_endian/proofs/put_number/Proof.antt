@@ -11,8 +11,6 @@ use Rattle.definition.specs.Bytes.{bytesOf}
 use Rattle.byte_laws.proofs.Rows.{sets-more, bytes-none}
 use Rattle.little_endian.proofs.put_number.Statement.{statement}
 use Rattle.little_endian.proofs.put_number.Tie as tie
-use Rattle.little_endian.proofs.put_number.Reads as reads
-use Rattle.little_endian.proofs.put_number.Lts as lts
 
 abbrev Inv-loop : tie.InvT-loop
 Inv-loop out₀ at n v k₀ w₀ out k w = (k ≤ n) × (length out ≡ length out₀) × (sets out (at + k) (bytesOf (n - k) w) ≡ sets out₀ at (bytesOf n v))

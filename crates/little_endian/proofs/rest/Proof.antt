@@ -7,8 +7,6 @@ use denote.Ref.{now}
 use mathlib.Core.Path.{sym}
 use Rattle.little_endian.proofs.rest.Statement.{statement}
 use Rattle.little_endian.proofs.rest.Tie as tie
-use Rattle.little_endian.proofs.rest.Reads as reads
-use Rattle.little_endian.proofs.rest.Lts as lts
 
 -- src/lib.rt:57:24
 sub-result : tie.Need-sub-result

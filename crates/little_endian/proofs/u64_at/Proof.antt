@@ -1,17 +1,12 @@
 -- `little_endian::u64_at` meets its contract. The number at the front of the rest is the number at the position (number-drop). Assumes
 -- nothing.
 use borrow.Author.Needs.{needs}
-use native.Mathlib.Omega.{arith}
 use mathlib.Core.Path.{_∙_, ap}
 use denote.Ref.{now}
 use Rattle.definition.specs.Bytes.{number}
 use Rattle.byte_laws.proofs.Rows.{number-drop}
 use Rattle.little_endian.proofs.u64_at.Statement.{statement}
 use Rattle.little_endian.proofs.u64_at.Tie as tie
-use Rattle.little_endian.proofs.u64_at.Reads as reads
-use Rattle.little_endian.proofs.u64_at.Lts as lts
-use Rattle.little_endian.proofs.number_of.Reads as number-of-reads
-use Rattle.little_endian.proofs.rest.Reads as rest-reads
 
 -- src/lib.rt:78:9
 rest-requires : tie.Need-rest-requires

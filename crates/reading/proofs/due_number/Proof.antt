@@ -3,8 +3,6 @@ use borrow.Author.Needs.{needs}
 use Rattle.definition.specs.Engine.{dueNumber}
 use Rattle.reading.proofs.due_number.Statement.{statement}
 use Rattle.reading.proofs.due_number.Tie as tie
-use Rattle.reading.proofs.due_number.Reads as reads
-use Rattle.reading.proofs.due_number.Lts as lts
 
 -- src/lib.rt:57:17
 enum-known-due : tie.Need-enum-known-due

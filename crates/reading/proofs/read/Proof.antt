@@ -5,13 +5,6 @@ use Rattle.model.specs.Checked.{checkedAs}
 use mathlib.Core.Path.{_∙_, ap, sym}
 use Rattle.reading.proofs.read.Statement.{statement}
 use Rattle.reading.proofs.read.Tie as tie
-use Rattle.reading.proofs.read.Reads as reads
-use Rattle.reading.proofs.read.Lts as lts
-use Rattle.model.proofs.checked_number.Reads as checked-number-reads
-use Rattle.reading.proofs.read_accepted.Reads as read-accepted-reads
-use Rattle.reading.proofs.refused.Reads as refused-reads
-use Rattle.reading.proofs.wide16.Reads as wide16-reads
-use Rattle.route_count.proofs.check.Reads as check-reads
 
 -- src/lib.rt:99:9
 check-requires : tie.Need-check-requires

@@ -17,17 +17,6 @@ use Prim.Native.Nat.{_<_}
 use mathlib.Core.Path.{_∙_, ap, ap₂, sym}
 use Rattle.reading.proofs.read_accepted.Statement.{statement}
 use Rattle.reading.proofs.read_accepted.Tie as tie
-use Rattle.reading.proofs.read_accepted.Reads as reads
-use Rattle.reading.proofs.read_accepted.Lts as lts
-use Rattle.model.proofs.components_of.Reads as components-of-reads
-use Rattle.model.proofs.phases_of.Reads as phases-of-reads
-use Rattle.reading.proofs.due_number.Reads as due-number-reads
-use Rattle.reading.proofs.refused.Reads as refused-reads
-use Rattle.reading.proofs.whole_due.Reads as whole-due-reads
-use Rattle.reading.proofs.wide.Reads as wide-reads
-use Rattle.saved_run.proofs.atomic_count.Reads as atomic-count-reads
-use Rattle.saved_run.proofs.entry_at.Reads as entry-at-reads
-use Rattle.saved_run.proofs.fits.Reads as fits-reads
 
 -- src/lib.rt:78:9
 components-of-requires : tie.Need-components-of-requires

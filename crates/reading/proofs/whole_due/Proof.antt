@@ -13,15 +13,6 @@ use mathlib.Core.List.{List}
 use mathlib.Core.Path.{_∙_, ap₂}
 use Rattle.reading.proofs.whole_due.Statement.{statement}
 use Rattle.reading.proofs.whole_due.Tie as tie
-use Rattle.reading.proofs.whole_due.Reads as reads
-use Rattle.reading.proofs.whole_due.Lts as lts
-use Rattle.dues.proofs.next_due.Reads as next-due-reads
-use Rattle.model.proofs.components_of.Reads as components-of-reads
-use Rattle.model.proofs.couplings_of.Reads as couplings-of-reads
-use Rattle.model.proofs.phases_of.Reads as phases-of-reads
-use Rattle.model.proofs.rules_of.Reads as rules-of-reads
-use Rattle.saved_run.proofs.load.Reads as load-reads
-use Rattle.tables.proofs.fill_tables.Reads as fill-tables-reads
 
 -- src/lib.rt:69:25
 components-of-requires : tie.Need-components-of-requires

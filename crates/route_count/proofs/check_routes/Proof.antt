@@ -12,14 +12,6 @@ use denote.Ref.{now}
 use mathlib.Core.Path.{sym, ap, _∙_}
 use Rattle.route_count.proofs.check_routes.Statement.{statement}
 use Rattle.route_count.proofs.check_routes.Tie as tie
-use Rattle.route_count.proofs.check_routes.Reads as reads
-use Rattle.route_count.proofs.check_routes.Lts as lts
-use Rattle.model.proofs.checked_number.Reads as checked-number-reads
-use Rattle.model.proofs.components_of.Reads as components-of-reads
-use Rattle.model.proofs.couplings_of.Reads as couplings-of-reads
-use Rattle.model.proofs.decode_model.Reads as decode-model-reads
-use Rattle.route_count.proofs.route_total.Reads as route-total-reads
-use Rattle.way_counts.proofs.count_ways.Reads as count-ways-reads
 
 -- src/lib.rt:72:9
 decode-model-requires : tie.Need-decode-model-requires

@@ -10,13 +10,6 @@ use mathlib.Core.List.{[]}
 use mathlib.Core.Path.{_∙_, ap, sym}
 use Rattle.run_calls.proofs.start.Statement.{statement}
 use Rattle.run_calls.proofs.start.Tie as tie
-use Rattle.run_calls.proofs.start.Reads as reads
-use Rattle.run_calls.proofs.start.Lts as lts
-use Rattle.model.proofs.checked_number.Reads as checked-number-reads
-use Rattle.model.proofs.components_of.Reads as components-of-reads
-use Rattle.route_count.proofs.check.Reads as check-reads
-use Rattle.run_calls.proofs.start_run.Reads as start-run-reads
-use Rattle.run_calls.proofs.wide16.Reads as wide16-reads
 
 -- src/lib.rt:52:9
 check-requires : tie.Need-check-requires

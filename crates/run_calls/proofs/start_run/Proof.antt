@@ -12,12 +12,6 @@ use mathlib.Core.List.{[]}
 use mathlib.Core.Path.{_∙_, ap, sym}
 use Rattle.run_calls.proofs.start_run.Statement.{statement}
 use Rattle.run_calls.proofs.start_run.Tie as tie
-use Rattle.run_calls.proofs.start_run.Reads as reads
-use Rattle.run_calls.proofs.start_run.Lts as lts
-use Rattle.saved_run.proofs.atomic_count.Reads as atomic-count-reads
-use Rattle.saved_run.proofs.run_size.Reads as run-size-reads
-use Rattle.saved_run.proofs.start_state.Reads as start-state-reads
-use Rattle.saved_run.proofs.store.Reads as store-reads
 
 -- src/lib.rt:36:9
 atomic-count-requires : tie.Need-atomic-count-requires

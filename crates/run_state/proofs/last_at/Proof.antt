@@ -4,8 +4,6 @@ use mathlib.Core.Path.{sym}
 use lib.ListN.{List·getD-eq-default}
 use Rattle.run_state.proofs.last_at.Statement.{statement}
 use Rattle.run_state.proofs.last_at.Tie as tie
-use Rattle.run_state.proofs.last_at.Reads as reads
-use Rattle.run_state.proofs.last_at.Lts as lts
 
 -- src/lib.rt:24:30
 mul-t6 : tie.Need-mul-t6

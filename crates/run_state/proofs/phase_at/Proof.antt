@@ -4,8 +4,6 @@ use mathlib.Core.Path.{sym}
 use lib.ListN.{List·getD-eq-default}
 use Rattle.run_state.proofs.phase_at.Statement.{statement}
 use Rattle.run_state.proofs.phase_at.Tie as tie
-use Rattle.run_state.proofs.phase_at.Reads as reads
-use Rattle.run_state.proofs.phase_at.Lts as lts
 
 -- src/lib.rt:18:23
 shared-slice-read-result : tie.Need-shared-slice-read-result

@@ -1,13 +1,8 @@
 -- The two stores are the two `set`s of `changedAt`.
 use borrow.Author.Needs.{needs}
-use native.Mathlib.Omega.{arith}
 use Rattle.run_state.specs.Held.{changedAt}
 use Rattle.run_state.proofs.put_at.Statement.{statement}
 use Rattle.run_state.proofs.put_at.Tie as tie
-use Rattle.run_state.proofs.put_at.Reads as reads
-use Rattle.run_state.proofs.put_at.Lts as lts
-use Rattle.run_state.proofs.put_last.Reads as put-last-reads
-use Rattle.run_state.proofs.put_phase.Reads as put-phase-reads
 
 -- src/lib.rt:56:5
 put-phase-requires : tie.Need-put-phase-requires

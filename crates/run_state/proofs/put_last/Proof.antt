@@ -1,13 +1,10 @@
 -- The store is `set`; past the end nothing changes.
 use borrow.Author.Needs.{needs}
-use native.Mathlib.Omega.{arith}
 use lib.Seq.{set-out}
 use denote.Ref.{now}
 use mathlib.Core.Path.{sym}
 use Rattle.run_state.proofs.put_last.Statement.{statement}
 use Rattle.run_state.proofs.put_last.Tie as tie
-use Rattle.run_state.proofs.put_last.Reads as reads
-use Rattle.run_state.proofs.put_last.Lts as lts
 
 -- src/lib.rt:48:9
 mul-last : tie.Need-mul-last

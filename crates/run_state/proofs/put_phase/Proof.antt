@@ -1,13 +1,10 @@
 -- The store is `set`; past the end nothing changes.
 use borrow.Author.Needs.{needs}
-use native.Mathlib.Omega.{arith}
 use lib.Seq.{set-out}
 use denote.Ref.{now}
 use mathlib.Core.Path.{sym}
 use Rattle.run_state.proofs.put_phase.Statement.{statement}
 use Rattle.run_state.proofs.put_phase.Tie as tie
-use Rattle.run_state.proofs.put_phase.Reads as reads
-use Rattle.run_state.proofs.put_phase.Lts as lts
 
 -- src/lib.rt:40:9
 slice-write-phase : tie.Need-slice-write-phase

@@ -9,15 +9,10 @@ use Rattle.model_records.specs.Values.{componentsIn}
 use Rattle.definition.specs.Model.{isAtomic, atomics}
 use Rattle.definition.specs.Lists.{keep, upFrom}
 use lib.ListN.{length}
-use Prim.Native.Nat.{ℕ, _≤_, _-_}
-use mathlib.Core.Path.{_≡_, refl, _∙_, ap, sym}
+use Prim.Native.Nat.{_≤_, _-_}
+use mathlib.Core.Path.{_≡_, refl, _∙_, ap}
 use Rattle.saved_run.proofs.atomic_count.Statement.{statement}
 use Rattle.saved_run.proofs.atomic_count.Tie as tie
-use Rattle.saved_run.proofs.atomic_count.Reads as reads
-use Rattle.saved_run.proofs.atomic_count.Lts as lts
-use Rattle.model_records.proofs.component_count.Reads as component-count-reads
-use Rattle.model_records.proofs.is_atomic.Reads as is-atomic-reads
-use Rattle.saved_run.proofs.one_if.Reads as one-if-reads
 
 abbrev Inv-loop : tie.InvT-loop
 Inv-loop components n k₀ c₀ k c = (c ≤ n) × (k ≤ c) × (k ≡ length (keep (isAtomic (componentsIn components)) (upFrom 0 c)))

@@ -12,21 +12,11 @@ use Rattle.model_records.proofs.Before.{before-none, before-more}
 use Rattle.model_records.specs.Values.{componentsIn, componentOf}
 use Rattle.definition.specs.Model.{Component, atomics, phasesBefore}
 use lib.ListN.{length}
-use Prim.Native.Nat.{ℕ, _≤_, _<_, _+_, _*_, _-_}
+use Prim.Native.Nat.{_≤_, _<_, _+_, _*_, _-_}
 use mathlib.Core.Bool.{Bool, cond, _&&_, not}
-use mathlib.Core.Path.{_≡_, refl, _∙_, ap, ap₂, sym}
+use mathlib.Core.Path.{_≡_, _∙_, ap, ap₂, sym}
 use Rattle.saved_run.proofs.entries_fit.Statement.{statement}
 use Rattle.saved_run.proofs.entries_fit.Tie as tie
-use Rattle.saved_run.proofs.entries_fit.Reads as reads
-use Rattle.saved_run.proofs.entries_fit.Lts as lts
-use Rattle.little_endian.proofs.size.Reads as size-reads
-use Rattle.model_records.proofs.component_at.Reads as component-at-reads
-use Rattle.model_records.proofs.component_count.Reads as component-count-reads
-use Rattle.saved_run.proofs.entry_at.Reads as entry-at-reads
-use Rattle.saved_run.proofs.entry_due.Reads as entry-due-reads
-use Rattle.saved_run.proofs.entry_fits.Reads as entry-fits-reads
-use Rattle.saved_run.proofs.one_if.Reads as one-if-reads
-use Rattle.saved_run.proofs.opening_of.Reads as opening-of-reads
 
 abbrev Inv-loop : tie.InvT-loop
 Inv-loop components phases run opening n k₀ first₀ c₀ k first c = (c ≤ n) × (k ≤ c) × (first ≤ 255 * c) × (first ≡ phasesBefore (componentsIn components) c) × (k + length (atomicsFrom (componentsIn components) c) ≡ length (atomics (componentsIn components))) × (fitFrom components phases run c k ≡ entriesFitIn components phases run)

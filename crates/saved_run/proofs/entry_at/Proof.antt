@@ -1,14 +1,8 @@
 -- The two fields of an entry, where they stand in the run (`entry-place`).
 use borrow.Author.Needs.{needs}
-use native.Mathlib.Omega.{arith}
 use Rattle.saved_run.proofs.Entries.{entry-place}
-use mathlib.Core.Path.{_≡_, refl, _∙_, ap, sym}
 use Rattle.saved_run.proofs.entry_at.Statement.{statement}
 use Rattle.saved_run.proofs.entry_at.Tie as tie
-use Rattle.saved_run.proofs.entry_at.Reads as reads
-use Rattle.saved_run.proofs.entry_at.Lts as lts
-use Rattle.little_endian.proofs.byte_at.Reads as byte-at-reads
-use Rattle.little_endian.proofs.u64_at.Reads as u64-at-reads
 
 -- src/lib.rt:68:26
 mul-at : tie.Need-mul-at

@@ -1,19 +1,13 @@
 -- The phase record at the first one plus the phase, and `due_after` of its advance.
 use borrow.Author.Needs.{needs}
-use native.Mathlib.Omega.{arith}
 use Rattle.due.specs.After.{dueAfter}
 use Rattle.model_records.specs.Values.{phasesIn}
 use Rattle.definition.specs.Model.{Phase, noPhase}
 use lib.ListN.{getD}
 use Prim.Native.Nat.{_+_}
-use mathlib.Core.Path.{_≡_, refl, _∙_, ap, sym}
+use mathlib.Core.Path.{_∙_, ap}
 use Rattle.saved_run.proofs.entry_due.Statement.{statement}
 use Rattle.saved_run.proofs.entry_due.Tie as tie
-use Rattle.saved_run.proofs.entry_due.Reads as reads
-use Rattle.saved_run.proofs.entry_due.Lts as lts
-use Rattle.due.proofs.due_after.Reads as due-after-reads
-use Rattle.little_endian.proofs.size.Reads as size-reads
-use Rattle.model_records.proofs.phase_at.Reads as phase-at-reads
 
 -- src/lib.rt:97:57
 size-requires : tie.Need-size-requires

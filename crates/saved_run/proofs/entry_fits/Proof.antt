@@ -1,12 +1,7 @@
 -- The three tests are those of the contract, in its order.
 use borrow.Author.Needs.{needs}
-use native.Mathlib.Omega.{arith}
 use Rattle.saved_run.proofs.entry_fits.Statement.{statement}
 use Rattle.saved_run.proofs.entry_fits.Tie as tie
-use Rattle.saved_run.proofs.entry_fits.Reads as reads
-use Rattle.saved_run.proofs.entry_fits.Lts as lts
-use Rattle.clock.proofs.Moment.is_before.Reads as is-before-reads
-use Rattle.due.proofs.not_before.Reads as not-before-reads
 
 -- src/lib.rt:107:17
 is-before-requires : tie.Need-is-before-requires

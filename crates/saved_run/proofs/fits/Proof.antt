@@ -1,18 +1,9 @@
 -- Length, count, open moment and entries, in the order of the definition (`fits-said`).
 use borrow.Author.Needs.{needs}
-use native.Mathlib.Omega.{arith}
 use Rattle.saved_run.proofs.Fitting.{fits-said, atomics-most}
 use Rattle.model_records.specs.Values.{componentsIn}
-use mathlib.Core.Path.{_≡_, refl, _∙_, ap, sym}
 use Rattle.saved_run.proofs.fits.Statement.{statement}
 use Rattle.saved_run.proofs.fits.Tie as tie
-use Rattle.saved_run.proofs.fits.Reads as reads
-use Rattle.saved_run.proofs.fits.Lts as lts
-use Rattle.little_endian.proofs.size16.Reads as size16-reads
-use Rattle.little_endian.proofs.u16_at.Reads as u16-at-reads
-use Rattle.saved_run.proofs.atomic_count.Reads as atomic-count-reads
-use Rattle.saved_run.proofs.entries_fit.Reads as entries-fit-reads
-use Rattle.saved_run.proofs.opening_of.Reads as opening-of-reads
 
 -- src/lib.rt:140:9
 atomic-count-requires : tie.Need-atomic-count-requires

@@ -9,9 +9,6 @@ use Prim.Native.Nat.{_+_, _≤_, _-_}
 use mathlib.Core.Path.{_≡_, refl, sym, subst}
 use Rattle.saved_run.proofs.load.Statement.{statement}
 use Rattle.saved_run.proofs.load.Tie as tie
-use Rattle.saved_run.proofs.load.Reads as reads
-use Rattle.saved_run.proofs.load.Lts as lts
-use Rattle.saved_run.proofs.entry_at.Reads as entry-at-reads
 
 abbrev Inv-loop : tie.InvT-loop
 Inv-loop run n phase₀ last₀ i₀ phase last i = (i ≤ n) × Wide (held phase last) × (entriesOf i (held phase last) ≡ toRun i run .entries)

@@ -4,16 +4,13 @@ use native.Mathlib.Omega.{arith}
 use Rattle.saved_run.proofs.Storing.{rows-put, rows-none}
 use Rattle.run_state.specs.Held.{held}
 use Rattle.saved_run.specs.Runs.{entryRows}
-use Rattle.definition.specs.SavedRun.{runLength, entryBytes}
-use lib.Seq.{sets, length-sets}
+use Rattle.definition.specs.SavedRun.{runLength}
+use lib.Seq.{sets}
 use lib.ListN.{length}
-use Prim.Native.Nat.{ℕ, _≤_, _+_, _-_}
+use Prim.Native.Nat.{_≤_, _-_}
 use mathlib.Core.Path.{_≡_, refl, _∙_, ap, sym}
 use Rattle.saved_run.proofs.put_entries.Statement.{statement}
 use Rattle.saved_run.proofs.put_entries.Tie as tie
-use Rattle.saved_run.proofs.put_entries.Reads as reads
-use Rattle.saved_run.proofs.put_entries.Lts as lts
-use Rattle.saved_run.proofs.put_entry.Reads as put-entry-reads
 
 abbrev Inv-loop : tie.InvT-loop
 Inv-loop run₀ n phase last i₀ run i = (i ≤ n) × (length run ≡ length run₀) × (sets run (runLength i) (entryRows (held phase last) i (n - i)) ≡ sets run₀ (runLength 0) (entryRows (held phase last) 0 (n - 0)))

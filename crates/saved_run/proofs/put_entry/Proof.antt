@@ -1,21 +1,11 @@
 -- Two stores in a row are the entry (`entry-put`).
 use borrow.Author.Needs.{needs}
-use native.Mathlib.Omega.{arith}
 use Rattle.saved_run.proofs.Storing.{entry-put}
 use Rattle.run_state.specs.Held.{held}
 use Rattle.saved_run.specs.Runs.{heldAt}
 use Rattle.definition.specs.SavedRun.{runLength}
-use Rattle.definition.specs.Bytes.{bytesOf}
-use lib.Seq.{sets}
-use mathlib.Core.Path.{_≡_, refl, _∙_, ap, ap₂, sym}
 use Rattle.saved_run.proofs.put_entry.Statement.{statement}
 use Rattle.saved_run.proofs.put_entry.Tie as tie
-use Rattle.saved_run.proofs.put_entry.Reads as reads
-use Rattle.saved_run.proofs.put_entry.Lts as lts
-use Rattle.little_endian.proofs.put_number.Reads as put-number-reads
-use Rattle.run_state.proofs.last_at.Reads as last-at-reads
-use Rattle.run_state.proofs.phase_at.Reads as phase-at-reads
-use Rattle.saved_run.proofs.wide.Reads as wide-reads
 
 -- src/lib.rt:161:26
 mul-at : tie.Need-mul-at

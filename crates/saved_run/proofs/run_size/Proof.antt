@@ -1,12 +1,9 @@
 -- The sum is the definition.
 use borrow.Author.Needs.{needs}
-use native.Mathlib.Omega.{arith}
 use Rattle.definition.specs.SavedRun.{runLength}
 use mathlib.Core.Path.{refl}
 use Rattle.saved_run.proofs.run_size.Statement.{statement}
 use Rattle.saved_run.proofs.run_size.Tie as tie
-use Rattle.saved_run.proofs.run_size.Reads as reads
-use Rattle.saved_run.proofs.run_size.Lts as lts
 
 -- src/lib.rt:37:17
 mul-result : tie.Need-mul-result

@@ -11,16 +11,11 @@ use Rattle.definition.specs.Model.{Component, isAtomic, atomics}
 use Rattle.definition.specs.Lists.{keep, upFrom}
 use lib.ListN.{length}
 use lib.Dec.{eqb}
-use Prim.Native.Nat.{ℕ, _≤_, _+_, _-_}
+use Prim.Native.Nat.{_≤_, _+_, _-_}
 use mathlib.Core.Bool.{Bool, cond}
 use mathlib.Core.Path.{_≡_, refl, _∙_, ap, ap₂, sym, subst}
 use Rattle.saved_run.proofs.start_state.Statement.{statement}
 use Rattle.saved_run.proofs.start_state.Tie as tie
-use Rattle.saved_run.proofs.start_state.Reads as reads
-use Rattle.saved_run.proofs.start_state.Lts as lts
-use Rattle.model_records.proofs.component_at.Reads as component-at-reads
-use Rattle.model_records.proofs.component_count.Reads as component-count-reads
-use Rattle.saved_run.proofs.one_if.Reads as one-if-reads
 
 abbrev Inv-loop : tie.InvT-loop
 Inv-loop components n phase₀ last₀ k₀ c₀ phase last k c = (c ≤ n) × (k ≤ c) × (k ≡ length (keep (isAtomic (componentsIn components)) (upFrom 0 c))) × Wide (held phase last) × (entriesOf k (held phase last) ≡ startedTo (componentsIn components) c)

@@ -1,15 +1,9 @@
 -- Open moment, count and entries in a row are the run at the front of the buffer (`run-put`).
 use borrow.Author.Needs.{needs}
-use native.Mathlib.Omega.{arith}
 use Rattle.saved_run.proofs.Storing.{run-put}
 use Rattle.definition.specs.SavedRun.{runLength}
-use mathlib.Core.Path.{_≡_, refl, _∙_, ap, ap₂, sym}
 use Rattle.saved_run.proofs.store.Statement.{statement}
 use Rattle.saved_run.proofs.store.Tie as tie
-use Rattle.saved_run.proofs.store.Reads as reads
-use Rattle.saved_run.proofs.store.Lts as lts
-use Rattle.little_endian.proofs.put_number.Reads as put-number-reads
-use Rattle.saved_run.proofs.put_entries.Reads as put-entries-reads
 
 -- src/lib.rt:183:5
 put-number-requires : tie.Need-put-number-requires

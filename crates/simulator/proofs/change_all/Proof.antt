@@ -13,10 +13,6 @@ use native.Mathlib.Nat.{sub-zero}
 use Prim.Native.Nat.{_≤_, _-_}
 use Rattle.simulator.proofs.change_all.Statement.{statement}
 use Rattle.simulator.proofs.change_all.Tie as tie
-use Rattle.simulator.proofs.change_all.Reads as reads
-use Rattle.simulator.proofs.change_all.Lts as lts
-use Rattle.dues.proofs.row_word.Reads as row-word-reads
-use Rattle.simulator.proofs.change_one.Reads as change-one-reads
 
 abbrev Inv-loop : tie.InvT-loop
 Inv-loop phases rules tables marks reached given n phase₀ last₀ at work₀ i₀ phase last work i = (i ≤ n) × (length phase ≡ length phase₀) × (length last ≡ length last₀) × (length work ≡ length work₀) × (changedFrom (phasesIn phases) tables (rulesIn rules) marks reached (length work₀) (at .0) (toBag given) (n - i) i (held phase last) ≡ changedFrom (phasesIn phases) tables (rulesIn rules) marks reached (length work₀) (at .0) (toBag given) n 0 (held phase₀ last₀))

@@ -15,12 +15,6 @@ use Rattle.run_state.specs.Held.{held}
 use Rattle.transitions.proofs.Laws.{still-case}
 use Rattle.simulator.proofs.change_one.Statement.{statement}
 use Rattle.simulator.proofs.change_one.Tie as tie
-use Rattle.simulator.proofs.change_one.Reads as reads
-use Rattle.simulator.proofs.change_one.Lts as lts
-use Rattle.bag_keys.proofs.key_at.Reads as key-at-reads
-use Rattle.collect.proofs.collect_bag.Reads as collect-bag-reads
-use Rattle.little_endian.proofs.size16.Reads as size16-reads
-use Rattle.transitions.proofs.transition.Reads as transition-reads
 
 -- src/lib.rt:42:9
 is-still-requires : tie.Need-is-still-requires

@@ -1,12 +1,7 @@
 -- The three tests, at the component's number.
 use borrow.Author.Needs.{needs}
-use native.Mathlib.Omega.{arith}
 use Rattle.simulator.proofs.is_still.Statement.{statement}
 use Rattle.simulator.proofs.is_still.Tie as tie
-use Rattle.simulator.proofs.is_still.Reads as reads
-use Rattle.simulator.proofs.is_still.Lts as lts
-use Rattle.bag_keys.proofs.key_at.Reads as key-at-reads
-use Rattle.little_endian.proofs.size16.Reads as size16-reads
 
 -- src/lib.rt:31:9
 size16-requires : tie.Need-size16-requires

@@ -1,6 +1,5 @@
 -- The marks and flags over zeros are the definition's, and then the step is the definition's with them.
 use borrow.Author.Needs.{needs}
-use native.Mathlib.Omega.{arith}
 use Rattle.simulator.proofs.Laws.{step-is, count-bag}
 use Rattle.definition.specs.Lists.{sortBy}
 use Rattle.definition.specs.Model.{messageLe}
@@ -16,12 +15,6 @@ use mathlib.Core.Path.{_∙_, ap}
 use Prim.Native.Nat.{min}
 use Rattle.simulator.proofs.step_once.Statement.{statement}
 use Rattle.simulator.proofs.step_once.Tie as tie
-use Rattle.simulator.proofs.step_once.Reads as reads
-use Rattle.simulator.proofs.step_once.Lts as lts
-use Rattle.little_endian.proofs.front.Reads as front-reads
-use Rattle.marks.proofs.mark.Reads as mark-reads
-use Rattle.marks.proofs.reach.Reads as reach-reads
-use Rattle.simulator.proofs.step_marked.Reads as step-marked-reads
 
 -- src/lib.rt:161:9
 front-requires : tie.Need-front-requires

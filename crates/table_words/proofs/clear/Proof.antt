@@ -10,8 +10,6 @@ use mathlib.Core.Path.{_≡_, refl, sym, _∙_}
 use Prim.Native.Nat.{_≤_, _<_, _-_, _+_}
 use Rattle.table_words.proofs.clear.Statement.{statement}
 use Rattle.table_words.proofs.clear.Tie as tie
-use Rattle.table_words.proofs.clear.Reads as reads
-use Rattle.table_words.proofs.clear.Lts as lts
 
 abbrev Inv-loop : tie.InvT-loop
 Inv-loop t₀ i₀ t i = (i ≤ length t₀) × (length t ≡ length t₀) × (column 0 (λ i. 0) (length t₀ - i) i t ≡ column 0 (λ i. 0) (length t₀) 0 t₀)

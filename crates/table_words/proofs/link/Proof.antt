@@ -6,9 +6,6 @@ use lib.ListN.{length-set}
 use borrow.Author.Tests.{lt-ltb, le-ltb}
 use Rattle.table_words.proofs.link.Statement.{statement}
 use Rattle.table_words.proofs.link.Tie as tie
-use Rattle.table_words.proofs.link.Reads as reads
-use Rattle.table_words.proofs.link.Lts as lts
-use Rattle.little_endian.proofs.size16.Reads as size16-reads
 
 add-t : tie.Need-add-t
 add-t c = search needs

@@ -6,14 +6,9 @@ use Rattle.table_words.specs.Writes.{linked, linkAt}
 use lib.ListN.{length, getD}
 use denote.Ref.{now}
 use mathlib.Core.Path.{_≡_, refl, sym, ap, _∙_}
-use Prim.Native.Nat.{ℕ, _≤_, _<_, _-_, _+_}
+use Prim.Native.Nat.{ℕ, _≤_, _-_}
 use Rattle.table_words.proofs.link_all.Statement.{statement}
 use Rattle.table_words.proofs.link_all.Tie as tie
-use Rattle.table_words.proofs.link_all.Reads as reads
-use Rattle.table_words.proofs.link_all.Lts as lts
-use Rattle.little_endian.proofs.size16.Reads as size16-reads
-use Rattle.table_words.proofs.link.Reads as link-reads
-use Rattle.table_words.proofs.word_at.Reads as word-at-reads
 
 abbrev Inv-loop : tie.InvT-loop
 Inv-loop keys n first size next t₀ j₀ t j = (j ≤ n) × (length t ≡ length t₀) × (linked first size next (λ j. getD keys j 0) j t ≡ linked first size next (λ j. getD keys j 0) n t₀)

@@ -1,12 +1,9 @@
 -- One store where the region has the row, none otherwise: the two sides of the definition's test. Assumes nothing.
 use borrow.Author.Needs.{needs}
-use native.Mathlib.Omega.{arith}
 use Rattle.table_words.specs.Writes.{putIn}
 use borrow.Author.Tests.{lt-ltb, le-ltb}
 use Rattle.table_words.proofs.put_in.Statement.{statement}
 use Rattle.table_words.proofs.put_in.Tie as tie
-use Rattle.table_words.proofs.put_in.Reads as reads
-use Rattle.table_words.proofs.put_in.Lts as lts
 
 add-t : tie.Need-add-t
 add-t c = search needs

@@ -1,13 +1,10 @@
 -- Within the slice it is the word, past the end the default. Assumes nothing.
 use borrow.Author.Needs.{needs}
-use native.Mathlib.Omega.{arith}
 use lib.ListN.{List·getD-eq-default}
 use denote.Ref.{now}
 use mathlib.Core.Path.{sym}
 use Rattle.table_words.proofs.word_at.Statement.{statement}
 use Rattle.table_words.proofs.word_at.Tie as tie
-use Rattle.table_words.proofs.word_at.Reads as reads
-use Rattle.table_words.proofs.word_at.Lts as lts
 
 mul-result : tie.Need-mul-result
 mul-result c = search needs

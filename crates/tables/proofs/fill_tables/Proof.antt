@@ -1,6 +1,5 @@
 -- Five parts, one after the other, each over the table that the one before it left, and then the count. Assumes nothing.
 use borrow.Author.Needs.{needs}
-use native.Mathlib.Omega.{arith}
 use Rattle.tables.specs.Filled.{filled}
 use Rattle.coupling_tables.specs.Links.{byCoupling}
 use Rattle.component_tables.specs.Columns.{byComponent, byRule, byParent}
@@ -12,14 +11,6 @@ use denote.Ref.{now}
 use mathlib.Core.Path.{ap, _∙_}
 use Rattle.tables.proofs.fill_tables.Statement.{statement}
 use Rattle.tables.proofs.fill_tables.Tie as tie
-use Rattle.tables.proofs.fill_tables.Reads as reads
-use Rattle.tables.proofs.fill_tables.Lts as lts
-use Rattle.component_tables.proofs.count_word.Reads as count-word-reads
-use Rattle.component_tables.proofs.fill_children.Reads as fill-children-reads
-use Rattle.component_tables.proofs.fill_components.Reads as fill-components-reads
-use Rattle.component_tables.proofs.fill_rules.Reads as fill-rules-reads
-use Rattle.coupling_tables.proofs.fill_couplings.Reads as fill-couplings-reads
-use Rattle.table_words.proofs.clear.Reads as clear-reads
 
 clear-requires : tie.Need-clear-requires
 clear-requires c κs = search needs

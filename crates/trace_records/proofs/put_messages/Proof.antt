@@ -2,8 +2,8 @@
 -- on the buffer as lent (`key-more`); at the end nothing is left to store (`key-none`).
 use borrow.Author.Needs.{needs}
 use native.Mathlib.Omega.{arith}
-use Prim.Native.Nat.{ℕ, _≤_, _*_, _+_, _-_}
-use mathlib.Core.Path.{_≡_, _∙_, refl, sym}
+use Prim.Native.Nat.{_≤_, _*_, _+_, _-_}
+use mathlib.Core.Path.{_≡_, _∙_, refl}
 use native.Mathlib.Nat.{add-zero}
 use lib.ListN.{length, take}
 use lib.Seq.{sets, slice}
@@ -11,10 +11,6 @@ use denote.Ref.{now}
 use Rattle.trace_records.proofs.Records.{keyBytes, key-more, key-none}
 use Rattle.trace_records.proofs.put_messages.Statement.{statement}
 use Rattle.trace_records.proofs.put_messages.Tie as tie
-use Rattle.trace_records.proofs.put_messages.Reads as reads
-use Rattle.trace_records.proofs.put_messages.Lts as lts
-use Rattle.little_endian.proofs.put_number.Reads as put-number-reads
-use Rattle.trace_records.proofs.wide.Reads as wide-reads
 
 abbrev Inv-loop : tie.InvT-loop
 Inv-loop out₀ at keys count i₀ out i = (i ≤ count) × (length out ≡ length out₀) × (sets out (at + 3 * i) (keyBytes (slice i count keys)) ≡ sets out₀ at (keyBytes (take count keys)))

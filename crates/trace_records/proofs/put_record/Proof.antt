@@ -1,6 +1,5 @@
 -- Three fields and the messages, each stored where the one before it ends, are the bytes of the record (`record-puts`).
 use borrow.Author.Needs.{needs}
-use native.Mathlib.Omega.{arith}
 use mathlib.Core.Path.{_∙_}
 use lib.ListN.{take}
 use lib.Seq.{length-take-le}
@@ -8,10 +7,6 @@ use denote.Ref.{now}
 use Rattle.trace_records.proofs.Records.{record-puts}
 use Rattle.trace_records.proofs.put_record.Statement.{statement}
 use Rattle.trace_records.proofs.put_record.Tie as tie
-use Rattle.trace_records.proofs.put_record.Reads as reads
-use Rattle.trace_records.proofs.put_record.Lts as lts
-use Rattle.little_endian.proofs.put_number.Reads as put-number-reads
-use Rattle.trace_records.proofs.put_messages.Reads as put-messages-reads
 
 -- src/lib.rt:49:5
 put-number-requires : tie.Need-put-number-requires

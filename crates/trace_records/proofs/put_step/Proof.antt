@@ -6,9 +6,6 @@ use denote.Ref.{now}
 use Rattle.trace_records.proofs.Records.{size-none, size-some, put-none, put-fits, put-out, put-over}
 use Rattle.trace_records.proofs.put_step.Statement.{statement}
 use Rattle.trace_records.proofs.put_step.Tie as tie
-use Rattle.trace_records.proofs.put_step.Reads as reads
-use Rattle.trace_records.proofs.put_step.Lts as lts
-use Rattle.trace_records.proofs.put_record.Reads as put-record-reads
 
 -- src/lib.rt:61:9
 returns : tie.Need-returns

@@ -1,6 +1,5 @@
 -- Due or not, with an empty bag or not: the four cases of the definition.
 use borrow.Author.Needs.{needs}
-use native.Mathlib.Omega.{arith}
 use Rattle.transitions.proofs.Laws.{internal-case, still-case, confluent-case, external-case}
 use Rattle.run_state.specs.Held.{held}
 use Rattle.model_records.specs.Values.{phasesIn, rulesIn}
@@ -9,16 +8,6 @@ use denote.Ref.{now}
 use mathlib.Core.Path.{_∙_}
 use Rattle.transitions.proofs.transition.Statement.{statement}
 use Rattle.transitions.proofs.transition.Tie as tie
-use Rattle.transitions.proofs.transition.Reads as reads
-use Rattle.transitions.proofs.transition.Lts as lts
-use Rattle.clock.proofs.Moment.since.Reads as since-reads
-use Rattle.little_endian.proofs.size.Reads as size-reads
-use Rattle.run_state.proofs.last_at.Reads as last-at-reads
-use Rattle.run_state.proofs.phase_at.Reads as phase-at-reads
-use Rattle.run_state.proofs.put_at.Reads as put-at-reads
-use Rattle.transitions.proofs.confluent.Reads as confluent-reads
-use Rattle.transitions.proofs.decided.Reads as decided-reads
-use Rattle.transitions.proofs.next_of.Reads as next-of-reads
 
 -- src/lib.rt:95:9
 size-requires : tie.Need-size-requires

@@ -5,8 +5,6 @@ use Rattle.clock.specs.Times.{timeOf}
 use Rattle.clock.proofs.Laws.{never-first, never-second, first-earlier, second-earlier}
 use Rattle.clock.proofs.Due.or_earlier.Statement.{statement}
 use Rattle.clock.proofs.Due.or_earlier.Tie as tie
-use Rattle.clock.proofs.Due.or_earlier.Reads as reads
-use Rattle.clock.proofs.Due.or_earlier.Lts as lts
 
 -- src/lib.rt:57:21
 enum-known-self : tie.Need-enum-known-self
