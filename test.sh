@@ -39,12 +39,13 @@ counted() {
   add "$name" "$1" "$bad"
 }
 
+# need COMMAND PACKAGE..: installed from Debian where it is missing
+need() {
+  command -v "$1" >/dev/null || { apt-get update -qq && apt-get install -y -qq "${@:2}" >/dev/null; } || add "$1" 0 1
+}
+
 # The second implementation's own tests, and the comparison.
 host() {
-  [ -f host/Cargo.toml ] || return
-  if ! command -v cargo >/dev/null; then
-    apt-get update -qq && apt-get install -y -qq cargo rustc >/dev/null || { add cargo 0 1; return; }
-  fi
   local log status good bad
   log=$(mktemp)
   (cd host && cargo test --release --offline --quiet) 2>&1 | tee "$log"
@@ -58,6 +59,9 @@ host() {
   one 'host comparison' host/compare.sh
 }
 
+need python3 python3
+need cc gcc libc6-dev
+need cargo cargo rustc
 one layout rt fmt --check
 counted proofs rt ci
 counted 'wrong definitions' must-fail-theory/run.py

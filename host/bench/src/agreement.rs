@@ -3,7 +3,7 @@
 
 use crate::arguments::{self, Known};
 use crate::call::Call;
-use crate::engine::{Engine, Functions, FLAT_ROWS, PULLED, REFERENCE};
+use crate::engine::{Engine, Functions, FLAT_ROWS, NEST, PULLED};
 use crate::lent::Lent;
 use crate::models::{chains, damage, limits, nests};
 use crate::random::Random;
@@ -34,7 +34,7 @@ impl CallList {
     /// Makes a call on the reference and on both engines with both forms. Answers its number.
     fn call(&mut self, call: &Call) -> u64 {
         let mut trace = Lent::new(call.trace());
-        let answer = call.make(&REFERENCE, &self.file, &mut self.run, &mut trace);
+        let answer = call.make(&NEST, &self.file, &mut self.run, &mut trace);
         let forms = [Some(&self.file), self.flat.as_ref()].into_iter().flatten();
         let subjects = forms.flat_map(|file| YARDSTICKS.map(|yardstick| (file, yardstick)));
         for ((file, (name, engine)), run) in subjects.zip(&mut self.runs) {

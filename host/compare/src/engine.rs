@@ -2,24 +2,11 @@
 
 use std::cell::Cell;
 
+pub use reference::engine::Engine;
+use reference::engine::{FLAT_MACHINE, NEST};
 use reference::nest::DeadWays;
 use reference::observed::Observed;
-use reference::{decode, flat_machine, routes, Advanced, Reading, Written};
-
-pub trait Engine {
-    fn check_model(&self, model: &[u8]) -> u64;
-    fn start(&self, model: &[u8], run: &mut [u8]) -> Written;
-    fn advance(
-        &self,
-        model: &[u8],
-        run: &mut [u8],
-        t: u64,
-        bag: &[u8],
-        trace: &mut [u8],
-    ) -> Advanced;
-    fn read(&self, model: &[u8], run: &[u8], position: u64) -> Reading;
-    fn flatten(&self, model: &[u8], out: &mut [u8]) -> Written;
-}
+use reference::{decode, routes, Advanced, Reading, Written};
 
 /// Which bytes an engine is fed for a model.
 #[derive(Clone, Copy, Debug, PartialEq, Eq)]
@@ -40,13 +27,13 @@ pub struct Subject {
 pub fn subjects() -> Vec<Subject> {
     let subject = |name, engine, form| Subject { name, engine, form };
     vec![
-        subject("nest, dead ways dropped", Box::new(Nest), Form::AsGiven),
-        subject("nest on the flat form", Box::new(Nest), Form::Flat),
-        subject("flat machine", Box::new(FlatMachine), Form::Flat),
+        subject("nest, dead ways dropped", Box::new(NEST), Form::AsGiven),
+        subject("nest on the flat form", Box::new(NEST), Form::Flat),
+        subject("flat machine", Box::new(FLAT_MACHINE), Form::Flat),
         #[cfg(feature = "library")]
-        subject("library", Box::new(crate::library::Library), Form::AsGiven),
+        subject("library", Box::new(library::FUNCTIONS), Form::AsGiven),
         #[cfg(feature = "library")]
-        subject("library on the flat form", Box::new(crate::library::Library), Form::Flat),
+        subject("library on the flat form", Box::new(library::FUNCTIONS), Form::Flat),
     ]
 }
 
@@ -101,69 +88,6 @@ impl Engine for Yardstick {
 
     fn read(&self, model: &[u8], run: &[u8], position: u64) -> Reading {
         reference::read(model, run, position)
-    }
-
-    fn flatten(&self, model: &[u8], out: &mut [u8]) -> Written {
-        reference::flatten(model, out)
-    }
-}
-
-struct Nest;
-
-impl Engine for Nest {
-    fn check_model(&self, model: &[u8]) -> u64 {
-        reference::check_model(model)
-    }
-
-    fn start(&self, model: &[u8], run: &mut [u8]) -> Written {
-        reference::start(model, run)
-    }
-
-    fn advance(
-        &self,
-        model: &[u8],
-        run: &mut [u8],
-        t: u64,
-        bag: &[u8],
-        trace: &mut [u8],
-    ) -> Advanced {
-        reference::advance(model, run, t, bag, trace)
-    }
-
-    fn read(&self, model: &[u8], run: &[u8], position: u64) -> Reading {
-        reference::read(model, run, position)
-    }
-
-    fn flatten(&self, model: &[u8], out: &mut [u8]) -> Written {
-        reference::flatten(model, out)
-    }
-}
-
-/// The papers give the flat machine no model check and no flattening of its own.
-struct FlatMachine;
-
-impl Engine for FlatMachine {
-    fn check_model(&self, model: &[u8]) -> u64 {
-        reference::check_model(model)
-    }
-
-    fn start(&self, model: &[u8], run: &mut [u8]) -> Written {
-        flat_machine::start(model, run)
-    }
-
-    fn advance(
-        &self,
-        model: &[u8],
-        run: &mut [u8],
-        t: u64,
-        bag: &[u8],
-        trace: &mut [u8],
-    ) -> Advanced {
-        flat_machine::advance(model, run, t, bag, trace)
-    }
-
-    fn read(&self, model: &[u8], run: &[u8], position: u64) -> Reading {
-        flat_machine::read(model, run, position)
     }
 
     fn flatten(&self, model: &[u8], out: &mut [u8]) -> Written {

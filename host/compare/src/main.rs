@@ -14,8 +14,6 @@ mod counts;
 mod engine;
 mod laws;
 mod lent;
-#[cfg(feature = "library")]
-mod library;
 mod models;
 mod naive_routes;
 mod notice;

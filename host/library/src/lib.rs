@@ -5,7 +5,11 @@
 //! a mutable slice overlaps no other: this is all that the header asks.
 #![cfg(feature = "linked")]
 
+use reference::engine::Functions;
 use reference::{Advanced, Reading, Written};
+
+/// The library as an engine.
+pub const FUNCTIONS: Functions = Functions { check_model, start, advance, read, flatten };
 
 #[repr(C)]
 struct PdevsWritten {

@@ -11,6 +11,7 @@ pub mod atomic;
 pub mod builder;
 pub mod checks;
 pub mod decode;
+pub mod engine;
 pub mod examples;
 pub mod flat_machine;
 pub mod flatten;
