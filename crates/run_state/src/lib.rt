@@ -1,4 +1,4 @@
-// The state of a run inside a call, by value: the phase and the last moment of each atomic by its position in file order.
+// The state of a run inside a call: the phase and the last moment of each atomic by its position in file order.
 ghost use mathlib.Core.Path.{_≡_};
 ghost use lib.ListN.{getD, set};
 ghost use Rattle.run_state.specs.Held.{held, changedAt};
