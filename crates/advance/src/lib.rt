@@ -61,7 +61,7 @@ fn finish(t: Moment, e: Ending) -> Ending
 }
 
 // When a state is next due.
-fn due_of(phases: &[u8], tables: &[u16], st: State) -> Due
+fn due_of(phases: &[u8], tables: &[u16; table_words::TABLE_SIZE], st: State) -> Due
     ensures { λ r. ⌜ timeOf r ≡ simOf (now (phases .entry)) [] (now (tables .entry)) 0 0 .next st ⌝ }
 {
     let phase = st.phase;
@@ -73,7 +73,7 @@ fn due_of(phases: &[u8], tables: &[u16], st: State) -> Due
 pub fn advance_on(
     phases: &[u8],
     rules: &[u8],
-    tables: &[u16],
+    tables: &[u16; table_words::TABLE_SIZE],
     n: u8,
     t: Moment,
     bag: &[u8],
@@ -147,7 +147,7 @@ pub fn advance_on(
 pub fn advance_from(
     phases: &[u8],
     rules: &[u8],
-    tables: &[u16],
+    tables: &[u16; table_words::TABLE_SIZE],
     n: u8,
     run: &mut [u8],
     opening: Moment,

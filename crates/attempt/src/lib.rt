@@ -55,7 +55,7 @@ fn copy(from: &[u8], n: usize, to: &mut [u8], at: usize)
 pub fn attempt(
     phases: &[u8],
     rules: &[u8],
-    tables: &[u16],
+    tables: &[u16; table_words::TABLE_SIZE],
     n: u8,
     at: Moment,
     bag: &[u8],

@@ -54,26 +54,30 @@ fn port_of(x: u32) -> u8
 }
 
 // The link of the first coupling that ends at node x; the one after a link; and the node where a link's coupling begins.
-pub fn first_link(tables: &[u16], x: u32) -> u16
+pub fn first_link(tables: &[u16; table_words::TABLE_SIZE], x: u32) -> u16
     ensures { λ r. ⌜ r ≡ getD (now (tables .entry)) (firstAt + x) 0 ⌝ }
 {
     word_at(tables, FIRST_AT + size(x))
 }
 
-pub fn next_link(tables: &[u16], link: u16) -> u16
+pub fn next_link(tables: &[u16; table_words::TABLE_SIZE], link: u16) -> u16
     ensures { λ r. ⌜ r ≡ getD (now (tables .entry)) (nextAt + link) 0 ⌝ }
 {
     word_at(tables, NEXT_AT + size16(link))
 }
 
-pub fn source_of(tables: &[u16], link: u16) -> u32
+pub fn source_of(tables: &[u16; table_words::TABLE_SIZE], link: u16) -> u32
     ensures { λ r. ⌜ r ≡ getD (now (tables .entry)) (sourceAt + link) 0 ⌝ }
 {
     node(word_at(tables, SOURCE_AT + size16(link)))
 }
 
 // Something may come from node y in this step.
-pub fn may_come(marks: &[u32], reached: &[u32], y: u32) -> bool
+pub fn may_come(
+    marks: &[u32; limits::MAX_COMPONENTS],
+    reached: &[u32; limits::MAX_COMPONENTS],
+    y: u32,
+) -> bool
     ensures { λ r. ⌜ r ≡ mayCome [] [] (now (marks .entry)) (now (reached .entry)) y ⌝ }
 {
     let c = size(y / PORT_NODES);
@@ -84,7 +88,12 @@ pub fn may_come(marks: &[u32], reached: &[u32], y: u32) -> bool
     }
 }
 
-fn is_open(tables: &[u16], marks: &[u32], reached: &[u32], x: u32) -> bool
+fn is_open(
+    tables: &[u16; table_words::TABLE_SIZE],
+    marks: &[u32; limits::MAX_COMPONENTS],
+    reached: &[u32; limits::MAX_COMPONENTS],
+    x: u32,
+) -> bool
     ensures { λ r. ⌜ r ≡ isOpen [] (now (tables .entry)) (now (marks .entry)) (now (reached .entry)) x ⌝ }
 {
     (word_at(tables, LIVE_AT + size(x)) != 0) & may_come(marks, reached, x)
@@ -93,9 +102,9 @@ fn is_open(tables: &[u16], marks: &[u32], reached: &[u32], x: u32) -> bool
 // What arrives at input node x, at most `depth` levels up.
 fn collect_input(
     phases: &[u8],
-    tables: &[u16],
-    marks: &[u32],
-    reached: &[u32],
+    tables: &[u16; table_words::TABLE_SIZE],
+    marks: &[u32; limits::MAX_COMPONENTS],
+    reached: &[u32; limits::MAX_COMPONENTS],
     given: &[u8],
     depth: usize,
     own: u8,
@@ -141,9 +150,9 @@ fn collect_input(
 // that a call costs more than the test for an atomic: it stands here too, and only a coupled sibling is a call.
 fn collect_source(
     phases: &[u8],
-    tables: &[u16],
-    marks: &[u32],
-    reached: &[u32],
+    tables: &[u16; table_words::TABLE_SIZE],
+    marks: &[u32; limits::MAX_COMPONENTS],
+    reached: &[u32; limits::MAX_COMPONENTS],
     given: &[u8],
     depth: usize,
     own: u8,
@@ -198,9 +207,9 @@ fn root_output(q: u8) -> u32
 // What arrives at input node x, and what leaves at output node x. Most ports are closed in most steps, which is seen here without a call.
 fn collect_arriving(
     phases: &[u8],
-    tables: &[u16],
-    marks: &[u32],
-    reached: &[u32],
+    tables: &[u16; table_words::TABLE_SIZE],
+    marks: &[u32; limits::MAX_COMPONENTS],
+    reached: &[u32; limits::MAX_COMPONENTS],
     given: &[u8],
     own: u8,
     x: u32,
@@ -228,9 +237,9 @@ fn collect_arriving(
 
 fn collect_leaving(
     phases: &[u8],
-    tables: &[u16],
-    marks: &[u32],
-    reached: &[u32],
+    tables: &[u16; table_words::TABLE_SIZE],
+    marks: &[u32; limits::MAX_COMPONENTS],
+    reached: &[u32; limits::MAX_COMPONENTS],
     own: u8,
     x: u32,
     buf: &mut [u32],
@@ -257,9 +266,9 @@ fn collect_leaving(
 // The bag of component c, port by port; empty at once where nothing may reach c. What is given reaches the root whatever its flag.
 pub fn collect_bag(
     phases: &[u8],
-    tables: &[u16],
-    marks: &[u32],
-    reached: &[u32],
+    tables: &[u16; table_words::TABLE_SIZE],
+    marks: &[u32; limits::MAX_COMPONENTS],
+    reached: &[u32; limits::MAX_COMPONENTS],
     given: &[u8],
     c: u16,
     buf: &mut [u32],
@@ -282,9 +291,9 @@ pub fn collect_bag(
 // The root's output bag, port by port.
 pub fn collect_root(
     phases: &[u8],
-    tables: &[u16],
-    marks: &[u32],
-    reached: &[u32],
+    tables: &[u16; table_words::TABLE_SIZE],
+    marks: &[u32; limits::MAX_COMPONENTS],
+    reached: &[u32; limits::MAX_COMPONENTS],
     buf: &mut [u32],
 ) -> usize
     ensures { λ r. ⌜ (now (buf .exit), r) ≡ putPorts (λ q. pulledBelow (phasesIn (now (phases .entry))) (now (tables .entry)) (now (marks .entry)) (now (reached .entry)) maxAncestors (outputNode 0 q)) portCount 0 (now (buf .entry), 0) ⌝ }

@@ -21,7 +21,7 @@ use table_words::KINDS_AT;
 use table_words::word_at;
 
 // The component of node y is an atomic.
-pub fn is_atomic(tables: &[u16], y: u32) -> bool
+pub fn is_atomic(tables: &[u16; table_words::TABLE_SIZE], y: u32) -> bool
     ensures { λ r. ⌜ r ≡ atomicNode (now (tables .entry)) y ⌝ }
 {
     word_at(tables, KINDS_AT + size(y / PORT_NODES)) == 1
@@ -30,7 +30,7 @@ pub fn is_atomic(tables: &[u16], y: u32) -> bool
 // What the atomic of output node y puts out there.
 pub fn put_output(
     phases: &[u8],
-    marks: &[u32],
+    marks: &[u32; limits::MAX_COMPONENTS],
     own: u8,
     y: u32,
     buf: &mut [u32],
@@ -45,9 +45,9 @@ pub fn put_output(
 // What the coupled component of output node x puts out there, at most `depth` levels down.
 pub fn collect_coupled(
     phases: &[u8],
-    tables: &[u16],
-    marks: &[u32],
-    reached: &[u32],
+    tables: &[u16; table_words::TABLE_SIZE],
+    marks: &[u32; limits::MAX_COMPONENTS],
+    reached: &[u32; limits::MAX_COMPONENTS],
     depth: usize,
     own: u8,
     x: u32,
@@ -77,9 +77,9 @@ pub fn collect_coupled(
 // What the child of output node y puts out there.
 fn collect_child(
     phases: &[u8],
-    tables: &[u16],
-    marks: &[u32],
-    reached: &[u32],
+    tables: &[u16; table_words::TABLE_SIZE],
+    marks: &[u32; limits::MAX_COMPONENTS],
+    reached: &[u32; limits::MAX_COMPONENTS],
     depth: usize,
     own: u8,
     y: u32,

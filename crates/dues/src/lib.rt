@@ -22,10 +22,11 @@ use table_words::NUMBERS_AT;
 use table_words::PHASES_AT;
 use table_words::POSITIONS_AT;
 use table_words::SIBLING_AT;
+use table_words::TABLE_SIZE;
 use table_words::word_at;
 
 // Row i of a region of the tables that begins at `at`.
-pub fn row_word(tables: &[u16], at: usize, i: u16) -> u16
+pub fn row_word(tables: &[u16; TABLE_SIZE], at: usize, i: u16) -> u16
     requires { ⌜ at ≤ 65535 ⌝ }
     ensures { λ r. ⌜ r ≡ getD (now (tables .entry)) (at + i) 0 ⌝ }
 {
@@ -33,20 +34,26 @@ pub fn row_word(tables: &[u16], at: usize, i: u16) -> u16
 }
 
 // The number of the record of phase p of component c.
-pub fn record_of(tables: &[u16], c: u16, p: u8) -> usize
+pub fn record_of(tables: &[u16; TABLE_SIZE], c: u16, p: u8) -> usize
     ensures { λ r. ⌜ r ≡ recordOf [] (now (tables .entry)) c p ⌝ }
 {
     size16(row_word(tables, PHASES_AT, c)) + size(p)
 }
 
-pub fn phase_in(phases: &[u8], tables: &[u16], c: u16, p: u8) -> Phase
+pub fn phase_in(phases: &[u8], tables: &[u16; TABLE_SIZE], c: u16, p: u8) -> Phase
     ensures { λ r. ⌜ phaseOf r ≡ phaseIn (phasesIn (now (phases .entry))) (now (tables .entry)) c p ⌝ }
 {
     model_records::phase_at(phases, record_of(tables, c, p))
 }
 
 // When the atomic at a position is due.
-pub fn due_at(phases: &[u8], tables: &[u16], phase: &[u8], last: &[u64], i: u16) -> Due
+pub fn due_at(
+    phases: &[u8],
+    tables: &[u16; TABLE_SIZE],
+    phase: &[u8; MAX_COMPONENTS],
+    last: &[u64; MAX_COMPONENTS],
+    i: u16,
+) -> Due
     ensures { λ r. ⌜ timeOf r ≡ dueAtPosition (phasesIn (now (phases .entry))) (now (tables .entry)) (held (now (phase .entry)) (now (last .entry))) i ⌝ }
 {
     let at = size16(i);
@@ -65,14 +72,20 @@ pub fn is_now(due: Due, now_at: Moment) -> bool
     at.0 == now_at.0
 }
 
-fn is_atomic(tables: &[u16], c: u16) -> bool
+fn is_atomic(tables: &[u16; TABLE_SIZE], c: u16) -> bool
     ensures { λ r. ⌜ r ≡ atomicAt (now (tables .entry)) c ⌝ }
 {
     row_word(tables, KINDS_AT, c) == 1
 }
 
 // When the atomic c is due.
-fn due_of(phases: &[u8], tables: &[u16], phase: &[u8], last: &[u64], c: u16) -> Due
+fn due_of(
+    phases: &[u8],
+    tables: &[u16; TABLE_SIZE],
+    phase: &[u8; MAX_COMPONENTS],
+    last: &[u64; MAX_COMPONENTS],
+    c: u16,
+) -> Due
     ensures { λ r. ⌜ timeOf r ≡ dueAtPosition (phasesIn (now (phases .entry))) (now (tables .entry)) (held (now (phase .entry)) (now (last .entry))) (getD (now (tables .entry)) (positionsAt + c) 0) ⌝ }
 {
     let i = row_word(tables, POSITIONS_AT, c);
@@ -83,9 +96,9 @@ fn due_of(phases: &[u8], tables: &[u16], phase: &[u8], last: &[u64], c: u16) -> 
 // cost more than the look-up.
 fn due_below(
     phases: &[u8],
-    tables: &[u16],
-    phase: &[u8],
-    last: &[u64],
+    tables: &[u16; TABLE_SIZE],
+    phase: &[u8; MAX_COMPONENTS],
+    last: &[u64; MAX_COMPONENTS],
     levels: usize,
     c: u16,
 ) -> Due
@@ -113,7 +126,12 @@ fn due_below(
 }
 
 // The whole model's next due moment: the root's.
-pub fn next_due(phases: &[u8], tables: &[u16], phase: &[u8], last: &[u64]) -> Due
+pub fn next_due(
+    phases: &[u8],
+    tables: &[u16; TABLE_SIZE],
+    phase: &[u8; MAX_COMPONENTS],
+    last: &[u64; MAX_COMPONENTS],
+) -> Due
     ensures { λ r. ⌜ timeOf r ≡ tableNext (phasesIn (now (phases .entry))) (now (tables .entry)) (held (now (phase .entry)) (now (last .entry))) ⌝ }
 {
     due_below(phases, tables, phase, last, MAX_COMPONENTS, 0)

@@ -38,7 +38,7 @@ fn row_number(source: u32, from: u32, target: u32, to: u32) -> u32
 }
 
 // The row of a message that came to an end.
-fn row_of(tables: &[u16], end: u32, key: u32) -> u32
+fn row_of(tables: &[u16; table_words::TABLE_SIZE], end: u32, key: u32) -> u32
     ensures { λ r. ⌜ r ≡ rowOf (now (tables .entry)) end key ⌝ }
 {
     let node = key % 65536;
@@ -48,7 +48,7 @@ fn row_of(tables: &[u16], end: u32, key: u32) -> u32
 
 // The rows of the messages of one end, and where the next ones go.
 fn put_rows(
-    tables: &[u16],
+    tables: &[u16; table_words::TABLE_SIZE],
     end: u32,
     keys: &[u32],
     count: usize,
@@ -69,8 +69,8 @@ fn put_rows(
 // The rows that end at the root.
 fn add_root(
     phases: &[u8],
-    tables: &[u16],
-    marks: &[u32],
+    tables: &[u16; table_words::TABLE_SIZE],
+    marks: &[u32; limits::MAX_COMPONENTS],
     keys: &mut [u32],
     rows: &mut [u32],
 ) -> usize
@@ -86,8 +86,8 @@ fn add_root(
 // The rows that end at the atomic at position i.
 fn add_atomic(
     phases: &[u8],
-    tables: &[u16],
-    marks: &[u32],
+    tables: &[u16; table_words::TABLE_SIZE],
+    marks: &[u32; limits::MAX_COMPONENTS],
     given: &[u8],
     i: u8,
     keys: &mut [u32],
@@ -107,8 +107,8 @@ fn add_atomic(
 // The rows of all ends.
 fn add_all(
     phases: &[u8],
-    tables: &[u16],
-    marks: &[u32],
+    tables: &[u16; table_words::TABLE_SIZE],
+    marks: &[u32; limits::MAX_COMPONENTS],
     given: &[u8],
     n: u8,
     keys: &mut [u32],
@@ -129,7 +129,12 @@ fn add_all(
 }
 
 // The rows of the flat form of a model with n atomics, sorted, at the front of `rows`; what the scratch holds afterwards is left open.
-pub fn flat_rows(tables: &[u16], n: u8, rows: &mut [u32], scratch: &mut [u32]) -> usize
+pub fn flat_rows(
+    tables: &[u16; table_words::TABLE_SIZE],
+    n: u8,
+    rows: &mut [u32],
+    scratch: &mut [u32],
+) -> usize
     requires { ⌜ (length (probeRows (now tables) n) ≤ length (now rows)) × (length (probeRows (now tables) n) ≤ length (now scratch)) ⌝ }
     ensures { λ r. ⌜ (r ≡ length (probeRows (now (tables .entry)) n)) × (take r (now (rows .exit)) ≡ sortBy leb (probeRows (now (tables .entry)) n)) ⌝ }
 {

@@ -40,7 +40,7 @@ fn small(x: usize) -> u8
 fn flatten_accepted(
     file: &[u8],
     n: Counts,
-    tables: &mut [u16],
+    tables: &mut [u16; table_words::TABLE_SIZE],
     rows: &mut [u32],
     scratch: &mut [u32],
     out: &mut [u8],

@@ -52,7 +52,7 @@ fn goes_on(due: Due, at: Moment, bag: &[u8], len: usize) -> bool
 pub fn instant(
     phases: &[u8],
     rules: &[u8],
-    tables: &[u16],
+    tables: &[u16; table_words::TABLE_SIZE],
     n: u8,
     at: Moment,
     bag: &[u8],

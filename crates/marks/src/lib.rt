@@ -51,14 +51,21 @@ fn flag(up: bool) -> u32
 // ---- marks
 
 // The mark of component c that is due in phase p.
-fn mark_for(tables: &[u16], c: u16, p: u8) -> u32
+fn mark_for(tables: &[u16; table_words::TABLE_SIZE], c: u16, p: u8) -> u32
     ensures { λ r. ⌜ r ≡ suc (recordOf [] (now (tables .entry)) c p) ⌝ }
 {
     wide16(row_word(tables, PHASES_AT, c)) + wide(p) + 1
 }
 
 // The mark of the atomic at position i.
-fn mark_of(phases: &[u8], tables: &[u16], phase: &[u8], last: &[u64], at: Moment, i: u16) -> u32
+fn mark_of(
+    phases: &[u8],
+    tables: &[u16; table_words::TABLE_SIZE],
+    phase: &[u8; limits::MAX_COMPONENTS],
+    last: &[u64; limits::MAX_COMPONENTS],
+    at: Moment,
+    i: u16,
+) -> u32
     ensures { λ r. ⌜ r ≡ markOf (phasesIn (now (phases .entry))) (now (tables .entry)) (at .0) (held (now (phase .entry)) (now (last .entry))) i ⌝ }
 {
     if dues::is_now(dues::due_at(phases, tables, phase, last, i), at) {
@@ -84,12 +91,12 @@ fn put_mark(marks: &mut [u32], c: u16, mark: u32)
 
 fn mark_atomics(
     phases: &[u8],
-    tables: &[u16],
+    tables: &[u16; table_words::TABLE_SIZE],
     n: u8,
-    phase: &[u8],
-    last: &[u64],
+    phase: &[u8; limits::MAX_COMPONENTS],
+    last: &[u64; limits::MAX_COMPONENTS],
     at: Moment,
-    marks: &mut [u32],
+    marks: &mut [u32; limits::MAX_COMPONENTS],
 )
     ensures { λ _. ⌜ now (marks .exit) ≡ marked (phasesIn (now (phases .entry))) (now (tables .entry)) (at .0) (held (now (phase .entry)) (now (last .entry))) n 0 (now (marks .entry)) ⌝ }
 {
@@ -102,7 +109,11 @@ fn mark_atomics(
 }
 
 // The parent of component c is marked where c is.
-fn mark_parent(tables: &[u16], c: u16, marks: &mut [u32])
+fn mark_parent(
+    tables: &[u16; table_words::TABLE_SIZE],
+    c: u16,
+    marks: &mut [u32; limits::MAX_COMPONENTS],
+)
     ensures { λ _. ⌜ now (marks .exit) ≡ cond (isUp (now (marks .entry)) c) (set (now (marks .entry)) (getD (now (tables .entry)) (parentsAt + c) 0) 1) (now (marks .entry)) ⌝ }
 {
     if key_at(marks, size16(c)) != 0 {
@@ -110,7 +121,7 @@ fn mark_parent(tables: &[u16], c: u16, marks: &mut [u32])
     }
 }
 
-fn mark_parents(tables: &[u16], marks: &mut [u32])
+fn mark_parents(tables: &[u16; table_words::TABLE_SIZE], marks: &mut [u32; limits::MAX_COMPONENTS])
     ensures { λ _. ⌜ now (marks .exit) ≡ raised [] (now (tables .entry)) (getD (now (tables .entry)) countAt 0 - 1) (now (marks .entry)) ⌝ }
 {
     let count = word_at(tables, COUNT_AT);
@@ -126,7 +137,12 @@ fn mark_parents(tables: &[u16], marks: &mut [u32])
 
 // ---- what may be reached
 
-fn any_source(tables: &[u16], marks: &[u32], reached: &[u32], x: u32) -> bool
+fn any_source(
+    tables: &[u16; table_words::TABLE_SIZE],
+    marks: &[u32; limits::MAX_COMPONENTS],
+    reached: &[u32; limits::MAX_COMPONENTS],
+    x: u32,
+) -> bool
     ensures { λ r. ⌜ r ≡ anyOf (mayCome [] (now (tables .entry)) (now (marks .entry)) (now (reached .entry))) (chainRows (now (tables .entry)) x) ⌝ }
 {
     let mut left = MAX_COUPLINGS;
@@ -141,7 +157,12 @@ fn any_source(tables: &[u16], marks: &[u32], reached: &[u32], x: u32) -> bool
     false
 }
 
-fn may_reach(tables: &[u16], marks: &[u32], reached: &[u32], c: u16) -> bool
+fn may_reach(
+    tables: &[u16; table_words::TABLE_SIZE],
+    marks: &[u32; limits::MAX_COMPONENTS],
+    reached: &[u32; limits::MAX_COMPONENTS],
+    c: u16,
+) -> bool
     ensures { λ r. ⌜ r ≡ mayReach [] (now (tables .entry)) (now (marks .entry)) (now (reached .entry)) c portCount 0 ⌝ }
 {
     let mut q: u8 = 0;
@@ -154,7 +175,11 @@ fn may_reach(tables: &[u16], marks: &[u32], reached: &[u32], c: u16) -> bool
     false
 }
 
-fn flag_components(tables: &[u16], marks: &[u32], reached: &mut [u32])
+fn flag_components(
+    tables: &[u16; table_words::TABLE_SIZE],
+    marks: &[u32; limits::MAX_COMPONENTS],
+    reached: &mut [u32; limits::MAX_COMPONENTS],
+)
     ensures { λ _. ⌜ now (reached .exit) ≡ reachedFrom [] (now (tables .entry)) (now (marks .entry)) (getD (now (tables .entry)) countAt 0 - 1) 1 (now (reached .entry)) ⌝ }
 {
     let count = word_at(tables, COUNT_AT);
@@ -171,12 +196,12 @@ fn flag_components(tables: &[u16], marks: &[u32], reached: &mut [u32])
 // The marks of n atomics and of the components above them.
 pub fn mark(
     phases: &[u8],
-    tables: &[u16],
+    tables: &[u16; table_words::TABLE_SIZE],
     n: u8,
-    phase: &[u8],
-    last: &[u64],
+    phase: &[u8; limits::MAX_COMPONENTS],
+    last: &[u64; limits::MAX_COMPONENTS],
     at: Moment,
-    marks: &mut [u32],
+    marks: &mut [u32; limits::MAX_COMPONENTS],
 )
     ensures { λ _. ⌜ now (marks .exit) ≡ raised (phasesIn (now (phases .entry))) (now (tables .entry)) (getD (now (tables .entry)) countAt 0 - 1) (marked (phasesIn (now (phases .entry))) (now (tables .entry)) (at .0) (held (now (phase .entry)) (now (last .entry))) n 0 (now (marks .entry))) ⌝ }
 {
@@ -185,7 +210,12 @@ pub fn mark(
 }
 
 // The flags, where the root's says that something is given.
-pub fn reach(tables: &[u16], marks: &[u32], given: &[u8], reached: &mut [u32])
+pub fn reach(
+    tables: &[u16; table_words::TABLE_SIZE],
+    marks: &[u32; limits::MAX_COMPONENTS],
+    given: &[u8],
+    reached: &mut [u32; limits::MAX_COMPONENTS],
+)
     ensures { λ _. ⌜ now (reached .exit) ≡ reachedFrom [] (now (tables .entry)) (now (marks .entry)) (getD (now (tables .entry)) countAt 0 - 1) 1 (set (now (reached .entry)) 0 (cond (isEmpty (toBag (now (given .entry)))) 0 1)) ⌝ }
 {
     put_mark(reached, 0, flag(MESSAGE_SIZE <= given.len()));

@@ -24,7 +24,11 @@ use little_endian::size16;
 use table_words::NUMBERS_AT;
 
 // Nothing of component c changes: it is not due, and nothing may reach it. What is given reaches the root whatever its flag.
-fn is_still(marks: &[u32], reached: &[u32], c: u16) -> bool
+fn is_still(
+    marks: &[u32; limits::MAX_COMPONENTS],
+    reached: &[u32; limits::MAX_COMPONENTS],
+    c: u16,
+) -> bool
     ensures { λ r. ⌜ r ≡ (eqb (getD (now (marks .entry)) c 0) 0 && (not (eqb c 0) && eqb (getD (now (reached .entry)) c 0) 0)) ⌝ }
 {
     let at = size16(c);
@@ -35,12 +39,12 @@ fn is_still(marks: &[u32], reached: &[u32], c: u16) -> bool
 fn change_one(
     phases: &[u8],
     rules: &[u8],
-    tables: &[u16],
-    marks: &[u32],
-    reached: &[u32],
+    tables: &[u16; table_words::TABLE_SIZE],
+    marks: &[u32; limits::MAX_COMPONENTS],
+    reached: &[u32; limits::MAX_COMPONENTS],
     given: &[u8],
-    phase: &mut [u8],
-    last: &mut [u64],
+    phase: &mut [u8; limits::MAX_COMPONENTS],
+    last: &mut [u64; limits::MAX_COMPONENTS],
     at: Moment,
     i: u8,
     c: u16,
@@ -61,13 +65,13 @@ fn change_one(
 fn change_all(
     phases: &[u8],
     rules: &[u8],
-    tables: &[u16],
-    marks: &[u32],
-    reached: &[u32],
+    tables: &[u16; table_words::TABLE_SIZE],
+    marks: &[u32; limits::MAX_COMPONENTS],
+    reached: &[u32; limits::MAX_COMPONENTS],
     given: &[u8],
     n: u8,
-    phase: &mut [u8],
-    last: &mut [u64],
+    phase: &mut [u8; limits::MAX_COMPONENTS],
+    last: &mut [u64; limits::MAX_COMPONENTS],
     at: Moment,
     work: &mut [u32],
 )
@@ -97,9 +101,9 @@ fn change_all(
 // The root's output bag, sorted, in `keys`; what `work` and the rest of `keys` hold afterwards is left open.
 fn root_bag(
     phases: &[u8],
-    tables: &[u16],
-    marks: &[u32],
-    reached: &[u32],
+    tables: &[u16; table_words::TABLE_SIZE],
+    marks: &[u32; limits::MAX_COMPONENTS],
+    reached: &[u32; limits::MAX_COMPONENTS],
     keys: &mut [u32],
     work: &mut [u32],
 ) -> usize
@@ -116,13 +120,13 @@ fn root_bag(
 fn step_marked(
     phases: &[u8],
     rules: &[u8],
-    tables: &[u16],
-    marks: &[u32],
-    reached: &[u32],
+    tables: &[u16; table_words::TABLE_SIZE],
+    marks: &[u32; limits::MAX_COMPONENTS],
+    reached: &[u32; limits::MAX_COMPONENTS],
     given: &[u8],
     n: u8,
-    phase: &mut [u8],
-    last: &mut [u64],
+    phase: &mut [u8; limits::MAX_COMPONENTS],
+    last: &mut [u64; limits::MAX_COMPONENTS],
     at: Moment,
     work: &mut [u32],
     keys: &mut [u32],
@@ -154,10 +158,10 @@ fn step_marked(
 pub fn step_once(
     phases: &[u8],
     rules: &[u8],
-    tables: &[u16],
+    tables: &[u16; table_words::TABLE_SIZE],
     n: u8,
-    phase: &mut [u8],
-    last: &mut [u64],
+    phase: &mut [u8; limits::MAX_COMPONENTS],
+    last: &mut [u64; limits::MAX_COMPONENTS],
     at: Moment,
     bag: &[u8],
     len: usize,

@@ -25,14 +25,14 @@ fn wide(x: u32) -> u64
 }
 
 // The next phase of phase p.
-fn next_of(phases: &[u8], tables: &[u16], c: u16, p: u8) -> u8
+fn next_of(phases: &[u8], tables: &[u16; table_words::TABLE_SIZE], c: u16, p: u8) -> u8
     ensures { λ r. ⌜ r ≡ phaseIn (phasesIn (now (phases .entry))) (now (tables .entry)) c p .next ⌝ }
 {
     let phase = phase_in(phases, tables, c, p);
     phase.next
 }
 
-fn advance_of(phases: &[u8], tables: &[u16], c: u16, p: u8) -> Stay
+fn advance_of(phases: &[u8], tables: &[u16; table_words::TABLE_SIZE], c: u16, p: u8) -> Stay
     ensures { λ r. ⌜ r .0 ≡ phaseIn (phasesIn (now (phases .entry))) (now (tables .entry)) c p .advance ⌝ }
 {
     let phase = phase_in(phases, tables, c, p);
@@ -51,7 +51,14 @@ fn led_to(rules: &[u8], p: u8, found: Found) -> u8
 }
 
 // The external transition of component c in phase p.
-fn decided(rules: &[u8], tables: &[u16], c: u16, p: u8, elapsed: Stay, bag: &[u32]) -> u8
+fn decided(
+    rules: &[u8],
+    tables: &[u16; table_words::TABLE_SIZE],
+    c: u16,
+    p: u8,
+    elapsed: Stay,
+    bag: &[u32],
+) -> u8
     ensures { λ r. ⌜ r ≡ decidedIn [] (now (tables .entry)) (rulesIn (now (rules .entry))) c p (elapsed .0) (map messageOf (now (bag .entry))) ⌝ }
 {
     let first = row_word(tables, RULES_FROM_AT, c);
@@ -65,7 +72,14 @@ fn decided(rules: &[u8], tables: &[u16], c: u16, p: u8, elapsed: Stay, bag: &[u3
 
 // "order 0 takes the next phase, then the external transition with elapsed time 0; order 1 the external one with elapsed time equal to the
 // advance, then the next phase of where it led"
-fn confluent(phases: &[u8], rules: &[u8], tables: &[u16], c: u16, p: u8, bag: &[u32]) -> u8
+fn confluent(
+    phases: &[u8],
+    rules: &[u8],
+    tables: &[u16; table_words::TABLE_SIZE],
+    c: u16,
+    p: u8,
+    bag: &[u32],
+) -> u8
     ensures { λ r. ⌜ r ≡ confluentIn (phasesIn (now (phases .entry))) (now (tables .entry)) (rulesIn (now (rules .entry))) c p (map messageOf (now (bag .entry))) ⌝ }
 {
     if row_word(tables, ORDERS_AT, c) == 0 {
@@ -81,9 +95,9 @@ fn confluent(phases: &[u8], rules: &[u8], tables: &[u16], c: u16, p: u8, bag: &[
 pub fn transition(
     phases: &[u8],
     rules: &[u8],
-    tables: &[u16],
-    phase: &mut [u8],
-    last: &mut [u64],
+    tables: &[u16; table_words::TABLE_SIZE],
+    phase: &mut [u8; limits::MAX_COMPONENTS],
+    last: &mut [u64; limits::MAX_COMPONENTS],
     at: Moment,
     i: u8,
     c: u16,

@@ -19,7 +19,7 @@ use Rattle.advance.proofs.advance_from.Tie as tie
 -- src/lib.rt:153:9
 advance-on-requires : tie.Need-advance-on-requires
 advance-on-requires c κs =
-    (c .before .before .before .before .before .before .before .before .before .before .before .before .before .pre .0, c .before .before .before .before .before .before .before .before .before .before .before .before .before .pre .1, omega arith, omega (arith, c .before .before .before .before .before .before .before .before .before .before .before .before .before .pre .1), omega (arith, c .before .before .before .before .before .before .before .before .before .before .before .before .before .pre .1))
+    (c .before .before .before .before .before .before .before .before .before .before .before .before .pre .0, c .before .before .before .before .before .before .before .before .before .before .before .before .pre .1, omega arith, omega (arith, c .before .before .before .before .before .before .before .before .before .before .before .before .pre .1), omega (arith, c .before .before .before .before .before .before .before .before .before .before .before .before .pre .1))
 
 -- src/lib.rt:167:38
 size-requires : tie.Need-size-requires
@@ -28,7 +28,7 @@ size-requires c κs = search needs
 -- src/lib.rt:167:5
 store-requires : tie.Need-store-requires
 store-requires c κs =
-    rw (c .size .ensures) (c .before .before .before .before .before .before .before .before .before .before .before .before .before .before .before .before .before .before .before .before .before .before .before .before .before .pre .2, c .before .before .before .before .before .before .before .before .before .before .before .before .before .before .before .before .before .before .before .before .before .before .before .before .before .pre .3)
+    rw (c .size .ensures) (c .before .before .before .before .before .before .before .before .before .before .before .before .before .before .before .before .before .before .before .before .before .before .before .before .pre .2, c .before .before .before .before .before .before .before .before .before .before .before .before .before .before .before .before .before .before .before .before .before .before .before .before .pre .3)
 
 -- src/lib.rt:126:1
 same-length : tie.Need-same-length
@@ -58,7 +58,7 @@ same-length-5 c =
 -- src/lib.rt:126:1
 returns : tie.Need-returns
 returns c =
-    let a = c .before .before .before .before .before .before .before .before .before .before .before .before .before .before .before .before .before .before .before .before .before .before .before .before .before .before .before .before .args in
+    let a = c .before .before .before .before .before .before .before .before .before .before .before .before .before .before .before .before .before .before .before .before .before .before .before .before .before .before .before .args in
     let r = c .before .before .before .before .before .before .before .before .before .before .before .before .before .before .advance-on in
     let k = simOf (now (a .phases)) (now (a .rules)) (now (a .tables)) (a .n) (length (now (a .work))) in
     let x = toBag (now (a .bag)) in

@@ -33,14 +33,14 @@ abbrev μ-loop : tie.MeasureT-loop
 -- src/lib.rt:62:20
 add-left : tie.Need-add-left Inv-loop μ-loop
 add-left c =
-    record { fits = omega (arith, c .before .before .before .before .before .before .before .before .before .before .pre .1) }
+    record { fits = omega (arith, c .before .before .before .before .before .before .before .before .before .pre .1) }
 
 -- src/lib.rt:63:5
 loop-holds : tie.Need-loop-holds Inv-loop μ-loop
 loop-holds c =
-    let a = c .before .before .before .before .before .before .before .before .before .before .args in
+    let a = c .before .before .before .before .before .before .before .before .before .args in
     let o : a .t .0 + 1 ≡ suc (a .t .0) = omega arith in
-    (omega arith, refl, refl, refl, omega (arith, c .before .before .before .before .before .before .before .before .before .before .pre .3), omega (arith, c .before .before .before .before .before .before .before .before .before .before .pre .4), (c .before .before .before .before .before .before .before .before .before .before .pre .2, refl, refl), rw o, c .before .due-of .ensures)
+    (omega arith, refl, refl, refl, omega (arith, c .before .before .before .before .before .before .before .before .before .pre .3), omega (arith, c .before .before .before .before .before .before .before .before .before .pre .4), (c .before .before .before .before .before .before .before .before .before .pre .2, refl, refl), rw o, c .before .due-of .ensures)
 
 -- src/lib.rt:64:30
 due-of-requires : tie.Need-due-of-requires Inv-loop μ-loop
@@ -56,12 +56,12 @@ next-moment-requires c κs =
 attempt-requires : tie.Need-attempt-requires Inv-loop μ-loop
 attempt-requires c κs =
     let l = c .before .before .before .before .before .before .before .before .before .loop in
-    (lent-kept (l .inv .1) (l .inv .2) (c .before .before .before .before .before .before .before .before .before .before .before .before .before .before .before .before .before .before .before .before .pre .0), omega (arith, l .inv .6 .0, l .inv .6 .1), omega (arith, c .before .before .before .before .before .before .before .before .before .before .before .before .before .before .before .before .before .before .before .before .pre .1), omega (arith, l .inv .4, c .before .before .before .before .before .before .before .before .loop-test .taken), omega (arith, l .inv .5, c .before .before .before .before .before .before .before .before .loop-test .taken), l .inv .8)
+    (lent-kept (l .inv .1) (l .inv .2) (c .before .before .before .before .before .before .before .before .before .before .before .before .before .before .before .before .before .before .before .pre .0), omega (arith, l .inv .6 .0, l .inv .6 .1), omega (arith, c .before .before .before .before .before .before .before .before .before .before .before .before .before .before .before .before .before .before .before .pre .1), omega (arith, l .inv .4, c .before .before .before .before .before .before .before .before .loop-test .taken), omega (arith, l .inv .5, c .before .before .before .before .before .before .before .before .loop-test .taken), l .inv .8)
 
 -- src/lib.rt:66:13
 finish-requires : tie.Need-finish-requires Inv-loop μ-loop
 finish-requires c κs =
-    c .before .before .before .before .before .before .before .before .before .before .before .before .before .before .before .before .before .before .before .before .before .before .before .before .before .before .before .before .before .pre .1
+    c .before .before .before .before .before .before .before .before .before .before .before .before .before .before .before .before .before .before .before .before .before .before .before .before .before .before .before .before .pre .1
 
 -- src/lib.rt:66:13
 same-length : tie.Need-same-length Inv-loop μ-loop
@@ -86,7 +86,7 @@ same-length-4 c =
 -- src/lib.rt:66:13
 returns : tie.Need-returns Inv-loop μ-loop
 returns c =
-    let a = c .before .before .before .before .before .before .before .before .before .before .before .before .before .before .before .before .before .before .before .before .before .before .before .before .before .before .before .before .before .before .args in
+    let a = c .before .before .before .before .before .before .before .before .before .before .before .before .before .before .before .before .before .before .before .before .before .before .before .before .before .before .before .before .before .args in
     let l = c .before .before .before .before .before .before .before .before .before .before .before .before .before .before .before .before .before .before .before .loop in
     let r = c .before .before .before .before .before .before .before .before .before .attempt in
     let k = (simOf (now (a .phases)) (now (a .rules)) (now (a .tables)) (a .n) (length (now (a .work)))) in
@@ -102,7 +102,7 @@ returns c =
 attempt-requires-2 : tie.Need-attempt-requires-2 Inv-loop μ-loop
 attempt-requires-2 c κs =
     let l = c .before .before .before .before .before .before .before .before .before .loop in
-    (lent-kept (l .inv .1) (l .inv .2) (c .before .before .before .before .before .before .before .before .before .before .before .before .before .before .before .before .before .before .before .before .pre .0), omega (arith, l .inv .6 .0, l .inv .6 .1), omega (arith, c .before .before .before .before .if1 .left, c .before .before .before .before .before .before .before .before .before .before .before .before .before .before .before .before .before .before .before .before .pre .1), omega (arith, l .inv .4, c .before .before .before .before .before .before .before .before .loop-test .taken), omega (arith, l .inv .5, c .before .before .before .before .before .before .before .before .loop-test .taken), l .inv .8)
+    (lent-kept (l .inv .1) (l .inv .2) (c .before .before .before .before .before .before .before .before .before .before .before .before .before .before .before .before .before .before .before .pre .0), omega (arith, l .inv .6 .0, l .inv .6 .1), omega (arith, c .before .before .before .before .if1 .left, c .before .before .before .before .before .before .before .before .before .before .before .before .before .before .before .before .before .before .before .pre .1), omega (arith, l .inv .4, c .before .before .before .before .before .before .before .before .loop-test .taken), omega (arith, l .inv .5, c .before .before .before .before .before .before .before .before .loop-test .taken), l .inv .8)
 
 -- src/lib.rt:70:13
 same-length-5 : tie.Need-same-length-5 Inv-loop μ-loop
@@ -127,7 +127,7 @@ same-length-8 c =
 -- src/lib.rt:70:13
 returns-2 : tie.Need-returns-2 Inv-loop μ-loop
 returns-2 c =
-    let a = c .before .before .before .before .before .before .before .before .before .before .before .before .before .before .before .before .before .before .before .before .before .before .before .before .before .before .before .before .before .before .before .args in
+    let a = c .before .before .before .before .before .before .before .before .before .before .before .before .before .before .before .before .before .before .before .before .before .before .before .before .before .before .before .before .before .before .args in
     let l = c .before .before .before .before .before .before .before .before .before .before .before .before .before .before .before .before .before .before .before .before .loop in
     let r = c .before .before .before .before .before .before .before .before .before .before .attempt2 in
     let k = (simOf (now (a .phases)) (now (a .rules)) (now (a .tables)) (a .n) (length (now (a .work)))) in
@@ -151,7 +151,7 @@ loop-less c =
 -- src/lib.rt:63:5
 loop-again : tie.Need-loop-again Inv-loop μ-loop
 loop-again c =
-    let a = c .before .before .before .before .before .before .before .before .before .before .before .before .before .before .before .before .before .before .before .before .before .before .before .before .before .before .before .before .before .before .before .before .args in
+    let a = c .before .before .before .before .before .before .before .before .before .before .before .before .before .before .before .before .before .before .before .before .before .before .before .before .before .before .before .before .before .before .before .args in
     let l = c .before .before .before .before .before .before .before .before .before .before .before .before .before .before .before .before .before .before .before .before .before .loop in
     let r = c .before .before .before .before .before .before .before .before .before .before .before .attempt2 in
     let k = (simOf (now (a .phases)) (now (a .rules)) (now (a .tables)) (a .n) (length (now (a .work)))) in
@@ -195,7 +195,7 @@ same-length-12 c =
 -- src/lib.rt:54:1
 returns-3 : tie.Need-returns-3 Inv-loop μ-loop
 returns-3 c =
-    let a = c .before .before .before .before .before .before .before .before .before .before .before .before .args in
+    let a = c .before .before .before .before .before .before .before .before .before .before .before .args in
     let l = c .before .loop in
     let k = (simOf (now (a .phases)) (now (a .rules)) (now (a .tables)) (a .n) (length (now (a .work)))) in
     (sym (no-turn k (length (now (a .trace))) (a .t .0) (toBag (now (a .bag))) (l .left) (progressOf (l .trace) (l .g)) (omega arith)) ∙ l .inv .7, l .inv .6)

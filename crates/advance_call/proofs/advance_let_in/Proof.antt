@@ -63,10 +63,6 @@ cast-advance-from c =
     let a = c .before .before .before .before .before .before .before .before .before .before .before .before .before .before .before .before .before .before .before .args in
     record { fits = omega (arith, c .before .before .before .before .before .before .before .before .before .before .before .before .before .before .before .before .before .before .before .pre .2, few-atomics (a .file .now) (a .n) (λ i. c .before .before .before .before .before .before .before .before .before .before .before .before .before .before .before .before .before .before .shared-slice-known .given i .fits) (c .before .before .before .before .before .before .before .before .before .before .before .before .before .before .before .before .before .before .before .pre .0)) }
 
--- src/lib.rt:85:9
-slice-aggregate-advance-from-2 : tie.Need-slice-aggregate-advance-from-2
-slice-aggregate-advance-from-2 c = search needs
-
 -- src/lib.rt:75:9
 advance-from-requires : tie.Need-advance-from-requires
 advance-from-requires c κs =
@@ -115,9 +111,8 @@ advance-let-in-spec =
     load-requires
     phases-of-requires
     rules-of-requires-2
-    slice-aggregate-advance-from
     cast-advance-from
-    slice-aggregate-advance-from-2
+    slice-aggregate-advance-from
     advance-from-requires
     same-length
     same-length-2

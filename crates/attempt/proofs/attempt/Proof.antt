@@ -20,7 +20,7 @@ use Rattle.attempt.proofs.attempt.Tie as tie
 -- src/lib.rt:57:9
 instant-requires : tie.Need-instant-requires
 instant-requires c κs =
-    (c .before .before .before .before .before .before .before .before .before .before .before .before .pre .0, omega arith, c .before .before .before .before .before .before .before .before .before .before .before .before .pre .5)
+    (c .before .before .before .before .before .before .before .before .before .before .before .pre .0, omega arith, c .before .before .before .before .before .before .before .before .before .before .before .pre .5)
 
 -- src/lib.rt:61:13
 enum-told : tie.Need-enum-told
@@ -45,10 +45,10 @@ same-length-3 c =
 -- src/lib.rt:61:13
 returns : tie.Need-returns
 returns c =
-    let a = c .before .before .before .before .before .before .before .before .before .before .before .before .before .before .before .before .before .before .before .before .before .args in
+    let a = c .before .before .before .before .before .before .before .before .before .before .before .before .before .before .before .before .before .before .before .before .args in
     let r = c .before .before .before .before .before .before .before .before .instant in
     let i = instant (simOf (now (a .phases)) (now (a .rules)) (now (a .tables)) (a .n) (length (now (a .work)))) (a .at .0) (toBag (take (a .len) (now (a .bag)))) (a .g .state) in
-    (attempt-jams (a .at .0) (a .g) (a .due) (now (a .trace)) i (c .before .before .before .before .before .before .before .before .before .before .before .before .before .before .before .before .before .before .before .before .before .pre .1) (told-jams (a .at .0) 0 (a .g .state) i (r .result) (r .ensures .0 .0) (c .enum-told .given .1)), c .before .before .before .before .before .before .before .before .before .before .before .before .before .before .before .before .before .before .before .before .before .pre .5)
+    (attempt-jams (a .at .0) (a .g) (a .due) (now (a .trace)) i (c .before .before .before .before .before .before .before .before .before .before .before .before .before .before .before .before .before .before .before .before .pre .1) (told-jams (a .at .0) 0 (a .g .state) i (r .result) (r .ensures .0 .0) (c .enum-told .given .1)), c .before .before .before .before .before .before .before .before .before .before .before .before .before .before .before .before .before .before .before .before .pre .5)
 
 -- src/lib.rt:64:13
 enum-told-2 : tie.Need-enum-told-2
@@ -73,10 +73,10 @@ same-length-6 c =
 -- src/lib.rt:64:13
 returns-2 : tie.Need-returns-2
 returns-2 c =
-    let a = c .before .before .before .before .before .before .before .before .before .before .before .before .before .before .before .before .before .before .before .before .before .args in
+    let a = c .before .before .before .before .before .before .before .before .before .before .before .before .before .before .before .before .before .before .before .before .args in
     let r = c .before .before .before .before .before .before .before .before .instant in
     let i = instant (simOf (now (a .phases)) (now (a .rules)) (now (a .tables)) (a .n) (length (now (a .work)))) (a .at .0) (toBag (take (a .len) (now (a .bag)))) (a .g .state) in
-    (attempt-over (a .at .0) (a .g) (a .due) (now (a .trace)) i (c .before .before .before .before .before .before .before .before .before .before .before .before .before .before .before .before .before .before .before .before .before .pre .1) (told-over (a .at .0) 0 (a .g .state) i (r .result) (r .ensures .0 .0) (c .enum-told2 .given .1)), c .before .before .before .before .before .before .before .before .before .before .before .before .before .before .before .before .before .before .before .before .before .pre .5)
+    (attempt-over (a .at .0) (a .g) (a .due) (now (a .trace)) i (c .before .before .before .before .before .before .before .before .before .before .before .before .before .before .before .before .before .before .before .before .pre .1) (told-over (a .at .0) 0 (a .g .state) i (r .result) (r .ensures .0 .0) (c .enum-told2 .given .1)), c .before .before .before .before .before .before .before .before .before .before .before .before .before .before .before .before .before .before .before .before .pre .5)
 
 enum-told-3 : tie.Need-enum-told-3
 enum-told-3 c =
@@ -100,16 +100,16 @@ same-length-9 c =
 -- src/lib.rt:69:9
 returns-3 : tie.Need-returns-3
 returns-3 c =
-    let a = c .before .before .before .before .before .before .before .before .before .before .before .before .before .before .before .before .before .before .before .before .before .before .before .args in
+    let a = c .before .before .before .before .before .before .before .before .before .before .before .before .before .before .before .before .before .before .before .before .before .before .args in
     let r = c .before .before .before .before .before .before .before .before .before .before .instant in
     let i = instant (simOf (now (a .phases)) (now (a .rules)) (now (a .tables)) (a .n) (length (now (a .work)))) (a .at .0) (toBag (take (a .len) (now (a .bag)))) (a .g .state) in
     let s = told-stands (a .at .0) 0 (a .g .state) i (r .result) (r .ensures .0 .0) (c .before .before .enum-told3 .given .1) in
-    (attempt-none (a .at .0) (a .g) (a .due) (now (a .trace)) i (c .before .before .before .before .before .before .before .before .before .before .before .before .before .before .before .before .before .before .before .before .before .before .before .pre .1) (r .result) s (c .if1 .taken), c .before .before .before .before .before .before .before .before .before .before .before .before .before .before .before .before .before .before .before .before .before .before .before .pre .5)
+    (attempt-none (a .at .0) (a .g) (a .due) (now (a .trace)) i (c .before .before .before .before .before .before .before .before .before .before .before .before .before .before .before .before .before .before .before .before .before .before .pre .1) (r .result) s (c .if1 .taken), c .before .before .before .before .before .before .before .before .before .before .before .before .before .before .before .before .before .before .before .before .before .before .pre .5)
 
 -- src/lib.rt:71:8
 sub-if2 : tie.Need-sub-if2
 sub-if2 c =
-    omega (arith, c .before .before .before .before .before .before .before .before .before .before .before .before .before .before .before .before .before .before .before .before .before .before .before .before .pre .1)
+    omega (arith, c .before .before .before .before .before .before .before .before .before .before .before .before .before .before .before .before .before .before .before .before .before .before .before .pre .1)
 
 -- src/lib.rt:72:9
 same-length-10 : tie.Need-same-length-10
@@ -129,36 +129,36 @@ same-length-12 c =
 -- src/lib.rt:72:9
 returns-4 : tie.Need-returns-4
 returns-4 c =
-    let a = c .before .before .before .before .before .before .before .before .before .before .before .before .before .before .before .before .before .before .before .before .before .before .before .before .before .before .args in
+    let a = c .before .before .before .before .before .before .before .before .before .before .before .before .before .before .before .before .before .before .before .before .before .before .before .before .before .args in
     let r = c .before .before .before .before .before .before .before .before .before .before .before .before .before .instant in
     let i = instant (simOf (now (a .phases)) (now (a .rules)) (now (a .tables)) (a .n) (length (now (a .work)))) (a .at .0) (toBag (take (a .len) (now (a .bag)))) (a .g .state) in
     let s = told-stands (a .at .0) 0 (a .g .state) i (r .result) (r .ensures .0 .0) (c .before .before .before .before .before .enum-told3 .given .1) in
-    (attempt-full (a .at .0) (a .g) (a .due) (now (a .trace)) i (c .before .before .before .before .before .before .before .before .before .before .before .before .before .before .before .before .before .before .before .before .before .before .before .before .before .before .pre .1) (r .result) s (c .before .before .before .if1 .left) (c .if2 .taken), c .before .before .before .before .before .before .before .before .before .before .before .before .before .before .before .before .before .before .before .before .before .before .before .before .before .before .pre .5)
+    (attempt-full (a .at .0) (a .g) (a .due) (now (a .trace)) i (c .before .before .before .before .before .before .before .before .before .before .before .before .before .before .before .before .before .before .before .before .before .before .before .before .before .pre .1) (r .result) s (c .before .before .before .if1 .left) (c .if2 .taken), c .before .before .before .before .before .before .before .before .before .before .before .before .before .before .before .before .before .before .before .before .before .before .before .before .before .pre .5)
 
 -- src/lib.rt:75:26
 add-t30 : tie.Need-add-t30
 add-t30 c =
-    record { fits = omega (arith, c .before .before .before .before .before .before .before .before .before .before .before .before .before .before .before .before .before .before .before .before .before .before .before .before .before .before .before .before .pre .2) }
+    record { fits = omega (arith, c .before .before .before .before .before .before .before .before .before .before .before .before .before .before .before .before .before .before .before .before .before .before .before .before .before .before .before .pre .2) }
 
 -- src/lib.rt:76:43
 add-t30-2 : tie.Need-add-t30-2
 add-t30-2 c =
-    record { fits = omega (arith, c .before .before .before .before .before .before .before .before .before .before .before .before .before .before .before .before .before .before .before .before .before .before .before .before .before .before .before .before .before .pre .3) }
+    record { fits = omega (arith, c .before .before .before .before .before .before .before .before .before .before .before .before .before .before .before .before .before .before .before .before .before .before .before .before .before .before .before .before .pre .3) }
 
 -- src/lib.rt:76:66
 add-t31 : tie.Need-add-t31
 add-t31 c =
-    record { fits = omega (arith, c .before .before .before .before .before .before .before .before .before .before .before .before .before .before .before .before .before .before .before .before .before .before .before .before .before .before .before .before .before .before .before .pre .4, c .before .before .before .before .before .before .before .before .before .before .before .before .before .before .before .before .before .before .instant .ensures .0 .1) }
+    record { fits = omega (arith, c .before .before .before .before .before .before .before .before .before .before .before .before .before .before .before .before .before .before .before .before .before .before .before .before .before .before .before .before .before .before .pre .4, c .before .before .before .before .before .before .before .before .before .before .before .before .before .before .before .before .before .before .instant .ensures .0 .1) }
 
 -- src/lib.rt:76:95
 add-t28 : tie.Need-add-t28
 add-t28 c =
-    record { fits = omega (arith, c .before .before .before .before .before .before .before .before .before .before .before .before .before .before .before .before .before .before .before .before .before .before .before .before .before .before .before .before .before .before .before .before .before .pre .1, c .before .before .before .before .before .before .before .if2 .left, c .before .before .before .before .before .before .before .before .before .before .before .before .before .before .before .before .before .before .before .before .before .before .before .before .before .before .before .before .before .before .before .before .before .good .1 .1 .1 .1 .1 .1 .1 .1 .1 .1 .1 .1 .0 .1) }
+    record { fits = omega (arith, c .before .before .before .before .before .before .before .before .before .before .before .before .before .before .before .before .before .before .before .before .before .before .before .before .before .before .before .before .before .before .before .before .pre .1, c .before .before .before .before .before .before .before .if2 .left, c .before .before .before .before .before .before .before .before .before .before .before .before .before .before .before .before .before .before .before .before .before .before .before .before .before .before .before .before .before .before .before .before .good .1 .1 .1 .1 .1 .1 .1 .1 .1 .1 .1 .1 .0 .1) }
 
 -- src/lib.rt:78:9
 copy-requires : tie.Need-copy-requires
 copy-requires c κs =
-    (omega (arith, c .before .before .if3 .taken), omega (arith, c .before .before .before .before .before .before .before .before .before .before .before .if2 .left, c .before .before .before .before .before .before .before .before .before .before .before .before .before .before .before .before .before .before .before .before .before .before .before .before .before .before .before .before .before .before .before .before .before .before .before .before .before .pre .1))
+    (omega (arith, c .before .before .if3 .taken), omega (arith, c .before .before .before .before .before .before .before .before .before .before .before .if2 .left, c .before .before .before .before .before .before .before .before .before .before .before .before .before .before .before .before .before .before .before .before .before .before .before .before .before .before .before .before .before .before .before .before .before .before .before .before .pre .1))
 
 -- src/lib.rt:79:9
 same-length-13 : tie.Need-same-length-13
@@ -183,13 +183,13 @@ same-length-16 c =
 -- src/lib.rt:79:9
 returns-5 : tie.Need-returns-5
 returns-5 c =
-    let a = c .before .before .before .before .before .before .before .before .before .before .before .before .before .before .before .before .before .before .before .before .before .before .before .before .before .before .before .before .before .before .before .before .before .before .before .before .before .before .before .before .args in
+    let a = c .before .before .before .before .before .before .before .before .before .before .before .before .before .before .before .before .before .before .before .before .before .before .before .before .before .before .before .before .before .before .before .before .before .before .before .before .before .before .before .args in
     let r = c .before .before .before .before .before .before .before .before .before .before .before .before .before .before .before .before .before .before .before .before .before .before .before .before .before .before .before .instant in
     let i = instant (simOf (now (a .phases)) (now (a .rules)) (now (a .tables)) (a .n) (length (now (a .work)))) (a .at .0) (toBag (take (a .len) (now (a .bag)))) (a .g .state) in
     let s = told-stands (a .at .0) 0 (a .g .state) i (r .result) (r .ensures .0 .0) (c .before .before .before .before .before .before .before .before .before .before .before .before .before .before .before .before .before .before .before .enum-told3 .given .1) in
     let scratch = r .last .1 .1 .1 .1 .1 .1 .1 .1 .1 .1 .1 .0 in (
-      attempt-done (a .at .0) (a .g) (a .due) (now (a .trace)) i (c .before .before .before .before .before .before .before .before .before .before .before .before .before .before .before .before .before .before .before .before .before .before .before .before .before .before .before .before .before .before .before .before .before .before .before .before .before .before .before .before .pre .1) (r .result) s (c .before .before .copy .last .1 .1 .0)
-          (c .before .before .copy .ensures ∙ ap (sets (now (a .trace)) (a .g .used)) (from-scratch (a .at .0) (a .g) (a .due) (now (a .trace)) i (c .before .before .before .before .before .before .before .before .before .before .before .before .before .before .before .before .before .before .before .before .before .before .before .before .before .before .before .before .before .before .before .before .before .before .before .before .before .before .before .before .pre .1) (r .result) s (now (a .scratch)) scratch (r .kept .1 .1 .1 .1 .1 .1 .1 .1 .1 .1 .1 .0) (c .before .before .before .before .before .if3 .taken) (r .ensures .0 .2)))
+      attempt-done (a .at .0) (a .g) (a .due) (now (a .trace)) i (c .before .before .before .before .before .before .before .before .before .before .before .before .before .before .before .before .before .before .before .before .before .before .before .before .before .before .before .before .before .before .before .before .before .before .before .before .before .before .before .pre .1) (r .result) s (c .before .before .copy .last .1 .1 .0)
+          (c .before .before .copy .ensures ∙ ap (sets (now (a .trace)) (a .g .used)) (from-scratch (a .at .0) (a .g) (a .due) (now (a .trace)) i (c .before .before .before .before .before .before .before .before .before .before .before .before .before .before .before .before .before .before .before .before .before .before .before .before .before .before .before .before .before .before .before .before .before .before .before .before .before .before .before .pre .1) (r .result) s (now (a .scratch)) scratch (r .kept .1 .1 .1 .1 .1 .1 .1 .1 .1 .1 .1 .0) (c .before .before .before .before .before .if3 .taken) (r .ensures .0 .2)))
           (c .before .before .before .before .before .before .before .before .before .before .before .before .before .before .if2 .left) (c .before .before .before .before .before .before .before .before .before .before .before .before .before .before .before .before .before .if1 .left) (r .ensures .0 .1),
       r .ensures .1,
     )
@@ -197,7 +197,7 @@ returns-5 c =
 -- src/lib.rt:81:5
 instant-requires-2 : tie.Need-instant-requires-2
 instant-requires-2 c κs =
-    (lent-kept (c .before .before .before .before .before .before .before .before .before .before .before .before .before .before .before .before .before .before .before .before .before .before .before .before .before .instant .kept .1 .1 .1 .1 .1 .1 .1 .1 .1 .0) (c .before .before .before .before .before .before .before .before .before .before .before .before .before .before .before .before .before .before .before .before .before .before .before .before .before .instant .kept .1 .1 .1 .1 .1 .1 .1 .1 .1 .1 .0) (c .before .before .before .before .before .before .before .before .before .before .before .before .before .before .before .before .before .before .before .before .before .before .before .before .before .before .before .before .before .before .before .before .before .before .before .before .before .before .pre .0), omega (arith, c .before .before .before .before .before .before .before .before .before .before .before .before .before .before .before .before .before .before .before .before .before .before .before .before .before .before .before .before .before .before .before .before .before .before .before .before .before .before .pre .1), c .before .before .before .before .before .before .before .before .before .before .before .before .before .before .before .before .before .before .before .before .before .before .before .before .before .before .before .before .before .before .before .before .before .before .before .before .before .before .pre .5)
+    (lent-kept (c .before .before .before .before .before .before .before .before .before .before .before .before .before .before .before .before .before .before .before .before .before .before .before .before .before .instant .kept .1 .1 .1 .1 .1 .1 .1 .1 .1 .0) (c .before .before .before .before .before .before .before .before .before .before .before .before .before .before .before .before .before .before .before .before .before .before .before .before .before .instant .kept .1 .1 .1 .1 .1 .1 .1 .1 .1 .1 .0) (c .before .before .before .before .before .before .before .before .before .before .before .before .before .before .before .before .before .before .before .before .before .before .before .before .before .before .before .before .before .before .before .before .before .before .before .before .before .pre .0), omega (arith, c .before .before .before .before .before .before .before .before .before .before .before .before .before .before .before .before .before .before .before .before .before .before .before .before .before .before .before .before .before .before .before .before .before .before .before .before .before .pre .1), c .before .before .before .before .before .before .before .before .before .before .before .before .before .before .before .before .before .before .before .before .before .before .before .before .before .before .before .before .before .before .before .before .before .before .before .before .before .pre .5)
 
 -- src/lib.rt:50:1
 same-length-17 : tie.Need-same-length-17
@@ -222,13 +222,13 @@ same-length-20 c =
 -- src/lib.rt:50:1
 returns-6 : tie.Need-returns-6
 returns-6 c =
-    let a = c .before .before .before .before .before .before .before .before .before .before .before .before .before .before .before .before .before .before .before .before .before .before .before .before .before .before .before .before .before .before .before .before .before .before .before .before .before .before .before .before .before .before .before .before .before .args in
+    let a = c .before .before .before .before .before .before .before .before .before .before .before .before .before .before .before .before .before .before .before .before .before .before .before .before .before .before .before .before .before .before .before .before .before .before .before .before .before .before .before .before .before .before .before .before .args in
     let r = c .before .before .before .before .before .before .before .before .before .before .before .before .before .before .before .before .before .before .before .before .before .before .before .before .before .before .before .before .before .before .before .before .instant in
     let i = instant (simOf (now (a .phases)) (now (a .rules)) (now (a .tables)) (a .n) (length (now (a .work)))) (a .at .0) (toBag (take (a .len) (now (a .bag)))) (a .g .state) in
     let s = told-stands (a .at .0) 0 (a .g .state) i (r .result) (r .ensures .0 .0) (c .before .before .before .before .before .before .before .before .before .before .before .before .before .before .before .before .before .before .before .before .before .before .before .before .enum-told3 .given .1) in
     let q = c .before .before .before .before .before .before .instant2 in
     let put = subst (λ (m : ℕ). Recorded (a .at .0) (a .g .used) (now (a .trace)) (q .last .1 .1 .1 .1 .1 .1 .1 .1 .1 .1 .1 .0) (instant (simOf (now (a .phases)) (now (a .rules)) (now (a .tables)) (a .n) m) (a .at .0) (toBag (take (a .len) (now (a .bag)))) (a .g .state))) (r .kept .1 .1 .1 .1 .1 .1 .1 .1 .1 .0) (q .ensures .0 .2) in
-    (attempt-done (a .at .0) (a .g) (a .due) (now (a .trace)) i (c .before .before .before .before .before .before .before .before .before .before .before .before .before .before .before .before .before .before .before .before .before .before .before .before .before .before .before .before .before .before .before .before .before .before .before .before .before .before .before .before .before .before .before .before .before .pre .1) (r .result) s (q .last .1 .1 .1 .1 .1 .1 .1 .1 .1 .1 .1 .0) (again (a .at .0) (a .g) (a .due) (now (a .trace)) i (c .before .before .before .before .before .before .before .before .before .before .before .before .before .before .before .before .before .before .before .before .before .before .before .before .before .before .before .before .before .before .before .before .before .before .before .before .before .before .before .before .before .before .before .before .before .pre .1) (r .result) s (q .last .1 .1 .1 .1 .1 .1 .1 .1 .1 .1 .1 .0) (c .before .before .before .before .before .before .before .before .before .before .before .before .before .before .before .before .before .before .before .if2 .left) put) (c .before .before .before .before .before .before .before .before .before .before .before .before .before .before .before .before .before .before .before .if2 .left) (c .before .before .before .before .before .before .before .before .before .before .before .before .before .before .before .before .before .before .before .before .before .before .if1 .left) (r .ensures .0 .1), r .ensures .1)
+    (attempt-done (a .at .0) (a .g) (a .due) (now (a .trace)) i (c .before .before .before .before .before .before .before .before .before .before .before .before .before .before .before .before .before .before .before .before .before .before .before .before .before .before .before .before .before .before .before .before .before .before .before .before .before .before .before .before .before .before .before .before .pre .1) (r .result) s (q .last .1 .1 .1 .1 .1 .1 .1 .1 .1 .1 .1 .0) (again (a .at .0) (a .g) (a .due) (now (a .trace)) i (c .before .before .before .before .before .before .before .before .before .before .before .before .before .before .before .before .before .before .before .before .before .before .before .before .before .before .before .before .before .before .before .before .before .before .before .before .before .before .before .before .before .before .before .before .pre .1) (r .result) s (q .last .1 .1 .1 .1 .1 .1 .1 .1 .1 .1 .1 .0) (c .before .before .before .before .before .before .before .before .before .before .before .before .before .before .before .before .before .before .before .if2 .left) put) (c .before .before .before .before .before .before .before .before .before .before .before .before .before .before .before .before .before .before .before .if2 .left) (c .before .before .before .before .before .before .before .before .before .before .before .before .before .before .before .before .before .before .before .before .before .before .if1 .left) (r .ensures .0 .1), r .ensures .1)
 
 pub attempt-spec : {M : Type 1} → statement M
 attempt-spec =

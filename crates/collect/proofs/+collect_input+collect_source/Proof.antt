@@ -98,14 +98,14 @@ collect-input-same-length t c =
 
 collect-input-returns : (t : ℕ) → collect-input-lts.Need-returns (collect-input-calls t) (collect-input-at t) collect-input.Post collect-input-Inv-loop collect-input-μ-loop
 collect-input-returns t c =
-    let a = c .before .before .before .before .before .before .before .before .before .before .before .before .args in
+    let a = c .before .before .before .before .before .before .before .before .before .args in
     let r : isRootNode (a .x) ≡ true = unfold isRootNode in lt-ltb _ _ (c .before .before .before .before .before .if1 .taken) in
     rw (input-root (phasesIn (now (a .phases))) (now (a .tables)) (now (a .marks)) (now (a .reached)) (toBag (now (a .given))) (a .depth) (a .x) r) (rw (c .before .before .before .before .port-of .ensures) at (c .before .before .put-given .ensures))
 
 collect-input-returns-2 : (t : ℕ) → collect-input-lts.Need-returns-2 (collect-input-calls t) (collect-input-at t) collect-input.Post collect-input-Inv-loop collect-input-μ-loop
 unfolding puts
 collect-input-returns-2 t c =
-    let a = c .before .before .before .before .before .before .before .before .args in
+    let a = c .before .before .before .before .before .args in
     let r : isRootNode (a .x) ≡ false = unfold isRootNode in le-ltb _ _ (c .before .if1 .left) in
     rw (c .if2 .taken, input-none (phasesIn (now (a .phases))) (now (a .tables)) (now (a .marks)) (now (a .reached)) (toBag (now (a .given))) (a .x) r)
 
@@ -115,7 +115,7 @@ collect-input-is-open-requires t c κs = search needs
 collect-input-returns-3 : (t : ℕ) → collect-input-lts.Need-returns-3 (collect-input-calls t) (collect-input-at t) collect-input.Post collect-input-Inv-loop collect-input-μ-loop
 unfolding puts
 collect-input-returns-3 t c =
-    let a = c .before .before .before .before .before .before .before .before .before .before .args in
+    let a = c .before .before .before .before .before .before .before .args in
     let r : isRootNode (a .x) ≡ false = unfold isRootNode in le-ltb _ _ (c .before .before .before .if1 .left) in
     let s : isOpen [] (now (a .tables)) (now (a .marks)) (now (a .reached)) (a .x) ≡ false = sym (c .before .is-open .ensures) ∙ not-true _ (c .if3 .taken) in
     rw (input-shut (phasesIn (now (a .phases))) (now (a .tables)) (now (a .marks)) (now (a .reached)) (toBag (now (a .given))) (a .depth) (a .x) r s)
@@ -125,7 +125,7 @@ collect-input-first-link-requires t c κs = search needs
 
 collect-input-loop-holds : (t : ℕ) → collect-input-lts.Need-loop-holds (collect-input-calls t) (collect-input-at t) collect-input.Post collect-input-Inv-loop collect-input-μ-loop
 collect-input-loop-holds t c =
-    let a = c .before .before .before .before .before .before .before .before .before .before .before .args in
+    let a = c .before .before .before .before .before .before .before .before .args in
     let r : isRootNode (a .x) ≡ false = unfold isRootNode in le-ltb _ _ (c .before .before .before .before .if1 .left) in
     let s : isOpen [] (now (a .tables)) (now (a .marks)) (now (a .reached)) (a .x) ≡ true = sym (c .before .before .is-open .ensures) ∙ not-false _ (c .before .if3 .left) in
     (omega arith, refl, rw (c .first-link .ensures) (ap (λ l. puts (a .own) l (now (a .buf), a .at)) (input-open (phasesIn (now (a .phases))) (now (a .tables)) (now (a .marks)) (now (a .reached)) (toBag (now (a .given))) (a .depth) (a .x) r (omega arith) s)))
@@ -152,7 +152,7 @@ collect-input-loop-less t c =
 
 collect-input-loop-again : (t : ℕ) → collect-input-lts.Need-loop-again (collect-input-calls t) (collect-input-at t) collect-input.Post collect-input-Inv-loop collect-input-μ-loop
 collect-input-loop-again t c =
-    let a = c .before .before .before .before .before .before .before .before .before .before .before .before .before .before .before .before .before .before .before .args in
+    let a = c .before .before .before .before .before .before .before .before .before .before .before .before .before .before .before .before .args in
     let l = c .before .before .before .before .before .before .before .loop in
     let m = c .before .before .before .collect-source in
     let f = pulledFrom (phasesIn (now (a .phases))) (now (a .tables)) (now (a .marks)) (now (a .reached)) (toBag (now (a .given))) (a .depth - 1) in
@@ -164,7 +164,7 @@ collect-input-same-length-2 t c =
 
 collect-input-returns-4 : (t : ℕ) → collect-input-lts.Need-returns-4 (collect-input-calls t) (collect-input-at t) collect-input.Post collect-input-Inv-loop collect-input-μ-loop
 collect-input-returns-4 t c =
-    let a = c .before .before .before .before .before .before .before .before .before .before .before .before .before .args in
+    let a = c .before .before .before .before .before .before .before .before .before .before .args in
     let l = c .before .loop in
     let f = pulledFrom (phasesIn (now (a .phases))) (now (a .tables)) (now (a .marks)) (now (a .reached)) (toBag (now (a .given))) (a .depth - 1) in
     sym (chain-end f (now (a .tables)) (a .own) (l .left) (l .link) (l .buf, l .next) (c .loop-test .left)) ∙ l .inv .2
@@ -194,7 +194,7 @@ collect-source-same-length-2 t c =
 collect-source-returns-2 : (t : ℕ) → collect-source-lts.Need-returns-2 (collect-source-calls t) (collect-source-at t) collect-source.Post
 unfolding sourceIn isOutput childOut
 collect-source-returns-2 t c =
-    let a = c .before .before .before .before .before .before .before .before .before .before .before .before .before .args in
+    let a = c .before .before .before .before .before .before .before .before .before .before .args in
     rw (le-ltb _ _ (c .before .before .before .before .before .before .if1 .left), sym (c .before .before .before .before .before .is-atomic .ensures) ∙ c .before .before .before .before .if2 .taken, ← sent-by (phasesIn (now (a .phases))) (now (a .tables)) (now (a .marks)) (a .y)) (c .before .before .put-output .ensures)
 
 collect-source-collect-coupled-requires : (t : ℕ) → collect-source-lts.Need-collect-coupled-requires (collect-source-calls t) (collect-source-at t) collect-source.Post

@@ -14,7 +14,7 @@ is-open-requires c κs = search needs
 returns : tie.Need-returns
 unfolding puts
 returns c =
-    let a = c .before .before .before .before .before .before .before .before .args in
+    let a = c .before .before .before .before .before .args in
     rw (input-closed (phasesIn (now (a .phases))) (now (a .tables)) (now (a .marks)) (now (a .reached)) (toBag (now (a .given))) 8 (a .x) (rw (c .before .is-open .ensures) at (c .if1 .taken)))
 
 collect-input-requires : tie.Need-collect-input-requires

@@ -15,7 +15,7 @@ is-open-requires c κs = search needs
 returns : tie.Need-returns
 unfolding puts
 returns c =
-    let a = c .before .before .before .before .before .before .before .args in
+    let a = c .before .before .before .before .args in
     rw (coupled-shut (phasesIn (now (a .phases))) (now (a .tables)) (now (a .marks)) (now (a .reached)) 8 (a .x) (sym (c .before .is-open .ensures) ∙ not-true _ (c .if1 .taken)))
 
 collect-coupled-requires : tie.Need-collect-coupled-requires

@@ -18,12 +18,12 @@ key-at-requires-2 c κs = search needs
 returns : tie.Need-returns
 unfolding mayCome isUp isOutput nodeComponent
 returns c =
-    rw (lt-ltb _ _ (c .before .if1 .taken), c .key-at .ensures, c .before .before .size .ensures)
+    rw (lt-ltb _ _ (c .before .before .if1 .taken), c .key-at .ensures, c .before .before .before .size .ensures)
 
 returns-2 : tie.Need-returns-2
 unfolding mayCome isUp isOutput nodeComponent
 returns-2 c =
-    rw (le-ltb _ _ (c .before .if1 .left), c .key-at2 .ensures, c .before .before .size .ensures)
+    rw (le-ltb _ _ (c .before .before .if1 .left), c .key-at2 .ensures, c .before .before .before .size .ensures)
 
 pub may-come-spec : {M : Type 1} → statement M
 may-come-spec =

@@ -66,7 +66,7 @@ due-below-due-of-requires t c κs = search needs
 -- src/lib.rt:98:9
 due-below-returns-2 : (t : ℕ) → due-below-lts.Need-returns-2 (due-below-calls t) (due-below-at t) due-below.Post due-below-Inv-loop due-below-μ-loop
 due-below-returns-2 t c =
-    let a = c .before .before .before .before .before .before .before .before .args in
+    let a = c .before .before .before .before .before .args in
     c .due-of .ensures ∙ due-atomic (phasesIn (now (a .phases))) (now (a .tables)) (held (now (a .phase)) (now (a .last))) (a .levels) (a .c) (omega arith) (sym (c .before .before .is-atomic .ensures) ∙ c .before .if2 .taken)
 
 -- src/lib.rt:102:9
@@ -76,7 +76,7 @@ due-below-row-word-requires t c κs = search needs
 -- src/lib.rt:103:5
 due-below-loop-holds : (t : ℕ) → due-below-lts.Need-loop-holds (due-below-calls t) (due-below-at t) due-below.Post due-below-Inv-loop due-below-μ-loop
 due-below-loop-holds t c =
-    let a = c .before .before .before .before .before .before .before .before .args in
+    let a = c .before .before .before .before .before .args in
     (omega arith, rw (c .row-word .ensures) (due-coupled (phasesIn (now (a .phases))) (now (a .tables)) (held (now (a .phase)) (now (a .last))) (a .levels) (a .c) (omega arith) (sym (c .before .before .is-atomic .ensures) ∙ c .before .if2 .left)))
 
 -- src/lib.rt:104:27
@@ -120,7 +120,7 @@ due-below-loop-less t c =
 -- src/lib.rt:103:5
 due-below-loop-again : (t : ℕ) → due-below-lts.Need-loop-again (due-below-calls t) (due-below-at t) due-below.Post due-below-Inv-loop due-below-μ-loop
 due-below-loop-again t c =
-    let a = c .before .before .before .before .before .before .before .before .before .before .before .before .before .args in
+    let a = c .before .before .before .before .before .before .before .before .before .before .args in
     let l = c .before .before .before .before .loop in
     let st = held (now (a .phase)) (now (a .last)) in
     let f = dueBelow (phasesIn (now (a .phases))) (now (a .tables)) st (a .levels - 1) in
@@ -134,7 +134,7 @@ due-below-loop-again t c =
 -- src/lib.rt:84:1
 due-below-returns-3 : (t : ℕ) → due-below-lts.Need-returns-3 (due-below-calls t) (due-below-at t) due-below.Post due-below-Inv-loop due-below-μ-loop
 due-below-returns-3 t c =
-    let a = c .before .before .before .before .before .before .before .before .before .before .args in
+    let a = c .before .before .before .before .before .before .before .args in
     let l = c .before .loop in
     let f = dueBelow (phasesIn (now (a .phases))) (now (a .tables)) (held (now (a .phase)) (now (a .last))) (a .levels - 1) in
     least-end (phasesIn (now (a .phases))) (now (a .tables)) f (l .left) (l .d) (timeOf (l .least)) (c .loop-test .left) ∙ l .inv .1

@@ -38,7 +38,7 @@ add-put-rows c = search needs
 -- src/lib.rt:97:5
 put-rows-requires : tie.Need-put-rows-requires
 put-rows-requires c κs =
-    let a = c .before .before .before .before .before .before .before .before .before .before .before .before .before .before .before .args in let ps = phasesIn (now (a .phases)) in let x = toBag (now (a .given)) in let h = atomic-held ps (now (a .tables)) (now (a .marks)) x (a .i) (now (a .keys)) _ (c .before .before .before .before .before .collect-bag .result) (rw (c .before .before .before .before .before .before .before .word-at .ensures, c .before .before .before .before .before .before .before .before .size .ensures) at (c .before .before .before .before .before .collect-bag .ensures)) (c .before .before .before .before .before .before .before .before .before .before .before .before .before .before .before .pre .0) in (h .room, omega (arith, h .count, position-length ps (now (a .tables)) (now (a .marks)) x (a .i), c .before .before .before .before .before .before .before .before .before .before .before .before .before .before .before .pre .1))
+    let a = c .before .before .before .before .before .before .before .before .before .before .before .before .before .before .args in let ps = phasesIn (now (a .phases)) in let x = toBag (now (a .given)) in let h = atomic-held ps (now (a .tables)) (now (a .marks)) x (a .i) (now (a .keys)) _ (c .before .before .before .before .before .collect-bag .result) (rw (c .before .before .before .before .before .before .before .word-at .ensures, c .before .before .before .before .before .before .before .before .size .ensures) at (c .before .before .before .before .before .collect-bag .ensures)) (c .before .before .before .before .before .before .before .before .before .before .before .before .before .before .pre .0) in (h .room, omega (arith, h .count, position-length ps (now (a .tables)) (now (a .marks)) x (a .i), c .before .before .before .before .before .before .before .before .before .before .before .before .before .before .pre .1))
 
 -- src/lib.rt:80:1
 same-length : tie.Need-same-length
@@ -51,7 +51,7 @@ same-length-2 c = search needs
 -- src/lib.rt:80:1
 returns : tie.Need-returns
 returns c =
-    let a = c .before .before .before .before .before .before .before .before .before .before .before .before .before .before .before .before .before .before .args in let ps = phasesIn (now (a .phases)) in let x = toBag (now (a .given)) in let h = atomic-held ps (now (a .tables)) (now (a .marks)) x (a .i) (now (a .keys)) _ (c .before .before .before .before .before .before .before .before .collect-bag .result) (rw (c .before .before .before .before .before .before .before .before .before .before .word-at .ensures, c .before .before .before .before .before .before .before .before .before .before .before .size .ensures) at (c .before .before .before .before .before .before .before .before .collect-bag .ensures)) (c .before .before .before .before .before .before .before .before .before .before .before .before .before .before .before .before .before .before .pre .0) in (c .before .before .put-rows .ensures .0 ∙ ap (λ k. a .at + k) (h .count ∙ sym (position-length ps (now (a .tables)) (now (a .marks)) x (a .i))), rw (c .before .before .put-rows .ensures .1, c .before .before .before .before .before .wide .ensures) (ap (sets (now (a .rows)) (a .at)) (position-rows ps (now (a .tables)) (now (a .marks)) x (a .i) _ (c .before .before .before .before .before .before .before .before .collect-bag .result) h)))
+    let a = c .before .before .before .before .before .before .before .before .before .before .before .before .before .before .before .before .before .args in let ps = phasesIn (now (a .phases)) in let x = toBag (now (a .given)) in let h = atomic-held ps (now (a .tables)) (now (a .marks)) x (a .i) (now (a .keys)) _ (c .before .before .before .before .before .before .before .before .collect-bag .result) (rw (c .before .before .before .before .before .before .before .before .before .before .word-at .ensures, c .before .before .before .before .before .before .before .before .before .before .before .size .ensures) at (c .before .before .before .before .before .before .before .before .collect-bag .ensures)) (c .before .before .before .before .before .before .before .before .before .before .before .before .before .before .before .before .before .pre .0) in (c .before .before .put-rows .ensures .0 ∙ ap (λ k. a .at + k) (h .count ∙ sym (position-length ps (now (a .tables)) (now (a .marks)) x (a .i))), rw (c .before .before .put-rows .ensures .1, c .before .before .before .before .before .wide .ensures) (ap (sets (now (a .rows)) (a .at)) (position-rows ps (now (a .tables)) (now (a .marks)) x (a .i) _ (c .before .before .before .before .before .before .before .before .collect-bag .result) h)))
 
 pub add-atomic-spec : {M : Type 1} → statement M
 add-atomic-spec =

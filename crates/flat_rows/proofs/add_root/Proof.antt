@@ -18,7 +18,7 @@ collect-root-requires c κs = search needs
 -- src/lib.rt:75:5
 put-rows-requires : tie.Need-put-rows-requires
 put-rows-requires c κs =
-    let a = c .before .before .before .before .before .before .before .before .before .before .before .args in let h = root-held (phasesIn (now (a .phases))) (now (a .tables)) (now (a .marks)) (now (a .keys)) _ (c .before .before .before .before .collect-root .result) (c .before .before .before .before .collect-root .ensures) (c .before .before .before .before .before .before .before .before .before .before .before .pre .0) in (h .room, omega (arith, h .count, c .before .before .before .before .before .before .before .before .before .before .before .pre .1))
+    let a = c .before .before .before .before .before .before .before .before .before .args in let h = root-held (phasesIn (now (a .phases))) (now (a .tables)) (now (a .marks)) (now (a .keys)) _ (c .before .before .before .before .collect-root .result) (c .before .before .before .before .collect-root .ensures) (c .before .before .before .before .before .before .before .before .before .pre .0) in (h .room, omega (arith, h .count, c .before .before .before .before .before .before .before .before .before .pre .1))
 
 -- src/lib.rt:62:1
 same-length : tie.Need-same-length
@@ -31,7 +31,7 @@ same-length-2 c = search needs
 -- src/lib.rt:62:1
 returns : tie.Need-returns
 returns c =
-    let a = c .before .before .before .before .before .before .before .before .before .before .before .before .before .before .args in let h = root-held (phasesIn (now (a .phases))) (now (a .tables)) (now (a .marks)) (now (a .keys)) _ (c .before .before .before .before .before .before .before .collect-root .result) (c .before .before .before .before .before .before .before .collect-root .ensures) (c .before .before .before .before .before .before .before .before .before .before .before .before .before .before .pre .0) in (omega (arith, c .before .before .put-rows .ensures .0, h .count), c .before .before .put-rows .ensures .1 ∙ ap (λ k. sets (now (a .rows)) 0 (map (rowOf (now (a .tables)) 0) k)) (h .keys))
+    let a = c .before .before .before .before .before .before .before .before .before .before .before .before .args in let h = root-held (phasesIn (now (a .phases))) (now (a .tables)) (now (a .marks)) (now (a .keys)) _ (c .before .before .before .before .before .before .before .collect-root .result) (c .before .before .before .before .before .before .before .collect-root .ensures) (c .before .before .before .before .before .before .before .before .before .before .before .before .pre .0) in (omega (arith, c .before .before .put-rows .ensures .0, h .count), c .before .before .put-rows .ensures .1 ∙ ap (λ k. sets (now (a .rows)) 0 (map (rowOf (now (a .tables)) 0) k)) (h .keys))
 
 pub add-root-spec : {M : Type 1} → statement M
 add-root-spec =

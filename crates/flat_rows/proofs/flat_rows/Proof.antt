@@ -33,19 +33,15 @@ slice-aggregate-add-all c = search needs
 slice-aggregate-add-all-2 : tie.Need-slice-aggregate-add-all-2
 slice-aggregate-add-all-2 c = search needs
 
--- src/lib.rt:134:50
-slice-aggregate-add-all-3 : tie.Need-slice-aggregate-add-all-3
-slice-aggregate-add-all-3 c = search needs
-
 -- src/lib.rt:134:9
 add-all-requires : tie.Need-add-all-requires
 add-all-requires c κs =
-    let a = c .before .before .before .before .before .before .before .before .before .before .before .before .before .before .args in let e = probe-rows (now (a .tables)) (a .n) (c .before .before .before .before .before .before .before .before .before .put-probes .ensures) (c .before .before .before .before .before .before .put-marks .ensures) given-bag in subst (λ r. (length r ≤ length (now (a .scratch))) × (length r ≤ length (now (a .rows)))) (sym e) (c .before .before .before .before .before .before .before .before .before .before .before .before .before .before .pre .1, c .before .before .before .before .before .before .before .before .before .before .before .before .before .before .pre .0)
+    let a = c .before .before .before .before .before .before .before .before .before .before .before .before .before .args in let e = probe-rows (now (a .tables)) (a .n) (c .before .before .before .before .before .before .before .before .before .put-probes .ensures) (c .before .before .before .before .before .before .put-marks .ensures) given-bag in subst (λ r. (length r ≤ length (now (a .scratch))) × (length r ≤ length (now (a .rows)))) (sym e) (c .before .before .before .before .before .before .before .before .before .before .before .before .before .pre .1, c .before .before .before .before .before .before .before .before .before .before .before .before .before .pre .0)
 
 -- src/lib.rt:135:5
 sort-requires : tie.Need-sort-requires
 sort-requires c κs =
-    let a = c .before .before .before .before .before .before .before .before .before .before .before .before .before .before .before .before .before .before .before .before .before .args in let e = probe-rows (now (a .tables)) (a .n) (c .before .before .before .before .before .before .before .before .before .before .before .before .before .before .before .before .put-probes .ensures) (c .before .before .before .before .before .before .before .before .before .before .before .before .before .put-marks .ensures) given-bag in let k : c .before .before .before .before .before .before .add-all .result ≡ length (probeRows (now (a .tables)) (a .n)) = c .before .before .before .before .before .before .add-all .ensures .0 ∙ ap length e in (fits k (c .before .before .before .before .before .before .add-all .kept .1 .1 .1 .1 .1 .1 .0) (c .before .before .before .before .before .before .before .before .before .before .before .before .before .before .before .before .before .before .before .before .before .pre .0), fits k (c .before .before .before .before .before .before .add-all .kept .1 .1 .1 .1 .1 .0) (c .before .before .before .before .before .before .before .before .before .before .before .before .before .before .before .before .before .before .before .before .before .pre .1))
+    let a = c .before .before .before .before .before .before .before .before .before .before .before .before .before .before .before .before .before .before .before .before .args in let e = probe-rows (now (a .tables)) (a .n) (c .before .before .before .before .before .before .before .before .before .before .before .before .before .before .before .before .put-probes .ensures) (c .before .before .before .before .before .before .before .before .before .before .before .before .before .put-marks .ensures) given-bag in let k : c .before .before .before .before .before .before .add-all .result ≡ length (probeRows (now (a .tables)) (a .n)) = c .before .before .before .before .before .before .add-all .ensures .0 ∙ ap length e in (fits k (c .before .before .before .before .before .before .add-all .kept .1 .1 .1 .1 .1 .1 .0) (c .before .before .before .before .before .before .before .before .before .before .before .before .before .before .before .before .before .before .before .before .pre .0), fits k (c .before .before .before .before .before .before .add-all .kept .1 .1 .1 .1 .1 .0) (c .before .before .before .before .before .before .before .before .before .before .before .before .before .before .before .before .before .before .before .before .pre .1))
 
 -- src/lib.rt:125:1
 same-length : tie.Need-same-length
@@ -58,7 +54,7 @@ same-length-2 c = search needs
 -- src/lib.rt:125:1
 returns : tie.Need-returns
 returns c =
-    let a = c .before .before .before .before .before .before .before .before .before .before .before .before .before .before .before .before .before .before .before .before .before .before .before .before .before .before .args in let e = probe-rows (now (a .tables)) (a .n) (c .before .before .before .before .before .before .before .before .before .before .before .before .before .before .before .before .before .before .before .before .before .put-probes .ensures) (c .before .before .before .before .before .before .before .before .before .before .before .before .before .before .before .before .before .before .put-marks .ensures) given-bag in let k : c .before .before .before .before .before .before .before .before .before .before .before .add-all .result ≡ length (probeRows (now (a .tables)) (a .n)) = c .before .before .before .before .before .before .before .before .before .before .before .add-all .ensures .0 ∙ ap length e in (k, ap (take (c .before .before .before .before .before .before .before .before .before .before .before .add-all .result)) (c .before .before .before .before .sort .ensures) ∙ sorted-front (c .before .before .before .before .before .before .before .before .before .before .before .add-all .result) _ (probeRows (now (a .tables)) (a .n)) k (c .before .before .before .before .before .before .before .before .before .before .before .add-all .ensures .1 ∙ e))
+    let a = c .before .before .before .before .before .before .before .before .before .before .before .before .before .before .before .before .before .before .before .before .before .before .before .before .before .args in let e = probe-rows (now (a .tables)) (a .n) (c .before .before .before .before .before .before .before .before .before .before .before .before .before .before .before .before .before .before .before .before .before .put-probes .ensures) (c .before .before .before .before .before .before .before .before .before .before .before .before .before .before .before .before .before .before .put-marks .ensures) given-bag in let k : c .before .before .before .before .before .before .before .before .before .before .before .add-all .result ≡ length (probeRows (now (a .tables)) (a .n)) = c .before .before .before .before .before .before .before .before .before .before .before .add-all .ensures .0 ∙ ap length e in (k, ap (take (c .before .before .before .before .before .before .before .before .before .before .before .add-all .result)) (c .before .before .before .before .sort .ensures) ∙ sorted-front (c .before .before .before .before .before .before .before .before .before .before .before .add-all .result) _ (probeRows (now (a .tables)) (a .n)) k (c .before .before .before .before .before .before .before .before .before .before .before .add-all .ensures .1 ∙ e))
 
 pub flat-rows-spec : {M : Type 1} → statement M
 flat-rows-spec =
@@ -70,7 +66,6 @@ flat-rows-spec =
     put-marks-requires
     slice-aggregate-add-all
     slice-aggregate-add-all-2
-    slice-aggregate-add-all-3
     add-all-requires
     sort-requires
     same-length

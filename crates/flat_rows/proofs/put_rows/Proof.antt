@@ -22,7 +22,7 @@ abbrev μ-loop : tie.MeasureT-loop
 -- src/lib.rt:55:5
 loop-holds : tie.Need-loop-holds Inv-loop μ-loop
 loop-holds c =
-    let a = c .before .before .before .args in (omega arith, refl, ap (λ k. sets (now (a .rows)) k (map (rowOf (now (a .tables)) (a .end)) (take (a .count) (now (a .keys))))) (add-zero (a .at)))
+    let a = c .before .before .args in (omega arith, refl, ap (λ k. sets (now (a .rows)) k (map (rowOf (now (a .tables)) (a .end)) (take (a .count) (now (a .keys))))) (add-zero (a .at)))
 
 -- src/lib.rt:56:44
 mul-row-of : tie.Need-mul-row-of Inv-loop μ-loop
@@ -59,7 +59,7 @@ loop-less c = search needs
 -- src/lib.rt:55:5
 loop-again : tie.Need-loop-again Inv-loop μ-loop
 loop-again c =
-    let a = c .before .before .before .before .before .before .before .args in let l = c .before .before .before .loop in (omega arith, simp length-set (l .inv .1), rw (c .row-of .ensures) (put-more (rowOf (now (a .tables)) (a .end)) (now (a .keys)) (a .count) (l .i) (a .at) (l .rows) (c .before .before .loop-test .taken) (c .before .before .before .before .before .before .before .pre .0) ∙ l .inv .2))
+    let a = c .before .before .before .before .before .before .args in let l = c .before .before .before .loop in (omega arith, simp length-set (l .inv .1), rw (c .row-of .ensures) (put-more (rowOf (now (a .tables)) (a .end)) (now (a .keys)) (a .count) (l .i) (a .at) (l .rows) (c .before .before .loop-test .taken) (c .before .before .before .before .before .before .pre .0) ∙ l .inv .2))
 
 -- src/lib.rt:50:1
 same-length : tie.Need-same-length Inv-loop μ-loop
@@ -72,7 +72,7 @@ add-result c = search needs
 
 returns : tie.Need-returns Inv-loop μ-loop
 returns c =
-    let a = c .before .before .before .before .before .args in let l = c .before .loop in (refl, sym (put-none (rowOf (now (a .tables)) (a .end)) (now (a .keys)) (a .count) (l .i) (a .at + l .i) (l .rows) (c .loop-test .left) (c .before .before .before .before .before .pre .0)) ∙ l .inv .2)
+    let a = c .before .before .before .before .args in let l = c .before .loop in (refl, sym (put-none (rowOf (now (a .tables)) (a .end)) (now (a .keys)) (a .count) (l .i) (a .at + l .i) (l .rows) (c .loop-test .left) (c .before .before .before .before .pre .0)) ∙ l .inv .2)
 
 pub put-rows-spec : {M : Type 1} → statement M
 put-rows-spec =

@@ -44,10 +44,6 @@ slice-aggregate-flatten-accepted c = search needs
 slice-aggregate-flatten-accepted-2 : tie.Need-slice-aggregate-flatten-accepted-2
 slice-aggregate-flatten-accepted-2 c = search needs
 
--- src/lib.rt:85:55
-slice-aggregate-flatten-accepted-3 : tie.Need-slice-aggregate-flatten-accepted-3
-slice-aggregate-flatten-accepted-3 c = search needs
-
 -- src/lib.rt:85:5
 flatten-accepted-requires : tie.Need-flatten-accepted-requires
 flatten-accepted-requires c κs =
@@ -73,7 +69,6 @@ flatten-spec =
     returns
     slice-aggregate-flatten-accepted
     slice-aggregate-flatten-accepted-2
-    slice-aggregate-flatten-accepted-3
     flatten-accepted-requires
     same-length
     returns-2)

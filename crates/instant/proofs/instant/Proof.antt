@@ -25,7 +25,7 @@ use Rattle.instant.proofs.instant.Tie as tie
 
 abbrev Inv-loop : tie.InvT-loop
 Inv-loop phases rules tables n at bag len st due work₀ keys₀ out₀ from phase₀ last₀ next₀ given₀ used₀ over₀ k₀ work keys out phase last next given used over k =
-    (k ≤ maxSteps) × (length work ≡ length work₀) × (length keys ≡ length keys₀) × (length out ≡ length out₀) × (used ≤ from + 12300 * k) × (length phase ≡ maxComponents) × (length last ≡ maxComponents) × (timeOf next ≡ simOf phases rules tables n (length work₀) .next (held phase last)) × Sofar (instant (simOf phases rules tables n (length work₀)) (at .0) (toBag (take len bag)) st) (stepsAt (simOf phases rules tables n (length work₀)) (maxSteps - k) (at .0) (toBag (take given bag)) (held phase last)) (at .0) from out₀ out k used over
+    (k ≤ maxSteps) × (length work ≡ length work₀) × (length keys ≡ length keys₀) × (length out ≡ length out₀) × (used ≤ from + 12300 * k) × (timeOf next ≡ simOf phases rules tables n (length work₀) .next (held phase last)) × Sofar (instant (simOf phases rules tables n (length work₀)) (at .0) (toBag (take len bag)) st) (stepsAt (simOf phases rules tables n (length work₀)) (maxSteps - k) (at .0) (toBag (take given bag)) (held phase last)) (at .0) from out₀ out k used over
 
 abbrev μ-loop : tie.MeasureT-loop
 μ-loop phases rules tables n at bag len st due work₀ keys₀ out₀ from phase₀ last₀ next₀ given₀ used₀ over₀ k₀ work keys out phase last next given used over k =
@@ -34,7 +34,7 @@ abbrev μ-loop : tie.MeasureT-loop
 -- src/lib.rt:80:5
 loop-holds : tie.Need-loop-holds Inv-loop μ-loop
 loop-holds c =
-    let a = c .before .before .before .before .before .before .before .before .before .args in
+    let a = c .before .before .before .before .before .before .before .before .args in
     let k = simOf (now (a .phases)) (now (a .rules)) (now (a .tables)) (a .n) (length (now (a .work))) in
     let x = toBag (take (a .len) (now (a .bag))) in (
       omega arith,
@@ -42,9 +42,7 @@ loop-holds c =
       refl,
       refl,
       omega arith,
-      search needs,
-      search needs,
-      c .before .before .before .before .before .before .before .before .before .pre .2,
+      c .before .before .before .before .before .before .before .before .pre .2,
       subst (λ (i : Instant State). Sofar (instant k (a .at .0) x (a .st)) i (a .at .0) (a .from) (now (a .out)) (now (a .out)) 0 (a .from) false)
           (rest-all k (a .at .0) x (a .st)) (sofar-none (instant k (a .at .0) x (a .st)) (a .at .0) (a .from) (now (a .out))),
     )
@@ -72,47 +70,29 @@ same-length-3 c =
 returns : tie.Need-returns Inv-loop μ-loop
 unfolding goesOn isDue
 returns c =
-    let a = c .before .before .before .before .before .before .before .before .before .before .before .before .before .args in
+    let a = c .before .before .before .before .before .before .before .before .before .before .before .before .args in
     let l = c .before .before .before .loop in
     let k = simOf (now (a .phases)) (now (a .rules)) (now (a .tables)) (a .n) (length (now (a .work))) in
     let x = toBag (take (l .given) (now (a .bag))) in
-    let g : goesOn k (a .at .0) x (held (l .phase) (l .last)) ≡ true = ap (λ (u : Time). sameTime u (finite (a .at .0)) || not (isEmpty x)) (sym (l .inv .7)) ∙ sym (c .before .before .goes-on .ensures) ∙ c .before .if1 .taken in
-    (judged-jams (l .inv .8) (a .st) (a .due) (rest-jams k (a .at .0) x (held (l .phase) (l .last)) (l .k) g (c .if2 .taken)), c .before .before .before .before .before .before .before .before .before .before .before .before .before .pre .2)
-
--- src/lib.rt:95:13
-slice-aggregate-step-once : tie.Need-slice-aggregate-step-once Inv-loop μ-loop
-slice-aggregate-step-once c =
-    sym (c .before .before .before .before .loop .inv .5)
-
--- src/lib.rt:96:13
-slice-aggregate-step-once-2 : tie.Need-slice-aggregate-step-once-2 Inv-loop μ-loop
-slice-aggregate-step-once-2 c =
-    sym (c .before .before .before .before .before .loop .inv .6)
+    let g : goesOn k (a .at .0) x (held (l .phase) (l .last)) ≡ true = ap (λ (u : Time). sameTime u (finite (a .at .0)) || not (isEmpty x)) (sym (l .inv .5)) ∙ sym (c .before .before .goes-on .ensures) ∙ c .before .if1 .taken in
+    (judged-jams (l .inv .6) (a .st) (a .due) (rest-jams k (a .at .0) x (held (l .phase) (l .last)) (l .k) g (c .if2 .taken)), c .before .before .before .before .before .before .before .before .before .before .before .before .pre .2)
 
 -- src/lib.rt:90:13
 step-once-requires : tie.Need-step-once-requires Inv-loop μ-loop
 step-once-requires c κs =
     let l = c .before .before .before .before .before .before .before .loop in
-    l .inv .2 ∙ c .before .before .before .before .before .before .before .before .before .before .before .before .before .before .before .before .before .pre .0 .1 ∙ ap rootRoom (sym (l .inv .1))
+    l .inv .2 ∙ c .before .before .before .before .before .before .before .before .before .before .before .before .before .before .before .before .pre .0 .1 ∙ ap rootRoom (sym (l .inv .1))
 
 -- src/lib.rt:104:9
 put-step-requires : tie.Need-put-step-requires Inv-loop μ-loop
 put-step-requires c κs =
-    let l = c .before .before .before .before .before .before .before .before .before .before .before .before .before .before .before .before .loop in
-    let s = c .before .before .before .before .before .before .before .before .step-once in
+    let l = c .before .before .before .before .before .before .before .before .before .before .before .before .before .before .loop in
+    let s = c .before .before .before .before .before .before .step-once in
     let keys = s .last .1 .1 .1 .1 .1 .1 .1 .1 .1 .1 .0 in
     let e = s .ensures in
     let room = keys-hold (s .result) keys _ (e .1) (e .2) in
-    let most : s .result ≤ 4096 = omega (arith, room, s .kept .1 .1 .1 .1 .1 .1 .1 .1 .1 .1 .0, l .inv .2, c .before .before .before .before .before .before .before .before .before .before .before .before .before .before .before .before .before .before .before .before .before .before .before .before .before .before .pre .0 .1, c .before .before .before .before .before .before .before .before .before .before .before .before .before .before .before .before .before .before .before .before .before .before .before .before .before .before .pre .0 .0) in
-    (λ h. room, omega (arith, l .inv .0, l .inv .4, most, c .before .before .before .before .before .before .before .before .before .before .before .before .before .before .before .before .before .before .before .before .before .before .before .before .before .before .pre .1, c .before .before .before .before .before .before .before .before .before .before .before .before .before .before .before .before .before .before .before .before .before .before .before .before .before .before .good .1 .1 .1 .1 .1 .1 .1 .1 .1 .1 .1 .0 .1))
-
--- src/lib.rt:105:41
-slice-aggregate-next-due : tie.Need-slice-aggregate-next-due Inv-loop μ-loop
-slice-aggregate-next-due c = search needs
-
--- src/lib.rt:105:49
-slice-aggregate-next-due-2 : tie.Need-slice-aggregate-next-due-2 Inv-loop μ-loop
-slice-aggregate-next-due-2 c = search needs
+    let most : s .result ≤ 4096 = omega (arith, room, s .kept .1 .1 .1 .1 .1 .1 .1 .1 .1 .1 .0, l .inv .2, c .before .before .before .before .before .before .before .before .before .before .before .before .before .before .before .before .before .before .before .before .before .before .before .pre .0 .1, c .before .before .before .before .before .before .before .before .before .before .before .before .before .before .before .before .before .before .before .before .before .before .before .pre .0 .0) in
+    (λ h. room, omega (arith, l .inv .0, l .inv .4, most, c .before .before .before .before .before .before .before .before .before .before .before .before .before .before .before .before .before .before .before .before .before .before .before .pre .1, c .before .before .before .before .before .before .before .before .before .before .before .before .before .before .before .before .before .before .before .before .before .before .before .good .1 .1 .1 .1 .1 .1 .1 .1 .1 .1 .1 .0 .1))
 
 -- src/lib.rt:105:9
 next-due-requires : tie.Need-next-due-requires Inv-loop μ-loop
@@ -130,9 +110,9 @@ loop-less c = search needs
 loop-again : tie.Need-loop-again Inv-loop μ-loop
 unfolding goesOn isDue
 loop-again c =
-    let a = c .before .before .before .before .before .before .before .before .before .before .before .before .before .before .before .before .before .before .before .before .before .before .before .before .before .before .before .before .before .before .before .before .args in
-    let l = c .before .before .before .before .before .before .before .before .before .before .before .before .before .before .before .before .before .before .before .before .before .before .loop in
-    let s = c .before .before .before .before .before .before .before .before .before .before .before .before .before .before .step-once in
+    let a = c .before .before .before .before .before .before .before .before .before .before .before .before .before .before .before .before .before .before .before .before .before .before .before .before .before .before .before .before .before .args in
+    let l = c .before .before .before .before .before .before .before .before .before .before .before .before .before .before .before .before .before .before .before .before .loop in
+    let s = c .before .before .before .before .before .before .before .before .before .before .before .before .step-once in
     let p = c .before .before .before .before .before .put-step in
     let k = simOf (now (a .phases)) (now (a .rules)) (now (a .tables)) (a .n) (length (now (a .work))) in
     let x = toBag (take (l .given) (now (a .bag))) in
@@ -141,19 +121,17 @@ loop-again c =
     let keys = s .last .1 .1 .1 .1 .1 .1 .1 .1 .1 .1 .0 in
     let e = subst (λ (m : ℕ). Gives (simOf (now (a .phases)) (now (a .rules)) (now (a .tables)) (a .n) m .step (a .at .0) x st) next (s .result) keys) (l .inv .1) ((s .ensures)) in
     let room = keys-hold (s .result) keys _ (e .1) (e .2) in
-    let most : s .result ≤ 4096 = omega (arith, room, s .kept .1 .1 .1 .1 .1 .1 .1 .1 .1 .1 .0, l .inv .2, c .before .before .before .before .before .before .before .before .before .before .before .before .before .before .before .before .before .before .before .before .before .before .before .before .before .before .before .before .before .before .before .before .pre .0 .1, c .before .before .before .before .before .before .before .before .before .before .before .before .before .before .before .before .before .before .before .before .before .before .before .before .before .before .before .before .before .before .before .before .pre .0 .0) in
-    let g : goesOn k (a .at .0) x st ≡ true = ap (λ (u : Time). sameTime u (finite (a .at .0)) || not (isEmpty x)) (sym (l .inv .7)) ∙ sym (c .before .before .before .before .before .before .before .before .before .before .before .before .before .before .before .before .before .before .before .before .before .goes-on .ensures) ∙ c .before .before .before .before .before .before .before .before .before .before .before .before .before .before .before .before .before .before .before .before .if1 .taken in
-    let h : l .k < maxSteps = omega (arith, c .before .before .before .before .before .before .before .before .before .before .before .before .before .before .before .before .before .before .before .if2 .left, l .inv .0) in
+    let most : s .result ≤ 4096 = omega (arith, room, s .kept .1 .1 .1 .1 .1 .1 .1 .1 .1 .1 .0, l .inv .2, c .before .before .before .before .before .before .before .before .before .before .before .before .before .before .before .before .before .before .before .before .before .before .before .before .before .before .before .before .before .pre .0 .1, c .before .before .before .before .before .before .before .before .before .before .before .before .before .before .before .before .before .before .before .before .before .before .before .before .before .before .before .before .before .pre .0 .0) in
+    let g : goesOn k (a .at .0) x st ≡ true = ap (λ (u : Time). sameTime u (finite (a .at .0)) || not (isEmpty x)) (sym (l .inv .5)) ∙ sym (c .before .before .before .before .before .before .before .before .before .before .before .before .before .before .before .before .before .before .before .goes-on .ensures) ∙ c .before .before .before .before .before .before .before .before .before .before .before .before .before .before .before .before .before .before .if1 .taken in
+    let h : l .k < maxSteps = omega (arith, c .before .before .before .before .before .before .before .before .before .before .before .before .before .before .before .before .before .if2 .left, l .inv .0) in
     let whole = instant k (a .at .0) (toBag (take (a .len) (now (a .bag)))) (a .st) in
     let rest = stepsAt k (maxSteps - (l .k + 1)) (a .at .0) (toBag (take 0 (now (a .bag)))) next in
-    let sofar = subst (λ (i : Instant State). Sofar whole i (a .at .0) (a .from) (now (a .out)) (l .out) (l .k) (l .used) (l .over)) (rest-more k (a .at .0) x st (l .k) next (now (a .bag)) g h (e .0)) (l .inv .8) in (
+    let sofar = subst (λ (i : Instant State). Sofar whole i (a .at .0) (a .from) (now (a .out)) (l .out) (l .k) (l .used) (l .over)) (rest-more k (a .at .0) x st (l .k) next (now (a .bag)) g h (e .0)) (l .inv .6) in (
       omega arith,
       s .kept .1 .1 .1 .1 .1 .1 .1 .1 .1 .0 ∙ l .inv .1,
       s .kept .1 .1 .1 .1 .1 .1 .1 .1 .1 .1 .0 ∙ l .inv .2,
       p .kept .0 ∙ l .inv .3,
       omega (arith, p .ensures .0, size-most (s .result), most, l .inv .4),
-      s .kept .1 .1 .1 .1 .0 ∙ l .inv .5,
-      s .kept .1 .1 .1 .1 .1 .0 ∙ l .inv .6,
       c .next-due .ensures,
       sofar-more whole rest (a .at .0) (a .from) (now (a .out)) (l .out) (p .last .0) (l .k) (l .used) (p .result) (l .over) (k .step (a .at .0) x st .out) keys (s .result) (l .inv .3) (e .1) (e .2) (p .ensures .0) (p .ensures .1) sofar,
     )
@@ -177,12 +155,12 @@ same-length-6 c =
 returns-2 : tie.Need-returns-2 Inv-loop μ-loop
 unfolding goesOn isDue
 returns-2 c =
-    let a = c .before .before .before .before .before .before .before .before .before .before .before .before .before .args in
+    let a = c .before .before .before .before .before .before .before .before .before .before .before .before .args in
     let l = c .before .before .before .loop in
     let k = simOf (now (a .phases)) (now (a .rules)) (now (a .tables)) (a .n) (length (now (a .work))) in
     let x = toBag (take (l .given) (now (a .bag))) in
-    let g : goesOn k (a .at .0) x (held (l .phase) (l .last)) ≡ false = ap (λ (u : Time). sameTime u (finite (a .at .0)) || not (isEmpty x)) (sym (l .inv .7)) ∙ sym (c .before .before .goes-on .ensures) ∙ c .before .if1 .left in
-    (judged-over (l .inv .8) (a .st) (a .due) (held (l .phase) (l .last)) (rest-stops k (a .at .0) x (held (l .phase) (l .last)) (maxSteps - l .k) g) (c .if3 .taken), c .before .before .before .before .before .before .before .before .before .before .before .before .before .pre .2)
+    let g : goesOn k (a .at .0) x (held (l .phase) (l .last)) ≡ false = ap (λ (u : Time). sameTime u (finite (a .at .0)) || not (isEmpty x)) (sym (l .inv .5)) ∙ sym (c .before .before .goes-on .ensures) ∙ c .before .if1 .left in
+    (judged-over (l .inv .6) (a .st) (a .due) (held (l .phase) (l .last)) (rest-stops k (a .at .0) x (held (l .phase) (l .last)) (maxSteps - l .k) g) (c .if3 .taken), c .before .before .before .before .before .before .before .before .before .before .before .before .pre .2)
 
 -- src/lib.rt:52:1
 same-length-7 : tie.Need-same-length-7 Inv-loop μ-loop
@@ -203,12 +181,12 @@ same-length-9 c =
 returns-3 : tie.Need-returns-3 Inv-loop μ-loop
 unfolding goesOn isDue
 returns-3 c =
-    let a = c .before .before .before .before .before .before .before .before .before .before .before .before .before .args in
+    let a = c .before .before .before .before .before .before .before .before .before .before .before .before .args in
     let l = c .before .before .before .loop in
     let k = simOf (now (a .phases)) (now (a .rules)) (now (a .tables)) (a .n) (length (now (a .work))) in
     let x = toBag (take (l .given) (now (a .bag))) in
-    let g : goesOn k (a .at .0) x (held (l .phase) (l .last)) ≡ false = ap (λ (u : Time). sameTime u (finite (a .at .0)) || not (isEmpty x)) (sym (l .inv .7)) ∙ sym (c .before .before .goes-on .ensures) ∙ c .before .if1 .left in
-    (judged-stands (l .inv .8) (a .st) (l .next) (held (l .phase) (l .last)) (rest-stops k (a .at .0) x (held (l .phase) (l .last)) (maxSteps - l .k) g) (c .if3 .left) (l .inv .0), l .inv .7)
+    let g : goesOn k (a .at .0) x (held (l .phase) (l .last)) ≡ false = ap (λ (u : Time). sameTime u (finite (a .at .0)) || not (isEmpty x)) (sym (l .inv .5)) ∙ sym (c .before .before .goes-on .ensures) ∙ c .before .if1 .left in
+    (judged-stands (l .inv .6) (a .st) (l .next) (held (l .phase) (l .last)) (rest-stops k (a .at .0) x (held (l .phase) (l .last)) (maxSteps - l .k) g) (c .if3 .left) (l .inv .0), l .inv .5)
 
 pub instant-spec : {M : Type 1} → statement M
 instant-spec =
@@ -222,12 +200,8 @@ instant-spec =
     same-length-2
     same-length-3
     returns
-    slice-aggregate-step-once
-    slice-aggregate-step-once-2
     step-once-requires
     put-step-requires
-    slice-aggregate-next-due
-    slice-aggregate-next-due-2
     next-due-requires
     add-k
     loop-less

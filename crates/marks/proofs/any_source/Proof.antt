@@ -34,7 +34,7 @@ may-come-requires c κs = search needs
 
 returns : tie.Need-returns Inv-loop μ-loop
 returns c =
-    let a = c .before .before .before .before .before .before .before .before .before .args in
+    let a = c .before .before .before .before .before .before .args in
     let l = c .before .before .before .before .loop in
     let e : mayCome [] (now (a .tables)) (now (a .marks)) (now (a .reached)) (getD (now (a .tables)) (sourceAt + l .link) 0) ≡ c .before .may-come .result =
     unfold mayCome in sym (rw (c .before .before .source-of .ensures) at (c .before .may-come .ensures)) in
@@ -53,7 +53,7 @@ loop-less c =
 
 loop-again : tie.Need-loop-again Inv-loop μ-loop
 loop-again c =
-    let a = c .before .before .before .before .before .before .before .before .before .before .args in
+    let a = c .before .before .before .before .before .before .before .args in
     let l = c .before .before .before .before .before .loop in
     let e : mayCome [] (now (a .tables)) (now (a .marks)) (now (a .reached)) (getD (now (a .tables)) (sourceAt + l .link) 0) ≡ c .before .before .may-come .result =
     unfold mayCome in sym (rw (c .before .before .before .source-of .ensures) at (c .before .before .may-come .ensures)) in
@@ -61,7 +61,7 @@ loop-again c =
 
 returns-2 : tie.Need-returns-2 Inv-loop μ-loop
 returns-2 c =
-    let a = c .before .before .before .before .before .before .args in
+    let a = c .before .before .before .args in
     let l = c .before .loop in
     any-end (mayCome [] (now (a .tables)) (now (a .marks)) (now (a .reached))) (now (a .tables)) (l .left) (l .link) (c .loop-test .left) ∙ l .inv .1
 

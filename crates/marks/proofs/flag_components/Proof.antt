@@ -42,17 +42,13 @@ loop-less c = search needs
 
 loop-again : tie.Need-loop-again Inv-loop μ-loop
 loop-again c =
-    let a = c .before .before .before .before .before .before .before .before .before .before .before .before .before .args in
-    let l = c .before .before .before .before .before .before .before .before .loop in
-    (l .inv .0, c .before .before .put-mark .kept .0 ∙ l .inv .1, rw (c .before .before .put-mark .ensures, c .before .before .before .before .flag .ensures, c .before .before .before .before .before .may-reach .ensures) (flags-more (now (a .tables)) (now (a .marks)) (l .reached) (c .before .before .before .before .before .before .before .before .before .word-at .result) (l .c) (omega arith)) ∙ l .inv .2)
-
-same-length : tie.Need-same-length Inv-loop μ-loop
-same-length c =
-    c .before .loop .inv .1
+    let a = c .before .before .before .before .before .before .before .before .before .args in
+    let l = c .before .before .before .before .before .before .loop in
+    (l .inv .0, c .put-mark .kept .0 ∙ l .inv .1, rw (c .put-mark .ensures, c .before .before .flag .ensures, c .before .before .before .may-reach .ensures) (flags-more (now (a .tables)) (now (a .marks)) (l .reached) (c .before .before .before .before .before .before .before .word-at .result) (l .c) (omega arith)) ∙ l .inv .2)
 
 returns : tie.Need-returns Inv-loop μ-loop
 returns c =
-    let a = c .before .before .before .before .before .before .args in
+    let a = c .before .before .before .before .args in
     let l = c .before .loop in
     flags-none (now (a .tables)) (now (a .marks)) (l .reached) (c .before .before .word-at .result) (l .c) (omega arith) ∙ l .inv .2
 
@@ -70,5 +66,4 @@ flag-components-spec =
     add-c
     loop-less
     loop-again
-    same-length
     returns)

@@ -18,15 +18,12 @@ mark-atomics-requires c κs = search needs
 mark-parents-requires : tie.Need-mark-parents-requires
 mark-parents-requires c κs = search needs
 
-same-length : tie.Need-same-length
-same-length c = search needs
-
 returns : tie.Need-returns
 returns c =
-    let a = c .before .before .before .before .before .before .before .before .before .before .before .before .before .args in
+    let a = c .before .before .before .before .before .args in
     let ps = phasesIn (now (a .phases)) in
     let t = now (a .tables) in
-    (rw (c .before .before .before .before .before .before .mark-atomics .ensures) at (c .before .before .mark-parents .ensures)) ∙ raised-any ps t (getD t countAt 0 - 1) (marked ps t (a .at .0) (held (now (a .phase)) (now (a .last))) (a .n) 0 (now (a .marks)))
+    (rw (c .before .before .mark-atomics .ensures) at (c .mark-parents .ensures)) ∙ raised-any ps t (getD t countAt 0 - 1) (marked ps t (a .at .0) (held (now (a .phase)) (now (a .last))) (a .n) 0 (now (a .marks)))
 
 pub mark-spec : {M : Type 1} → statement M
-mark-spec = tie.close (tie.spec mark-atomics-requires mark-parents-requires same-length returns)
+mark-spec = tie.close (tie.spec mark-atomics-requires mark-parents-requires returns)

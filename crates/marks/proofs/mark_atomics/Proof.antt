@@ -46,17 +46,13 @@ loop-less c = search needs
 
 loop-again : tie.Need-loop-again Inv-loop μ-loop
 loop-again c =
-    let a = c .before .before .before .before .before .before .before .before .before .before .before .before .before .args in
-    let l = c .before .before .before .before .before .before .before .loop in
-    (omega arith, c .before .before .put-mark .kept .0 ∙ l .inv .1, rw (c .before .before .put-mark .ensures, c .before .before .before .row-word .ensures, c .before .before .before .before .before .mark-of .ensures) (marked-more (phasesIn (now (a .phases))) (now (a .tables)) (a .at .0) (held (now (a .phase)) (now (a .last))) (a .n) (l .i) (l .marks) (omega arith) ∙ l .inv .2))
-
-same-length : tie.Need-same-length Inv-loop μ-loop
-same-length c =
-    c .before .loop .inv .1
+    let a = c .before .before .before .before .before .before .before .args in
+    let l = c .before .before .before .before .before .loop in
+    (omega arith, c .put-mark .kept .0 ∙ l .inv .1, rw (c .put-mark .ensures, c .before .row-word .ensures, c .before .before .before .mark-of .ensures) (marked-more (phasesIn (now (a .phases))) (now (a .tables)) (a .at .0) (held (now (a .phase)) (now (a .last))) (a .n) (l .i) (l .marks) (omega arith) ∙ l .inv .2))
 
 returns : tie.Need-returns Inv-loop μ-loop
 returns c =
-    let a = c .before .before .before .before .before .before .before .args in
+    let a = c .before .before .before .args in
     let l = c .before .loop in
     marked-none (phasesIn (now (a .phases))) (now (a .tables)) (a .at .0) (held (now (a .phase)) (now (a .last))) (a .n) (l .i) (l .marks) (omega arith) ∙ l .inv .2
 
@@ -75,5 +71,4 @@ mark-atomics-spec =
     add-i
     loop-less
     loop-again
-    same-length
     returns)

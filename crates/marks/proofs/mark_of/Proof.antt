@@ -25,7 +25,7 @@ mark-for-requires c κs = search needs
 returns : tie.Need-returns
 unfolding markOf recordOf
 returns c =
-    rw (← c .before .before .before .before .before .before .due-at .ensures, ← c .before .before .before .before .before .is-now .ensures, c .before .before .before .before .if1 .taken) (rw (c .before .before .before .row-word .ensures, c .before .phase-at .ensures, c .before .before .size16 .ensures) at (c .mark-for .ensures))
+    rw (← c .before .before .before .before .before .before .before .due-at .ensures, ← c .before .before .before .before .before .before .is-now .ensures, c .before .before .before .before .before .if1 .taken) (rw (c .before .before .before .before .row-word .ensures, c .before .phase-at .ensures, c .before .before .size16 .ensures) at (c .mark-for .ensures))
 
 returns-2 : tie.Need-returns-2
 unfolding markOf recordOf

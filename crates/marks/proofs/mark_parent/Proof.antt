@@ -20,24 +20,17 @@ row-word-requires c κs = search needs
 put-mark-requires : tie.Need-put-mark-requires
 put-mark-requires c κs = search needs
 
-same-length : tie.Need-same-length
-same-length c =
-    c .before .before .put-mark .kept .0
-
 returns : tie.Need-returns
 unfolding isUp
 returns c =
-    let a = c .before .before .before .before .before .before .before .before .before .before .before .args in
-    let k : c .before .before .before .before .before .before .key-at .result ≡ getD (now (a .marks)) (a .c) 0 = rw (c .before .before .before .before .before .before .before .size16 .ensures) at (c .before .before .before .before .before .before .key-at .ensures) in
-    rw (ne-eqb (getD (now (a .marks)) (a .c) 0) 0 (λ q. c .before .before .before .before .before .if1 .taken (k ∙ q))) (rw (c .before .before .before .row-word .ensures) at (c .before .before .put-mark .ensures))
-
-same-length-2 : tie.Need-same-length-2
-same-length-2 c = search needs
+    let a = c .before .before .before .before .before .before .before .before .args in
+    let k : c .before .before .before .before .key-at .result ≡ getD (now (a .marks)) (a .c) 0 = rw (c .before .before .before .before .before .size16 .ensures) at (c .before .before .before .before .key-at .ensures) in
+    rw (ne-eqb (getD (now (a .marks)) (a .c) 0) 0 (λ q. c .before .before .before .if1 .taken (k ∙ q))) (rw (c .before .row-word .ensures) at (c .put-mark .ensures))
 
 returns-2 : tie.Need-returns-2
 unfolding isUp
 returns-2 c =
-    let a = c .before .before .before .before .before .before .args in
+    let a = c .before .before .before .before .before .args in
     let k : c .before .key-at .result ≡ getD (now (a .marks)) (a .c) 0 = rw (c .before .before .size16 .ensures) at (c .before .key-at .ensures) in
     rw (eq-eqb (getD (now (a .marks)) (a .c) 0) 0 (sym k ∙ c .if1 .left))
 
@@ -49,7 +42,5 @@ mark-parent-spec =
     key-at-requires
     row-word-requires
     put-mark-requires
-    same-length
     returns
-    same-length-2
     returns-2)

@@ -14,7 +14,7 @@ use Rattle.marks.proofs.mark_parents.Statement.{statement}
 use Rattle.marks.proofs.mark_parents.Tie as tie
 
 abbrev Inv-loop : tie.InvT-loop
-Inv-loop tables marks₀ count c₀ marks c = (length marks ≡ length marks₀) × (raised [] tables c marks ≡ raised [] tables (getD tables countAt 0 - 1) marks₀)
+Inv-loop tables marks₀ count c₀ marks c = (raised [] tables c marks ≡ raised [] tables (getD tables countAt 0 - 1) marks₀)
 
 abbrev μ-loop : tie.MeasureT-loop
 μ-loop tables marks₀ count c₀ marks c = c
@@ -27,9 +27,9 @@ sub-c c = search needs
 
 loop-holds : tie.Need-loop-holds Inv-loop μ-loop
 loop-holds c =
-    let a = c .before .before .before .before .args in
+    let a = c .before .before .before .args in
     let e : c .if1 .c ≡ c .before .word-at .result - 1 = ⊎-elim (λ w. omega arith) (λ w. omega arith) (c .if1 .came) in
-    (refl, rw (e, c .before .word-at .ensures))
+    rw (e, c .before .word-at .ensures)
 
 mark-parent-requires : tie.Need-mark-parent-requires Inv-loop μ-loop
 mark-parent-requires c κs = search needs
@@ -42,19 +42,15 @@ loop-less c = search needs
 
 loop-again : tie.Need-loop-again Inv-loop μ-loop
 loop-again c =
-    let a = c .before .before .before .before .before .before .before .before .before .before .before .args in
-    let l = c .before .before .before .before .before .before .loop in
-    (c .before .before .before .mark-parent .kept .1 .1 .0 ∙ l .inv .0, rw (c .before .before .before .mark-parent .ensures) (raised-more (now (a .tables)) (l .c) (l .marks) (omega arith)) ∙ l .inv .1)
-
-same-length : tie.Need-same-length Inv-loop μ-loop
-same-length c =
-    c .before .loop .inv .0
+    let a = c .before .before .before .before .before .before .before .before .args in
+    let l = c .before .before .before .before .loop in
+    rw (c .before .mark-parent .ensures) (raised-more (now (a .tables)) (l .c) (l .marks) (omega arith)) ∙ l .inv
 
 returns : tie.Need-returns Inv-loop μ-loop
 returns c =
-    let a = c .before .before .before .before .before .before .args in
+    let a = c .before .before .before .before .before .args in
     let l = c .before .loop in
-    raised-none (now (a .tables)) (l .c) (l .marks) (omega arith) ∙ l .inv .1
+    raised-none (now (a .tables)) (l .c) (l .marks) (omega arith) ∙ l .inv
 
 pub mark-parents-spec : {M : Type 1} → statement M
 mark-parents-spec =
@@ -69,5 +65,4 @@ mark-parents-spec =
     sub-c-2
     loop-less
     loop-again
-    same-length
     returns)

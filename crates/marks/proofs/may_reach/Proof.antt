@@ -30,7 +30,7 @@ any-source-requires c κs = search needs
 
 returns : tie.Need-returns Inv-loop μ-loop
 returns c =
-    let a = c .before .before .before .before .before .before .before .before .args in
+    let a = c .before .before .before .before .before .args in
     let l = c .before .before .before .before .loop in
     let e : anyOf (mayCome [] (now (a .tables)) (now (a .marks)) (now (a .reached))) (chainRows (now (a .tables)) (inputNode (a .c) (l .q))) ≡ c .before .any-source .result = sym (rw (c .before .before .input-node .ensures) at (c .before .any-source .ensures)) in
     reach-here (now (a .tables)) (now (a .marks)) (now (a .reached)) (a .c) 4 (l .q) (omega arith) (e ∙ c .if1 .taken) ∙ l .inv .1
@@ -43,14 +43,14 @@ loop-less c = search needs
 
 loop-again : tie.Need-loop-again Inv-loop μ-loop
 loop-again c =
-    let a = c .before .before .before .before .before .before .before .before .args in
+    let a = c .before .before .before .before .before .args in
     let l = c .before .before .before .before .loop in
     let e : anyOf (mayCome [] (now (a .tables)) (now (a .marks)) (now (a .reached))) (chainRows (now (a .tables)) (inputNode (a .c) (l .q))) ≡ c .before .any-source .result = sym (rw (c .before .before .input-node .ensures) at (c .before .any-source .ensures)) in
     (omega arith, reach-later (now (a .tables)) (now (a .marks)) (now (a .reached)) (a .c) 4 (l .q) (omega arith) (e ∙ c .if1 .left) ∙ l .inv .1)
 
 returns-2 : tie.Need-returns-2 Inv-loop μ-loop
 returns-2 c =
-    let a = c .before .before .before .before .before .args in
+    let a = c .before .before .args in
     let l = c .before .loop in
     reach-none (now (a .tables)) (now (a .marks)) (now (a .reached)) (a .c) 4 (l .q) (omega arith) ∙ l .inv .1
 

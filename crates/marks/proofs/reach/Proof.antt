@@ -13,14 +13,11 @@ put-mark-requires c κs = search needs
 flag-components-requires : tie.Need-flag-components-requires
 flag-components-requires c κs = search needs
 
-same-length : tie.Need-same-length
-same-length c = search needs
-
 returns : tie.Need-returns
 returns c =
-    rw (c .before .before .before .before .before .before .put-mark .ensures, c .before .before .before .before .before .before .before .flag .ensures, given-flag) at (c .before .before .flag-components .ensures)
+    rw (c .before .before .put-mark .ensures, c .before .before .before .flag .ensures, given-flag) at (c .flag-components .ensures)
 
 pub reach-spec : {M : Type 1} → statement M
 reach-spec =
     tie.close
-    (tie.spec flag-requires put-mark-requires flag-components-requires same-length returns)
+    (tie.spec flag-requires put-mark-requires flag-components-requires returns)

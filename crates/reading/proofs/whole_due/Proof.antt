@@ -41,10 +41,6 @@ fill-tables-requires c κs =
 phases-of-requires : tie.Need-phases-of-requires
 phases-of-requires c κs = search needs
 
--- src/lib.rt:70:47
-slice-aggregate-next-due : tie.Need-slice-aggregate-next-due
-slice-aggregate-next-due c = search needs
-
 -- src/lib.rt:70:56
 load-requires : tie.Need-load-requires
 load-requires c κs =
@@ -64,12 +60,6 @@ returns c =
     ∙ ap₂ (λ (p : Bytes) (t : List ℕ). tableNext (phasesIn p) t st) (c .before .before .before .before .phases-of .ensures) (c .before .before .before .before .before .before .before .before .before .fill-tables .ensures ∙ same-tables (replicate {A = ℕ} tableSize 0) (c .before .before .before .before .before .before .before .before .before .before .before .before .before .components-of .ensures) (c .before .before .before .before .before .before .before .before .before .before .before .before .rules-of .ensures) (c .before .before .before .before .before .before .before .before .before .before .before .couplings-of .ensures))
     ∙ due-whole (a .file .now) (a .n) (λ i. c .before .before .before .before .before .before .before .before .before .before .before .before .before .before .before .shared-slice-known .given i .fits) (c .before .before .before .before .before .before .before .before .before .before .before .before .before .before .before .before .pre .0) (a .run .now) (replicate {A = ℕ} tableSize 0) st (a .count) (c .before .before .before .before .before .before .before .before .before .before .before .before .before .before .before .before .pre .1) (length-replicate {A = ℕ} tableSize 0) (c .before .before .before .before .before .before .before .before .before .before .before .before .before .before .before .before .pre .2) (c .before .before .before .before .before .before .before .load .ensures .0) (c .before .before .before .before .before .before .before .load .ensures .1) (c .before .before .before .before .before .before .before .load .ensures .2)
 
-slice-aggregate-next-due-2 : tie.Need-slice-aggregate-next-due-2
-slice-aggregate-next-due-2 c = search needs
-
-slice-aggregate-next-due-3 : tie.Need-slice-aggregate-next-due-3
-slice-aggregate-next-due-3 c = search needs
-
 pub whole-due-spec : {M : Type 1} → statement M
 whole-due-spec =
     tie.close
@@ -81,8 +71,5 @@ whole-due-spec =
     fill-tables-requires
     load-requires
     phases-of-requires
-    slice-aggregate-next-due
-    slice-aggregate-next-due-2
-    slice-aggregate-next-due-3
     next-due-requires
     returns)

@@ -15,7 +15,7 @@ use Rattle.simulator.proofs.change_all.Statement.{statement}
 use Rattle.simulator.proofs.change_all.Tie as tie
 
 abbrev Inv-loop : tie.InvT-loop
-Inv-loop phases rules tables marks reached given n phase₀ last₀ at work₀ i₀ phase last work i = (i ≤ n) × (length phase ≡ length phase₀) × (length last ≡ length last₀) × (length work ≡ length work₀) × (changedFrom (phasesIn phases) tables (rulesIn rules) marks reached (length work₀) (at .0) (toBag given) (n - i) i (held phase last) ≡ changedFrom (phasesIn phases) tables (rulesIn rules) marks reached (length work₀) (at .0) (toBag given) n 0 (held phase₀ last₀))
+Inv-loop phases rules tables marks reached given n phase₀ last₀ at work₀ i₀ phase last work i = (i ≤ n) × (length work ≡ length work₀) × (changedFrom (phasesIn phases) tables (rulesIn rules) marks reached (length work₀) (at .0) (toBag given) (n - i) i (held phase last) ≡ changedFrom (phasesIn phases) tables (rulesIn rules) marks reached (length work₀) (at .0) (toBag given) n 0 (held phase₀ last₀))
 
 abbrev μ-loop : tie.MeasureT-loop
 μ-loop phases rules tables marks reached given n phase₀ last₀ at work₀ i₀ phase last work i = n - i
@@ -23,7 +23,7 @@ abbrev μ-loop : tie.MeasureT-loop
 -- src/lib.rt:65:5
 loop-holds : tie.Need-loop-holds Inv-loop μ-loop
 loop-holds c =
-    (omega arith, refl, refl, refl, rw sub-zero)
+    (omega arith, refl, rw sub-zero)
 
 -- src/lib.rt:66:46
 cast-row-word : tie.Need-cast-row-word Inv-loop μ-loop
@@ -48,11 +48,11 @@ loop-less c = search needs
 -- src/lib.rt:65:5
 loop-again : tie.Need-loop-again Inv-loop μ-loop
 loop-again c =
-    let a = c .before .before .before .before .before .before .before .before .before .before .before .before .before .before .before .before .before .before .before .before .before .before .args in
-    let l = c .before .before .before .before .before .before .before .before .before .before .before .before .loop in
-    let m = c .before .before .before .before .before .before .change-one in
+    let a = c .before .before .before .before .before .before .before .before .before .before .before .before .before .args in
+    let l = c .before .before .before .before .before .before .before .before .loop in
+    let m = c .before .before .change-one in
     let all = changed-more (phasesIn (now (a .phases))) (now (a .tables)) (rulesIn (now (a .rules))) (now (a .marks)) (now (a .reached)) (length (now (a .work))) (a .at .0) (toBag (now (a .given))) (a .n) (l .i) (held (l .phase) (l .last)) (omega arith) in
-    (omega arith, m .kept .1 .1 .1 .1 .1 .1 .0 ∙ l .inv .1, m .kept .1 .1 .1 .1 .1 .1 .1 .0 ∙ l .inv .2, m .kept .1 .1 .1 .1 .1 .1 .1 .1 .1 .1 .1 .0 ∙ l .inv .3, rw (m .ensures, c .before .before .before .before .before .before .before .before .before .before .row-word .ensures, l .inv .3) all ∙ l .inv .4)
+    (omega arith, m .kept .1 .1 .1 .1 .1 .1 .1 .1 .1 .1 .1 .0 ∙ l .inv .1, rw (m .ensures, c .before .before .before .before .before .before .row-word .ensures, l .inv .1) all ∙ l .inv .2)
 
 -- src/lib.rt:49:1
 same-length : tie.Need-same-length Inv-loop μ-loop
@@ -60,21 +60,11 @@ same-length c =
     c .before .loop .inv .1
 
 -- src/lib.rt:49:1
-same-length-2 : tie.Need-same-length-2 Inv-loop μ-loop
-same-length-2 c =
-    c .before .loop .inv .2
-
--- src/lib.rt:49:1
-same-length-3 : tie.Need-same-length-3 Inv-loop μ-loop
-same-length-3 c =
-    c .before .loop .inv .3
-
--- src/lib.rt:49:1
 returns : tie.Need-returns Inv-loop μ-loop
 returns c =
-    let a = c .before .before .before .before .before .before .before .before .before .before .before .args in
+    let a = c .before .before .before .before .before .before .args in
     let l = c .before .loop in
-    changed-none (phasesIn (now (a .phases))) (now (a .tables)) (rulesIn (now (a .rules))) (now (a .marks)) (now (a .reached)) (length (now (a .work))) (a .at .0) (toBag (now (a .given))) (a .n) (l .i) (held (l .phase) (l .last)) (omega arith) ∙ l .inv .4
+    changed-none (phasesIn (now (a .phases))) (now (a .tables)) (rulesIn (now (a .rules))) (now (a .marks)) (now (a .reached)) (length (now (a .work))) (a .at .0) (toBag (now (a .given))) (a .n) (l .i) (held (l .phase) (l .last)) (omega arith) ∙ l .inv .2
 
 pub change-all-spec : {M : Type 1} → statement M
 change-all-spec =
@@ -90,6 +80,4 @@ change-all-spec =
     loop-less
     loop-again
     same-length
-    same-length-2
-    same-length-3
     returns)

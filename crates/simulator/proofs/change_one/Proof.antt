@@ -23,7 +23,7 @@ is-still-requires c κs = search needs
 returns : tie.Need-returns
 unfolding isUp
 returns c =
-    let a = c .before .before .before .before .before .before .before .before .before .before .before .args in
+    let a = c .before .before .before .before .before .before .args in
     let h = sym (c .before .is-still .ensures) ∙ c .if1 .taken in
     let keys = keysInto (phasesIn (now (a .phases))) (now (a .tables)) (now (a .marks)) (now (a .reached)) (toBag (now (a .given))) (a .c) in
     let none : length (take (length (now (a .work))) keys) ≡ 0 = omega (arith, length-take (length (now (a .work))) keys, keys-unreached (phasesIn (now (a .phases))) (now (a .tables)) (now (a .marks)) (now (a .reached)) (toBag (now (a .given))) (a .c) (and-right (eqb (getD (now (a .marks)) (a .c) 0) 0) _ h)) in
@@ -43,16 +43,16 @@ key-at-requires c κs = search needs
 -- src/lib.rt:44:15
 slice-reshare-prefix-bag : tie.Need-slice-reshare-prefix-bag
 slice-reshare-prefix-bag c =
-    let a = c .before .before .before .before .before .before .before .before .before .before .before .before .before .before .before .before .before .args in
-    let m = c .before .before .before .before .collect-bag in
+    let a = c .before .before .before .before .before .before .before .before .before .before .before .before .before .args in
+    let m = c .before .before .before .before .before .collect-bag in
     let f = into-held (phasesIn (now (a .phases))) (now (a .tables)) (now (a .marks)) (now (a .reached)) (toBag (now (a .given))) (a .c) (now (a .work)) (m .last .1 .1 .1 .1 .1 .1 .0) (m .result) (m .ensures) in
     omega (arith, f .position, f .size)
 
 -- src/lib.rt:44:9
 slice-aggregate-bag : tie.Need-slice-aggregate-bag
 slice-aggregate-bag c =
-    let a = c .before .before .before .before .before .before .before .before .before .before .before .before .before .before .before .before .before .before .args in
-    let m = c .before .before .before .before .before .collect-bag in
+    let a = c .before .before .before .before .before .before .before .before .before .before .before .before .before .before .args in
+    let m = c .before .before .before .before .before .before .collect-bag in
     let f = into-held (phasesIn (now (a .phases))) (now (a .tables)) (now (a .marks)) (now (a .reached)) (toBag (now (a .given))) (a .c) (now (a .work)) (m .last .1 .1 .1 .1 .1 .1 .0) (m .result) (m .ensures) in
     sym (length-take-le (m .result) (m .last .1 .1 .1 .1 .1 .1 .0) (omega (arith, f .position, f .size)))
 
@@ -65,21 +65,13 @@ same-length : tie.Need-same-length
 same-length c = search needs
 
 -- src/lib.rt:26:1
-same-length-2 : tie.Need-same-length-2
-same-length-2 c = search needs
-
--- src/lib.rt:26:1
-same-length-3 : tie.Need-same-length-3
-same-length-3 c = search needs
-
--- src/lib.rt:26:1
 returns-2 : tie.Need-returns-2
 unfolding isUp
 returns-2 c =
-    let a = c .before .before .before .before .before .before .before .before .before .before .before .before .before .before .before .before .before .before .before .before .before .before .before .before .before .args in
-    let m = c .before .before .before .before .before .before .before .before .before .before .before .before .collect-bag in
+    let a = c .before .before .before .before .before .before .before .before .before .before .before .before .before .before .before .before .before .args in
+    let m = c .before .before .before .before .before .before .before .before .before .collect-bag in
     let f = into-held (phasesIn (now (a .phases))) (now (a .tables)) (now (a .marks)) (now (a .reached)) (toBag (now (a .given))) (a .c) (now (a .work)) (m .last .1 .1 .1 .1 .1 .1 .0) (m .result) (m .ensures) in
-    rw (c .before .before .before .before .before .before .before .before .key-at .ensures, c .before .before .before .before .before .before .before .before .before .size16 .ensures, f .held) at (c .before .before .before .before .transition .ensures)
+    rw (c .before .before .before .before .key-at .ensures, c .before .before .before .before .before .size16 .ensures, f .held) at (c .transition .ensures)
 
 pub change-one-spec : {M : Type 1} → statement M
 change-one-spec =
@@ -94,6 +86,4 @@ change-one-spec =
     slice-aggregate-bag
     transition-requires
     same-length
-    same-length-2
-    same-length-3
     returns-2)

@@ -18,7 +18,7 @@ key-at-requires-2 c κs = search needs
 -- src/lib.rt:28:1
 returns : tie.Need-returns
 returns c =
-    rw (c .key-at2 .ensures, c .before .key-at .ensures, c .before .before .size16 .ensures)
+    rw (c .key-at2 .ensures, c .before .before .key-at .ensures, c .before .before .before .before .size16 .ensures)
 
 pub is-still-spec : {M : Type 1} → statement M
 is-still-spec = tie.close (tie.spec size16-requires key-at-requires key-at-requires-2 returns)

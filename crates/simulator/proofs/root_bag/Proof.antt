@@ -17,7 +17,7 @@ collect-root-requires c κs = search needs
 
 sort-requires : tie.Need-sort-requires
 sort-requires c κs =
-    let a = c .before .before .before .before .before .before .before .before .before .before .before .before .args in
+    let a = c .before .before .before .before .before .before .before .before .before .args in
     let m = c .before .before .before .before .collect-root in
     let f = root-held (phasesIn (now (a .phases))) (now (a .tables)) (now (a .marks)) (now (a .reached)) (now (a .keys)) (m .last .1 .1 .1 .1 .0) (m .result) (m .ensures) in
     (omega (arith, f .position, f .size), omega (arith, f .position, f .size))
@@ -32,7 +32,7 @@ same-length-2 c =
 
 returns : tie.Need-returns
 returns c =
-    let a = c .before .before .before .before .before .before .before .before .before .before .before .before .before .before .before .before .before .args in
+    let a = c .before .before .before .before .before .before .before .before .before .before .before .before .before .before .args in
     let m = c .before .before .before .before .before .before .before .before .before .collect-root in
     let f = root-held (phasesIn (now (a .phases))) (now (a .tables)) (now (a .marks)) (now (a .reached)) (now (a .keys)) (m .last .1 .1 .1 .1 .0) (m .result) (m .ensures) in
     (f .position, sorted-front (m .result) (m .last .1 .1 .1 .1 .0) _ (omega (arith, f .position, f .size)) (c .before .before .before .before .sort .ensures) ∙ ap (λ l. sortBy messageLe (map messageOf l)) (f .held))

@@ -20,33 +20,13 @@ use Rattle.simulator.proofs.step_once.Tie as tie
 front-requires : tie.Need-front-requires
 front-requires c κs = search needs
 
--- src/lib.rt:164:53
-slice-aggregate-mark : tie.Need-slice-aggregate-mark
-slice-aggregate-mark c = search needs
-
 -- src/lib.rt:164:5
 mark-requires : tie.Need-mark-requires
 mark-requires c κs = search needs
 
--- src/lib.rt:165:26
-slice-aggregate-reach : tie.Need-slice-aggregate-reach
-slice-aggregate-reach c = search needs
-
--- src/lib.rt:165:39
-slice-aggregate-reach-2 : tie.Need-slice-aggregate-reach-2
-slice-aggregate-reach-2 c = search needs
-
 -- src/lib.rt:165:5
 reach-requires : tie.Need-reach-requires
 reach-requires c κs = search needs
-
--- src/lib.rt:170:9
-slice-aggregate-step-marked : tie.Need-slice-aggregate-step-marked
-slice-aggregate-step-marked c = search needs
-
--- src/lib.rt:171:9
-slice-aggregate-step-marked-2 : tie.Need-slice-aggregate-step-marked-2
-slice-aggregate-step-marked-2 c = search needs
 
 -- src/lib.rt:166:5
 step-marked-requires : tie.Need-step-marked-requires
@@ -61,24 +41,16 @@ same-length-2 : tie.Need-same-length-2
 same-length-2 c = search needs
 
 -- src/lib.rt:142:1
-same-length-3 : tie.Need-same-length-3
-same-length-3 c = search needs
-
--- src/lib.rt:142:1
-same-length-4 : tie.Need-same-length-4
-same-length-4 c = search needs
-
--- src/lib.rt:142:1
 returns : tie.Need-returns
 returns c =
-    let a = c .before .before .before .before .before .before .before .before .before .before .before .before .before .before .before .before .before .before .before .before .before .before .before .before .before .before .before .before .before .before .before .before .before .args in
+    let a = c .before .before .before .before .before .before .before .before .before .before .before .before .before .before .before .before .before .before .before .before .before .before .before .before .args in
     let ps = phasesIn (now (a .phases)) in
     let t = now (a .tables) in
-    let es = c .before .before .before .before .before .before .before .before .before .before .before .before .before .before .before .before .before .before .before .before .mark .last .1 .1 .1 .1 .1 .1 .0 in
-    let fs = c .before .before .before .before .before .before .before .before .before .before .before .before .before .before .before .before .reach .last .1 .1 .1 .0 in
-    let full = c .before .before .before .before .before .before .before .before .before .before .before .before .before .before .before .before .before .before .before .before .before .before .before .before .before .before .before .before .before .before .before .before .before .pre in
-    let s = c .before .before .before .before .before .before .before .before .step-marked .ensures in
-    rw (← c .before .before .before .before .before .before .before .before .before .before .before .before .before .before .before .before .before .before .before .before .before .before .before .before .front .ensures, step-is ps t (rulesIn (now (a .rules))) (a .n) (length (now (a .work))) (a .at .0) (toBag (now (c .before .before .before .before .before .before .before .before .before .before .before .before .before .before .before .before .before .before .before .before .before .before .before .before .front .result))) (held (now (a .phase)) (now (a .last))) es fs (c .before .before .before .before .before .before .before .before .before .before .before .before .before .before .before .before .before .before .before .before .mark .ensures) (c .before .before .before .before .before .before .before .before .before .before .before .before .before .before .before .before .reach .ensures))
+    let es = c .before .before .before .before .before .before .before .before .before .before .before .before .before .before .mark .last .1 .1 .1 .1 .1 .1 .0 in
+    let fs = c .before .before .before .before .before .before .before .before .before .before .before .reach .last .1 .1 .1 .0 in
+    let full = c .before .before .before .before .before .before .before .before .before .before .before .before .before .before .before .before .before .before .before .before .before .before .before .before .pre in
+    let s = c .before .before .before .before .step-marked .ensures in
+    rw (← c .before .before .before .before .before .before .before .before .before .before .before .before .before .before .before .before .before .before .front .ensures, step-is ps t (rulesIn (now (a .rules))) (a .n) (length (now (a .work))) (a .at .0) (toBag (now (c .before .before .before .before .before .before .before .before .before .before .before .before .before .before .before .before .before .before .front .result))) (held (now (a .phase)) (now (a .last))) es fs (c .before .before .before .before .before .before .before .before .before .before .before .before .before .before .mark .ensures) (c .before .before .before .before .before .before .before .before .before .before .before .reach .ensures))
     (s .0, s .1 ∙ ap (λ n. min n (length (rootKeys ps t es fs))) full ∙ count-bag (rootRoom (length (now (a .work)))) (rootKeys ps t es fs), s .2 ∙ ap (λ n. sortBy messageLe (map messageOf (take n (rootKeys ps t es fs)))) full)
 
 pub step-once-spec : {M : Type 1} → statement M
@@ -86,16 +58,9 @@ step-once-spec =
     tie.close
     (tie.spec
     front-requires
-    slice-aggregate-mark
     mark-requires
-    slice-aggregate-reach
-    slice-aggregate-reach-2
     reach-requires
-    slice-aggregate-step-marked
-    slice-aggregate-step-marked-2
     step-marked-requires
     same-length
     same-length-2
-    same-length-3
-    same-length-4
     returns)

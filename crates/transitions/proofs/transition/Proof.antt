@@ -26,27 +26,15 @@ put-at-requires : tie.Need-put-at-requires
 put-at-requires c κs = search needs
 
 -- src/lib.rt:101:9
-same-length : tie.Need-same-length
-same-length c = search needs
-
--- src/lib.rt:101:9
-same-length-2 : tie.Need-same-length-2
-same-length-2 c = search needs
-
--- src/lib.rt:101:9
 returns : tie.Need-returns
 returns c =
-    let a = c .before .before .before .before .before .before .before .before .before .before .before .before .before .before .before .before .before .before .before .args in
-    rw (c .before .before .before .before .before .before .before .before .if2 .taken) ((rw (c .before .before .before .before .before .before .before .next-of .ensures, c .before .before .before .before .before .before .before .before .before .before .phase-at .ensures, c .before .before .before .before .before .before .before .before .before .before .before .before .size .ensures) at (c .before .before .before .before .put-at .ensures)) ∙ internal-case (phasesIn (now (a .phases))) (now (a .tables)) (rulesIn (now (a .rules))) (a .at .0) (held (now (a .phase)) (now (a .last))) (a .i) (a .c) (now (a .bag)) (c .before .before .before .before .before .before .before .before .before .if1 .taken))
-
--- src/lib.rt:101:9
-same-length-3 : tie.Need-same-length-3
-same-length-3 c = search needs
+    let a = c .before .before .before .before .before .before .before .before .before .before .before .before .before .args in
+    rw (c .before .before .before .before .if2 .taken) ((rw (c .before .before .before .next-of .ensures, c .before .before .before .before .before .before .phase-at .ensures, c .before .before .before .before .before .before .before .before .before .size .ensures) at (c .put-at .ensures)) ∙ internal-case (phasesIn (now (a .phases))) (now (a .tables)) (rulesIn (now (a .rules))) (a .at .0) (held (now (a .phase)) (now (a .last))) (a .i) (a .c) (now (a .bag)) (c .before .before .before .before .before .if1 .taken))
 
 -- src/lib.rt:101:9
 returns-2 : tie.Need-returns-2
 returns-2 c =
-    let a = c .before .before .before .before .before .before .before .before .before .before .before .args in
+    let a = c .before .before .before .before .before .before .before .before .before .args in
     rw (c .if2 .left) (still-case (phasesIn (now (a .phases))) (now (a .tables)) (rulesIn (now (a .rules))) (a .at .0) (held (now (a .phase)) (now (a .last))) (a .i) (a .c) (now (a .bag)) (c .before .if1 .taken))
 
 -- src/lib.rt:108:13
@@ -58,18 +46,10 @@ put-at-requires-2 : tie.Need-put-at-requires-2
 put-at-requires-2 c κs = search needs
 
 -- src/lib.rt:111:9
-same-length-4 : tie.Need-same-length-4
-same-length-4 c = search needs
-
--- src/lib.rt:111:9
-same-length-5 : tie.Need-same-length-5
-same-length-5 c = search needs
-
--- src/lib.rt:111:9
 returns-3 : tie.Need-returns-3
 returns-3 c =
-    let a = c .before .before .before .before .before .before .before .before .before .before .before .before .before .before .before .before .before .before .before .args in
-    rw (c .before .before .before .before .before .before .before .before .if3 .taken) ((rw (c .before .before .before .before .before .before .before .confluent .ensures, c .before .before .before .before .before .before .before .before .before .before .phase-at .ensures, c .before .before .before .before .before .before .before .before .before .before .before .before .size .ensures) at (c .before .before .before .before .put-at2 .ensures)) ∙ confluent-case (phasesIn (now (a .phases))) (now (a .tables)) (rulesIn (now (a .rules))) (a .at .0) (held (now (a .phase)) (now (a .last))) (a .i) (a .c) (now (a .bag)) (c .before .before .before .before .before .before .before .before .before .if1 .left))
+    let a = c .before .before .before .before .before .before .before .before .before .before .before .before .before .args in
+    rw (c .before .before .before .before .if3 .taken) ((rw (c .before .before .before .confluent .ensures, c .before .before .before .before .before .before .phase-at .ensures, c .before .before .before .before .before .before .before .before .before .size .ensures) at (c .put-at2 .ensures)) ∙ confluent-case (phasesIn (now (a .phases))) (now (a .tables)) (rulesIn (now (a .rules))) (a .at .0) (held (now (a .phase)) (now (a .last))) (a .i) (a .c) (now (a .bag)) (c .before .before .before .before .before .if1 .left))
 
 -- src/lib.rt:113:28
 last-at-requires : tie.Need-last-at-requires
@@ -88,19 +68,11 @@ put-at-requires-3 : tie.Need-put-at-requires-3
 put-at-requires-3 c κs = search needs
 
 -- src/lib.rt:81:1
-same-length-6 : tie.Need-same-length-6
-same-length-6 c = search needs
-
--- src/lib.rt:81:1
-same-length-7 : tie.Need-same-length-7
-same-length-7 c = search needs
-
--- src/lib.rt:81:1
 returns-4 : tie.Need-returns-4
 unfolding decidedIn
 returns-4 c =
-    let a = c .before .before .before .before .before .before .before .before .before .before .before .before .before .before .before .before .before .before .before .before .before .before .args in
-    rw (c .before .before .before .before .before .before .before .before .before .before .before .if3 .left) ((rw (c .before .before .before .before .before .before .before .decided .ensures, c .before .before .before .before .before .before .before .before .since .ensures, c .before .before .before .before .before .before .before .before .before .last-at .ensures, c .before .before .before .before .before .before .before .before .before .before .before .before .before .phase-at .ensures, c .before .before .before .before .before .before .before .before .before .before .before .before .before .before .before .size .ensures) at (c .before .before .before .before .put-at3 .ensures)) ∙ external-case (phasesIn (now (a .phases))) (now (a .tables)) (rulesIn (now (a .rules))) (a .at .0) (held (now (a .phase)) (now (a .last))) (a .i) (a .c) (now (a .bag)) (c .before .before .before .before .before .before .before .before .before .before .before .before .if1 .left))
+    let a = c .before .before .before .before .before .before .before .before .before .before .before .before .before .before .before .before .before .args in
+    rw (c .before .before .before .before .before .before .before .before .if3 .left) ((rw (c .before .before .before .decided .ensures, c .before .before .before .before .since .ensures, c .before .before .before .before .before .last-at .ensures, c .before .before .before .before .before .before .before .before .before .before .phase-at .ensures, c .before .before .before .before .before .before .before .before .before .before .before .before .before .size .ensures) at (c .put-at3 .ensures)) ∙ external-case (phasesIn (now (a .phases))) (now (a .tables)) (rulesIn (now (a .rules))) (a .at .0) (held (now (a .phase)) (now (a .last))) (a .i) (a .c) (now (a .bag)) (c .before .before .before .before .before .before .before .before .before .if1 .left))
 
 pub transition-spec : {M : Type 1} → statement M
 transition-spec =
@@ -110,20 +82,13 @@ transition-spec =
     phase-at-requires
     next-of-requires
     put-at-requires
-    same-length
-    same-length-2
     returns
-    same-length-3
     returns-2
     confluent-requires
     put-at-requires-2
-    same-length-4
-    same-length-5
     returns-3
     last-at-requires
     since-requires
     decided-requires
     put-at-requires-3
-    same-length-6
-    same-length-7
     returns-4)

@@ -85,7 +85,7 @@ collect-child-same-length t c =
 collect-child-returns : (t : ℕ) → collect-child-lts.Need-returns (collect-child-calls t) (collect-child-at t) collect-child.Post
 unfolding childOut
 collect-child-returns t c =
-    let a = c .before .before .before .before .before .before .before .before .before .before .before .args in
+    let a = c .before .before .before .before .before .before .before .before .args in
     rw (sym (c .before .before .before .before .before .is-atomic .ensures) ∙ c .before .before .before .before .if1 .taken, ← sent-by (phasesIn (now (a .phases))) (now (a .tables)) (now (a .marks)) (a .y)) (c .before .before .put-output .ensures)
 
 collect-child-collect-coupled-requires : (t : ℕ) → collect-child-lts.Need-collect-coupled-requires (collect-child-calls t) (collect-child-at t) collect-child.Post
@@ -120,7 +120,7 @@ collect-coupled-is-open-requires t c κs = search needs
 collect-coupled-returns-2 : (t : ℕ) → collect-coupled-lts.Need-returns-2 (collect-coupled-calls t) (collect-coupled-at t) collect-coupled.Post collect-coupled-Inv-loop collect-coupled-μ-loop
 unfolding puts
 collect-coupled-returns-2 t c =
-    let a = c .before .before .before .before .before .before .before .before .args in
+    let a = c .before .before .before .before .before .args in
     let s : isOpen [] (now (a .tables)) (now (a .marks)) (now (a .reached)) (a .x) ≡ false = sym (c .before .is-open .ensures) ∙ not-true _ (c .if2 .taken) in
     rw (coupled-shut (phasesIn (now (a .phases))) (now (a .tables)) (now (a .marks)) (now (a .reached)) (a .depth) (a .x) s)
 
@@ -129,7 +129,7 @@ collect-coupled-first-link-requires t c κs = search needs
 
 collect-coupled-loop-holds : (t : ℕ) → collect-coupled-lts.Need-loop-holds (collect-coupled-calls t) (collect-coupled-at t) collect-coupled.Post collect-coupled-Inv-loop collect-coupled-μ-loop
 collect-coupled-loop-holds t c =
-    let a = c .before .before .before .before .before .before .before .before .before .args in
+    let a = c .before .before .before .before .before .before .args in
     let s : isOpen [] (now (a .tables)) (now (a .marks)) (now (a .reached)) (a .x) ≡ true = sym (c .before .before .is-open .ensures) ∙ not-false _ (c .before .if2 .left) in
     (omega arith, refl, rw (c .first-link .ensures) (ap (λ l. puts (a .own) l (now (a .buf), a .at)) (coupled-open (phasesIn (now (a .phases))) (now (a .tables)) (now (a .marks)) (now (a .reached)) (a .depth) (a .x) (omega arith) s)))
 
@@ -155,7 +155,7 @@ collect-coupled-loop-less t c =
 
 collect-coupled-loop-again : (t : ℕ) → collect-coupled-lts.Need-loop-again (collect-coupled-calls t) (collect-coupled-at t) collect-coupled.Post collect-coupled-Inv-loop collect-coupled-μ-loop
 collect-coupled-loop-again t c =
-    let a = c .before .before .before .before .before .before .before .before .before .before .before .before .before .before .before .before .before .args in
+    let a = c .before .before .before .before .before .before .before .before .before .before .before .before .before .before .args in
     let l = c .before .before .before .before .before .before .before .loop in
     let m = c .before .before .before .collect-child in
     let f = pulledChild (phasesIn (now (a .phases))) (now (a .tables)) (now (a .marks)) (now (a .reached)) (a .depth - 1) in
@@ -167,7 +167,7 @@ collect-coupled-same-length t c =
 
 collect-coupled-returns-3 : (t : ℕ) → collect-coupled-lts.Need-returns-3 (collect-coupled-calls t) (collect-coupled-at t) collect-coupled.Post collect-coupled-Inv-loop collect-coupled-μ-loop
 collect-coupled-returns-3 t c =
-    let a = c .before .before .before .before .before .before .before .before .before .before .before .args in
+    let a = c .before .before .before .before .before .before .before .before .args in
     let l = c .before .loop in
     let f = pulledChild (phasesIn (now (a .phases))) (now (a .tables)) (now (a .marks)) (now (a .reached)) (a .depth - 1) in
     sym (chain-end f (now (a .tables)) (a .own) (l .left) (l .link) (l .buf, l .next) (c .loop-test .left)) ∙ l .inv .2
