@@ -15,8 +15,10 @@ use Rattle.definition.specs.Devs.{Time, finite, never}
 use Rattle.definition.specs.Step.{Simulator}
 use Rattle.definition.specs.Instant.{Instant, instant}
 use Rattle.definition.specs.Advance.{Progress, Ended, ended, tried, continued, succeeded, isBefore, moment, advancing}
-use Rattle.clock.specs.declared.Due.{Due}
+use Rattle.definition.specs.Engine.{dueNumber}
+use Rattle.clock.specs.Times.{latest}
 use Rattle.run_state.specs.declared.State.{State}
+use Rattle.pull_laws.proofs.Carried.{before-number, moment-number}
 use Rattle.attempt.specs.Progress.{progressOf, triedOf, Beyond, Attempted}
 use Rattle.attempt.specs.declared.Going.{Going}
 use Rattle.attempt.specs.declared.Ending.{Ending}
@@ -26,6 +28,15 @@ use Rattle.advance.specs.Ends.{endedOf, finishedOf}
 
 abbrev pub nextOf : Time → ℕ → ℕ
 nextOf u t = cond (isBefore u t) (moment u) t
+
+-- The code's choice, by the number of the due moment.
+pub next-as : (u : Time) (due t v : ℕ) → due ≡ dueNumber u → t ≤ latest → v ≡ cond (ltb due t) due t → v ≡ nextOf u t
+next-as u due t v d l e =
+    e ∙ ap (λ w. cond (ltb w t) w t) d ∙ ap (λ b. cond b (dueNumber u) t) (before-number u t l) ∙ go (isBefore u t) refl
+  where
+    go : (b : Bool) → isBefore u t ≡ b → cond b (dueNumber u) t ≡ cond b (moment u) t
+    go true f = moment-number u t f
+    go false f = refl
 
 pub not-before : (u : Time) (t v : ℕ) → v ≡ nextOf u t → t ≤ v → isBefore u t ≡ false
 unfolding isBefore moment
@@ -73,12 +84,12 @@ goes-no on p m = refl
 
 -- ---- one turn of the code
 
-abbrev reopened : ℕ → Going → Due → Ending
-reopened t g due = record { number = 0; going = record { opening = record { 0 = suc t }; instants = g .instants; steps = g .steps; used = g .used; state = g .state }; due = due }
+abbrev reopened : ℕ → Going → ℕ → Ending
+reopened t g due = record { number = 0; going = record { opening = record { 0 = suc t }; instants = g .instants; steps = g .steps; used = g .used }; due = due }
 
-succeeded-as : (t : ℕ) (trace : Bytes) (g : Going) (due : Due) → succeeded t (progressOf trace g) ≡ endedOf trace (reopened t g due)
+succeeded-as : (t : ℕ) (trace : Bytes) (st : State) (g : Going) (due : ℕ) → succeeded t (progressOf trace st g) ≡ endedOf trace st (reopened t g due)
 unfolding succeeded progressOf
-succeeded-as t trace g due = refl
+succeeded-as t trace st g due = refl
 
 finished-ok : (t : ℕ) (e : Ending) → eqb (e .number) 0 ≡ true → finishedOf t e ≡ reopened t (e .going) (e .due)
 unfolding finishedOf
@@ -88,63 +99,68 @@ finished-no : (t : ℕ) (e : Ending) → eqb (e .number) 0 ≡ false → finishe
 unfolding finishedOf
 finished-no t e q = rw q
 
-tried-no : (trace : Bytes) (e : Ending) → eqb (e .number) 0 ≡ false → triedOf trace e ≡ refused (e .number)
-tried-no trace e q = rw q
+tried-no : (trace : Bytes) (st : State) (e : Ending) → eqb (e .number) 0 ≡ false → triedOf trace st e ≡ refused (e .number)
+tried-no trace st e q = rw q
 
-tried-ok : (trace : Bytes) (e : Ending) → eqb (e .number) 0 ≡ true → triedOf trace e ≡ ok (progressOf trace (e .going))
-tried-ok trace e q = rw q
+tried-ok : (trace : Bytes) (st : State) (e : Ending) → eqb (e .number) 0 ≡ true → triedOf trace st e ≡ ok (progressOf trace st (e .going))
+tried-ok trace st e q = rw q
 
-state-in : (trace : Bytes) (g : Going) → progressOf trace g .state ≡ g .state
+state-in : (trace : Bytes) (st : State) (g : Going) → progressOf trace st g .state ≡ st
 unfolding progressOf
-state-in trace g = refl
+state-in trace st g = refl
 
 -- An undone instant leaves the progress as it was.
-left-as : (now : ℕ) (g : Going) (trace trace′ : Bytes) (i : Instant State) (e : Ending) → Attempted now g trace trace′ i e → (e .number ≡ 0 → ⊥)
-    → progressOf trace g ≡ progressOf trace′ (e .going)
-left-as now g trace trace′ i e a z = let u = a .undone z in ap₂ progressOf (sym (u .1)) (sym (u .0))
+left-as : (now : ℕ) (g : Going) (st st′ : State) (trace trace′ : Bytes) (i : Instant State) (e : Ending) → Attempted now g st st′ trace trace′ i e → (e .number ≡ 0 → ⊥)
+    → progressOf trace st g ≡ progressOf trace′ st′ (e .going)
+left-as now g st st′ trace trace′ i e a z =
+    let u = a .undone z in
+    ap (λ (b : Bytes). progressOf b st g) (sym (u .2)) ∙ ap₂ (progressOf trace′) (sym (u .1)) (sym (u .0))
 
-module _ (k : Simulator State) (t : ℕ) (x : Bag) (g : Going) (trace trace′ : Bytes) (e : Ending) (m : ℕ) where
+module _ (k : Simulator State) (t : ℕ) (x : Bag) (g : Going) (st st′ : State) (trace trace′ : Bytes) (e : Ending) (m : ℕ) where
   abbrev p : Progress State
-  p = progressOf trace g
+  p = progressOf trace st g
+
+  abbrev p′ : Progress State
+  p′ = progressOf trace′ st′ (e .going)
 
   -- The last turn: t with the bag.
-  pub turn-last : Attempted t g trace trace′ (instant k t x (g .state)) e → isBefore (k .next (g .state)) t ≡ false
-      → advancing k (suc m) (length trace) t x p ≡ endedOf trace′ (finishedOf t e)
+  pub turn-last : Attempted t g st st′ trace trace′ (instant k t x st) e → isBefore (k .next st) t ≡ false
+      → advancing k (suc m) (length trace) t x p ≡ endedOf trace′ st′ (finishedOf t e)
   turn-last a b =
-      last-turn k (length trace) t x m p (subst (λ (s : State). isBefore (k .next s) t ≡ false) (sym (state-in trace g)) b)
-      ∙ ap (λ (s : State). continued (succeeded t) p (tried (length trace) t p (instant k t x s))) (state-in trace g)
+      last-turn k (length trace) t x m p (subst (λ (s : State). isBefore (k .next s) t ≡ false) (sym (state-in trace st g)) b)
+      ∙ ap (λ (s : State). continued (succeeded t) p (tried (length trace) t p (instant k t x s))) (state-in trace st g)
       ∙ ap (continued (succeeded t) p) (sym (a .same)) ∙ go (eqb (e .number) 0) refl
     where
-      go : (b : Bool) → eqb (e .number) 0 ≡ b → continued (succeeded t) p (triedOf trace′ e) ≡ endedOf trace′ (finishedOf t e)
+      go : (b : Bool) → eqb (e .number) 0 ≡ b → continued (succeeded t) p (triedOf trace′ st′ e) ≡ endedOf trace′ st′ (finishedOf t e)
       go true q =
-          ap (continued (succeeded t) p) (tried-ok trace′ e q) ∙ goes-ok (succeeded t) p (progressOf trace′ (e .going))
-          ∙ succeeded-as t trace′ (e .going) (e .due) ∙ ap (endedOf trace′) (sym (finished-ok t e q))
+          ap (continued (succeeded t) p) (tried-ok trace′ st′ e q) ∙ goes-ok (succeeded t) p p′
+          ∙ succeeded-as t trace′ st′ (e .going) (e .due) ∙ ap (endedOf trace′ st′) (sym (finished-ok t e q))
       go false q =
-          ap (continued (succeeded t) p) (tried-no trace′ e q) ∙ goes-no (succeeded t) p (e .number)
-          ∙ ap (ended (e .number)) (left-as t g trace trace′ (instant k t x (g .state)) e a (eqb-false (e .number) 0 q)) ∙ ap (endedOf trace′) (sym (finished-no t e q))
+          ap (continued (succeeded t) p) (tried-no trace′ st′ e q) ∙ goes-no (succeeded t) p (e .number)
+          ∙ ap (ended (e .number)) (left-as t g st st′ trace trace′ (instant k t x st) e a (eqb-false (e .number) 0 q)) ∙ ap (endedOf trace′ st′) (sym (finished-no t e q))
 
   -- An instant before t, with no bag.
-  module _ (u : ℕ) (y : Bag) (none : y ≡ []) (a : Attempted u g trace trace′ (instant k u y (g .state)) e)
-      (b : (isBefore (k .next (g .state)) t ≡ true) × (moment (k .next (g .state)) ≡ u)) where
+  module _ (u : ℕ) (y : Bag) (none : y ≡ []) (a : Attempted u g st st′ trace trace′ (instant k u y st) e)
+      (b : (isBefore (k .next st) t ≡ true) × (moment (k .next st) ≡ u)) where
     abbrev on : Progress State → Ended State
     on q = advancing k m (length trace) t x q
 
-    turn : advancing k (suc m) (length trace) t x p ≡ continued on p (triedOf trace′ e)
+    turn : advancing k (suc m) (length trace) t x p ≡ continued on p (triedOf trace′ st′ e)
     turn =
-        more-turn k (length trace) t x m p (subst (λ (s : State). isBefore (k .next s) t ≡ true) (sym (state-in trace g)) (b .0))
-        ∙ ap (λ (s : State). continued on p (tried (length trace) (moment (k .next s)) p (instant k (moment (k .next s)) [] s))) (state-in trace g)
-        ∙ ap₂ (λ (w : ℕ) (z : Bag). continued on p (tried (length trace) w p (instant k w z (g .state)))) (b .1) (sym none)
+        more-turn k (length trace) t x m p (subst (λ (s : State). isBefore (k .next s) t ≡ true) (sym (state-in trace st g)) (b .0))
+        ∙ ap (λ (s : State). continued on p (tried (length trace) (moment (k .next s)) p (instant k (moment (k .next s)) [] s))) (state-in trace st g)
+        ∙ ap₂ (λ (w : ℕ) (z : Bag). continued on p (tried (length trace) w p (instant k w z st))) (b .1) (sym none)
         ∙ ap (continued on p) (sym (a .same))
 
     -- It stands, and the call goes on.
-    pub turn-more : e .number ≡ 0 → advancing k (suc m) (length trace) t x p ≡ advancing k m (length trace) t x (progressOf trace′ (e .going))
-    turn-more z = turn ∙ ap (continued on p) (tried-ok trace′ e (eq-eqb (e .number) 0 z)) ∙ goes-ok on p (progressOf trace′ (e .going))
+    pub turn-more : e .number ≡ 0 → advancing k (suc m) (length trace) t x p ≡ advancing k m (length trace) t x p′
+    turn-more z = turn ∙ ap (continued on p) (tried-ok trace′ st′ e (eq-eqb (e .number) 0 z)) ∙ goes-ok on p p′
 
     -- It is undone, and the call ends.
-    pub turn-stop : (e .number ≡ 0 → ⊥) → advancing k (suc m) (length trace) t x p ≡ endedOf trace′ e
+    pub turn-stop : (e .number ≡ 0 → ⊥) → advancing k (suc m) (length trace) t x p ≡ endedOf trace′ st′ e
     turn-stop z =
-        turn ∙ ap (continued on p) (tried-no trace′ e (ne-eqb (e .number) 0 z)) ∙ goes-no on p (e .number)
-        ∙ ap (ended (e .number)) (left-as u g trace trace′ (instant k u y (g .state)) e a z)
+        turn ∙ ap (continued on p) (tried-no trace′ st′ e (ne-eqb (e .number) 0 z)) ∙ goes-no on p (e .number)
+        ∙ ap (ended (e .number)) (left-as u g st st′ trace trace′ (instant k u y st) e a z)
 
 -- ---- the trace through two changes
 
@@ -164,31 +180,31 @@ used-as t e = go (eqb (e .number) 0) refl
 
 -- ---- a turn inside the loop: `whole` is what the call gives, and the turns left give it from here
 
-module _ (k : Simulator State) (t : ℕ) (x : Bag) (whole : Ended State) (trace₀ trace : Bytes) (g : Going) (left : ℕ) (h : 0 < left)
-    (from-here : advancing k left (length trace₀) t x (progressOf trace g) ≡ whole) (b : Beyond trace₀ trace (g .used)) where
-  here : advancing k (suc (left - 1)) (length trace) t x (progressOf trace g) ≡ whole
+module _ (k : Simulator State) (t : ℕ) (x : Bag) (whole : Ended State) (trace₀ trace : Bytes) (st : State) (g : Going) (left : ℕ) (h : 0 < left)
+    (from-here : advancing k left (length trace₀) t x (progressOf trace st g) ≡ whole) (b : Beyond trace₀ trace (g .used)) where
+  here : advancing k (suc (left - 1)) (length trace) t x (progressOf trace st g) ≡ whole
   here =
       let q : suc (left - 1) ≡ left = omega arith in
-      ap₂ (λ (m room : ℕ). advancing k m room t x (progressOf trace g)) q (b .1) ∙ from-here
+      ap₂ (λ (m room : ℕ). advancing k m room t x (progressOf trace st g)) q (b .1) ∙ from-here
 
-  module _ (trace′ : Bytes) (e : Ending) (v : ℕ) (next : v ≡ nextOf (k .next (g .state)) t) where
-    pub ends-last : Attempted t g trace trace′ (instant k t x (g .state)) e → t ≤ v → (f : Ending) → f ≡ finishedOf t e
-        → (endedOf trace′ f ≡ whole) × Beyond trace₀ trace′ (f .going .used)
+  module _ (trace′ : Bytes) (st′ : State) (e : Ending) (v : ℕ) (next : v ≡ nextOf (k .next st) t) where
+    pub ends-last : Attempted t g st st′ trace trace′ (instant k t x st) e → t ≤ v → (f : Ending) → f ≡ finishedOf t e
+        → (endedOf trace′ st′ f ≡ whole) × Beyond trace₀ trace′ (f .going .used)
     ends-last a l f w =
-        let s = turn-last k t x g trace trace′ e (left - 1) a (not-before (k .next (g .state)) t v next l) in
+        let s = turn-last k t x g st st′ trace trace′ e (left - 1) a (not-before (k .next st) t v next l) in
         let d = beyond-on trace₀ trace trace′ (g .used) (e .going .used) (a .more) b (a .beyond) in
-        (ap (endedOf trace′) w ∙ sym s ∙ here, subst (Beyond trace₀ trace′) (sym (ap (λ (z : Ending). z .going .used) w ∙ used-as t e)) d)
+        (ap (endedOf trace′ st′) w ∙ sym s ∙ here, subst (Beyond trace₀ trace′) (sym (ap (λ (z : Ending). z .going .used) w ∙ used-as t e)) d)
 
-    module _ (y : Bag) (none : y ≡ []) (a : Attempted v g trace trace′ (instant k v y (g .state)) e) (l : v < t) where
-      pub ends-stop : (e .number ≡ 0 → ⊥) → (endedOf trace′ e ≡ whole) × Beyond trace₀ trace′ (e .going .used)
+    module _ (y : Bag) (none : y ≡ []) (a : Attempted v g st st′ trace trace′ (instant k v y st) e) (l : v < t) where
+      pub ends-stop : (e .number ≡ 0 → ⊥) → (endedOf trace′ st′ e ≡ whole) × Beyond trace₀ trace′ (e .going .used)
       ends-stop z = (
-        sym (turn-stop k t x g trace trace′ e (left - 1) v y none a (is-before (k .next (g .state)) t v next l) z) ∙ here,
+        sym (turn-stop k t x g st st′ trace trace′ e (left - 1) v y none a (is-before (k .next st) t v next l) z) ∙ here,
         beyond-on trace₀ trace trace′ (g .used) (e .going .used) (a .more) b (a .beyond),
       )
 
-      pub goes-on : e .number ≡ 0 → Beyond trace₀ trace′ (e .going .used) × (advancing k (left - 1) (length trace₀) t x (progressOf trace′ (e .going)) ≡ whole)
+      pub goes-on : e .number ≡ 0 → Beyond trace₀ trace′ (e .going .used) × (advancing k (left - 1) (length trace₀) t x (progressOf trace′ st′ (e .going)) ≡ whole)
       goes-on z = (
         beyond-on trace₀ trace trace′ (g .used) (e .going .used) (a .more) b (a .beyond),
-        ap (λ (room : ℕ). advancing k (left - 1) room t x (progressOf trace′ (e .going))) (sym (b .1))
-            ∙ sym (turn-more k t x g trace trace′ e (left - 1) v y none a (is-before (k .next (g .state)) t v next l) z) ∙ here,
+        ap (λ (room : ℕ). advancing k (left - 1) room t x (progressOf trace′ st′ (e .going))) (sym (b .1))
+            ∙ sym (turn-more k t x g st st′ trace trace′ e (left - 1) v y none a (is-before (k .next st) t v next l) z) ∙ here,
       )

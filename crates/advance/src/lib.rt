@@ -1,27 +1,29 @@
 // Advance, behind its checks: every instant due before t, then t with the bag; the numbers, the whole run and the whole trace.
 ghost use mathlib.Core.Path.{_≡_};
 ghost use mathlib.Core.Bool.{cond};
-ghost use mathlib.Core.List.{[]};
 ghost use Prim.Native.Nat.{suc, _+_, _*_, _≤_};
+ghost use lib.Dec.{ltb};
 ghost use lib.ListN.{length};
 ghost use Rattle.definition.specs.Bytes.{ok};
-ghost use Rattle.definition.specs.Limits.{maxComponents, maxMoment, maxSteps};
+ghost use Rattle.definition.specs.Limits.{maxMoment, maxSteps};
 ghost use Rattle.definition.specs.SavedRun.{runLength};
-ghost use Rattle.definition.specs.Advance.{isBefore, moment, advancing, advanceFrom};
+ghost use Rattle.definition.specs.Advance.{advancing, advanceFrom};
 ghost use Rattle.definition.specs.Engine.{toBag, advanced};
-ghost use Rattle.clock.specs.Times.{timeOf, latest};
-ghost use Rattle.run_state.specs.Held.{heldEnd};
-ghost use Rattle.instant.specs.Sim.{simOf, Lent};
+ghost use Rattle.clock.specs.Times.{latest};
+ghost use Rattle.run_state.specs.Held.{held, heldEnd};
+ghost use Rattle.model_records.specs.Values.{phasesIn};
+ghost use Rattle.pull_laws.specs.Carried.{Carried};
+ghost use Rattle.instant.specs.Sim.{simOf, Lent, Fit};
 ghost use Rattle.attempt.specs.Progress.{progressOf, Beyond};
 ghost use Rattle.advance.specs.Ends.{endedOf, finishedOf, outcomeOf};
 use attempt::Ending;
 use attempt::Going;
 use attempt::attempt;
-use clock::Due;
 use clock::Moment;
-use dues::next_due;
+use dues::next_end;
+use limits::MAX_COMPONENTS;
 use little_endian::size;
-use run_state::State;
+use table_words::TABLE_SIZE;
 
 // "Advance answers number, instants done, steps, trace bytes."
 pub struct Answer {
@@ -32,13 +34,10 @@ pub struct Answer {
 }
 
 // The due moment where it lies before t, and t otherwise.
-fn next_moment(due: Due, t: Moment) -> Moment
-    ensures { λ r. ⌜ r .0 ≡ cond (isBefore (timeOf due) (t .0)) (moment (timeOf due)) (t .0) ⌝ }
+fn next_moment(due: u64, t: Moment) -> Moment
+    ensures { λ r. ⌜ r .0 ≡ cond (ltb due (t .0)) due (t .0) ⌝ }
 {
-    let Due::At(u) = due else {
-        return t;
-    };
-    if u.0 < t.0 { u } else { t }
+    if due < t.0 { Moment(due) } else { t }
 }
 
 // "On success the open moment is t + 1."
@@ -60,37 +59,33 @@ fn finish(t: Moment, e: Ending) -> Ending
     }
 }
 
-// When a state is next due.
-fn due_of(phases: &[u8], tables: &[u16; table_words::TABLE_SIZE], st: State) -> Due
-    ensures { λ r. ⌜ timeOf r ≡ simOf (now (phases .entry)) [] (now (tables .entry)) 0 0 .next st ⌝ }
-{
-    let phase = st.phase;
-    let last = st.last;
-    next_due(phases, tables, &phase, &last)
-}
-
-// The instants of a call that has come so far. Each takes one of t + 1 turns, so that the loop ends without a word about moments.
+// The instants of a call that has come so far, on the lent state. Each takes one of t + 1 turns, so that the loop ends without a word
+// about moments.
 pub fn advance_on(
     phases: &[u8],
     rules: &[u8],
-    tables: &[u16; table_words::TABLE_SIZE],
+    tables: &[u16; TABLE_SIZE],
     n: u8,
     t: Moment,
     bag: &[u8],
     from: Going,
+    phase: &mut [u8; MAX_COMPONENTS],
+    last: &mut [u64; MAX_COMPONENTS],
+    ends: &mut [u64; MAX_COMPONENTS],
     work: &mut [u32],
     keys: &mut [u32],
     scratch: &mut [u8],
     trace: &mut [u8],
 ) -> Ending
     requires { ⌜ Lent (length (now work)) (length (now keys)) × (t .0 ≤ maxMoment) × (from .used ≤ length (now trace))
-        × (from .instants + suc (t .0) ≤ latest) × (from .steps + maxSteps * suc (t .0) ≤ latest) ⌝ }
-    ensures { λ r. ⌜ (endedOf (now (trace .exit)) r ≡ advancing (simOf (now (phases .entry)) (now (rules .entry)) (now (tables .entry)) n (length (now (work .entry))))
-        (suc (t .0)) (length (now (trace .entry))) (t .0) (toBag (now (bag .entry))) (progressOf (now (trace .entry)) from))
+        × (from .instants + suc (t .0) ≤ latest) × (from .steps + maxSteps * suc (t .0) ≤ latest) × Fit n (now tables)
+        × Carried (phasesIn (now phases)) (now tables) n (held (now phase) (now last)) (now ends) ⌝ }
+    ensures { λ r. ⌜ (endedOf (now (trace .exit)) (held (now (phase .exit)) (now (last .exit))) r ≡ advancing (simOf (now (phases .entry)) (now (rules .entry)) (now (tables .entry)) n (length (now (work .entry))))
+        (suc (t .0)) (length (now (trace .entry))) (t .0) (toBag (now (bag .entry))) (progressOf (now (trace .entry)) (held (now (phase .entry)) (now (last .entry))) from))
         × Beyond (now (trace .entry)) (now (trace .exit)) (r .going .used) ⌝ }
 {
     let mut g = from;
-    let mut due = due_of(phases, tables, g.state);
+    let mut due = next_end(tables, ends);
     let mut left = t.0 + 1;
     while 0 < left {
         let at = next_moment(due, t);
@@ -106,6 +101,9 @@ pub fn advance_on(
                     bag,
                     bag.len(),
                     g,
+                    phase,
+                    last,
+                    ends,
                     due,
                     work,
                     keys,
@@ -123,6 +121,9 @@ pub fn advance_on(
             bag,
             0,
             g,
+            phase,
+            last,
+            ends,
             due,
             work,
             keys,
@@ -144,14 +145,16 @@ pub fn advance_on(
 }
 
 // The call from an open moment and a state: what stands is written into the run buffer, and the records are at the front of the trace.
+// What the lent state holds afterwards is left open.
 pub fn advance_from(
     phases: &[u8],
     rules: &[u8],
-    tables: &[u16; table_words::TABLE_SIZE],
+    tables: &[u16; TABLE_SIZE],
     n: u8,
     run: &mut [u8],
     opening: Moment,
-    st: State,
+    phase: &mut [u8; MAX_COMPONENTS],
+    last: &mut [u64; MAX_COMPONENTS],
     t: Moment,
     bag: &[u8],
     work: &mut [u32],
@@ -159,18 +162,19 @@ pub fn advance_from(
     scratch: &mut [u8],
     trace: &mut [u8],
 ) -> Answer
-    requires { ⌜ Lent (length (now work)) (length (now keys)) × (t .0 ≤ maxMoment) × (n ≤ maxComponents) × (runLength n ≤ length (now run)) ⌝ }
+    requires { ⌜ Lent (length (now work)) (length (now keys)) × (t .0 ≤ maxMoment) × Fit n (now tables) × (runLength n ≤ length (now run)) ⌝ }
     ensures { λ r. ⌜ outcomeOf (now (run .exit)) (now (trace .exit)) r ≡ advanced (now (run .entry)) (now (trace .entry))
         (ok (heldEnd n (advanceFrom (simOf (now (phases .entry)) (now (rules .entry)) (now (tables .entry)) n (length (now (work .entry))))
-        (opening .0) st (length (now (trace .entry))) (t .0) (toBag (now (bag .entry)))))) ⌝ }
+        (opening .0) (held (now (phase .entry)) (now (last .entry))) (length (now (trace .entry))) (t .0) (toBag (now (bag .entry)))))) ⌝ }
 {
     let from = Going {
         opening,
         instants: 0,
         steps: 0,
         used: 0,
-        state: st,
     };
+    let mut ends = [0u64; MAX_COMPONENTS];
+    dues::put_ends(phases, tables, n, phase, last, &mut ends);
     let e = advance_on(
         phases,
         rules,
@@ -179,13 +183,16 @@ pub fn advance_from(
         t,
         bag,
         from,
+        phase,
+        last,
+        &mut ends,
         work,
         keys,
         scratch,
         trace,
     );
     let g = e.going;
-    saved_run::store(run, g.opening, size(n), g.state);
+    saved_run::store(run, g.opening, size(n), phase, last);
     Answer {
         number: e.number,
         instants: g.instants,

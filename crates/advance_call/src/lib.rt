@@ -11,6 +11,7 @@ ghost use Rattle.definition.specs.Engine.{advanceChecks, advance};
 ghost use Rattle.model.specs.Checked.{modelOf};
 ghost use Rattle.advance_call.specs.Answers.{advancedOf};
 use clock::Moment;
+use limits::MAX_COMPONENTS;
 use limits::MAX_MOMENT;
 use model::Checked;
 use model::Counts;
@@ -79,14 +80,11 @@ fn advance_let_in(
     ensures { λ r. ⌜ advancedOf r (now (run .exit)) (now (trace .exit)) ≡ advance (now (file .entry)) (now (run .entry)) (t .0) (now (bag .entry)) (now (trace .entry)) ⌝ }
 {
     let mut tables = [0u16; TABLE_SIZE];
-    tables::fill_tables(
-        model::components_of(file, n),
-        model::rules_of(file, n),
-        model::couplings_of(file, n),
-        &mut tables,
-    );
+    model_tables::fill(file, n, &mut tables);
     let opening = saved_run::opening_of(run);
-    let st = saved_run::load(run, count);
+    let mut phase = [0u8; MAX_COMPONENTS];
+    let mut last = [0u64; MAX_COMPONENTS];
+    saved_run::load(run, count, &mut phase, &mut last);
     let mut scratch = [0u8; SCRATCH];
     let r = advance::advance_from(
         model::phases_of(file, n),
@@ -95,7 +93,8 @@ fn advance_let_in(
         count as u8,
         run,
         opening,
-        st,
+        &mut phase,
+        &mut last,
         t,
         bag,
         work,

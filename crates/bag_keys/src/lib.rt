@@ -1,7 +1,7 @@
 // Messages put as keys into a lent buffer, one after the other: a key is the port times 65,536 and the value, and the port is that of
 // the end where the message arrives. A buffer that is full takes no more, so that nothing is asked of its length.
 ghost use mathlib.Core.Path.{_≡_};
-ghost use lib.ListN.{length, getD};
+ghost use lib.ListN.{length};
 ghost use Rattle.definition.specs.Engine.{toBag};
 ghost use Rattle.definition.specs.Model.{outputs};
 ghost use Rattle.definition.specs.Records.{toPhase};
@@ -20,13 +20,6 @@ const COUNT_AT: usize = 5;
 const SLOTS_AT: usize = 6;
 
 const SLOTS: usize = 4;
-
-// A key or a mark; past the end stand zeros.
-pub fn key_at(keys: &[u32], at: usize) -> u32
-    ensures { λ r. ⌜ r ≡ getD (now (keys .entry)) at 0 ⌝ }
-{
-    if at < keys.len() { keys[at] } else { 0 }
-}
 
 // The length of the buffer's used front is the answer.
 fn put_key(key: u32, buf: &mut [u32], at: usize) -> usize

@@ -4,3 +4,4 @@ pub mod Refusals
 pub mod Records
 pub mod Sections
 pub mod Four
+pub mod Slices

@@ -3,8 +3,7 @@
 ghost use mathlib.Core.Path.{_≡_};
 ghost use Prim.Native.Nat.{_+_, _-_, min};
 ghost use lib.Dec.{ltb, eqb};
-ghost use Rattle.definition.specs.Devs.{earlier};
-ghost use Rattle.clock.specs.Times.{timeOf, latest};
+ghost use Rattle.clock.specs.Times.{latest};
 
 // A number of ticks from the start.
 pub struct Moment(pub u64);
@@ -54,20 +53,5 @@ impl Moment {
         ensures { λ r. ⌜ r ≡ eqb (self .0) (other .0) ⌝ }
     {
         self.0 == other.0
-    }
-}
-
-impl Due {
-    // The earlier of two.
-    pub fn or_earlier(self, other: Due) -> Due
-        ensures { λ r. ⌜ timeOf r ≡ earlier (timeOf self) (timeOf other) ⌝ }
-    {
-        let Due::At(a) = self else {
-            return other;
-        };
-        let Due::At(b) = other else {
-            return self;
-        };
-        if a.0 <= b.0 { self } else { other }
     }
 }

@@ -8,11 +8,12 @@ use native.Mathlib.Omega.{arith}
 use lib.Dec.{ltb, leb, eqb}
 use lib.ListN.{getD}
 use borrow.Author.Tests.{ltb-true, ltb-false, lt-ltb, le-ltb, leb-true, eqb-false, ne-eqb, eq-eqb}
-use Rattle.definition.specs.Limits.{maxCouplings, portCount}
+use Rattle.definition.specs.Limits.{maxComponents, maxCouplings, portCount}
 use Rattle.definition.specs.Model.{Bag, Phase}
 use Rattle.pull_laws.specs.Pull.{joined, coupledOut, inputIn}
 use Rattle.pull_laws.specs.Put.{valuesOn, puts, putPorts}
-use Rattle.pull_laws.specs.Tables.{sourceAt, nextAt, firstAt, liveAt, links, chainRows, portNodes, inputNode, nodeComponent, nodePort, isRootNode, isOutput}
+use Rattle.pull_laws.specs.Tables.{sourceAt, nextAt, firstAt, liveAt, links, chainRows, portNodes, inputNode, outputNode, nodeComponent, nodePort, isRootNode, isOutput}
+use Rattle.pull_laws.specs.Ranges.{maxNodes}
 use Rattle.pull_laws.specs.TableStep.{isUp, mayCome, isOpen, openRows, sentBy, pulledBelow, pulledInto, givenBy}
 use Rattle.bag_keys.specs.Sent.{sentOn}
 use Rattle.bag_keys.proofs.Laws.{puts-append, puts-none}
@@ -152,6 +153,15 @@ module _ (ps : List Phase) (t es fs : List ℕ) where
     input-none x r = rw r
 
 -- ---- ports
+
+-- The nodes of a component that is numbered in range.
+pub input-below : (c q : ℕ) → c < maxComponents → q < portCount → inputNode c q < maxNodes
+unfolding inputNode
+input-below c q h k = omega arith
+
+pub root-below : (q : ℕ) → q < portCount → outputNode 0 q < maxNodes
+unfolding outputNode
+root-below q k = omega arith
 
 -- one port more
 pub ports-more : (values : ℕ → List ℕ) (n q : ℕ) (st : List ℕ × ℕ) → q < n

@@ -3,8 +3,9 @@
 // entered: those that a source can reach at all, and that something may reach in this step.
 ghost use mathlib.Core.Path.{_≡_};
 ghost use mathlib.Core.List.{[]};
-ghost use Prim.Native.Nat.{_+_, _*_, _%_, _/_};
-ghost use Rattle.definition.specs.Limits.{maxAncestors, portCount};
+ghost use Prim.Native.Nat.{_+_, _*_, _%_, _/_, _<_, _≤_};
+ghost use Rattle.definition.specs.Limits.{maxAncestors, maxComponents, maxCouplings, portCount};
+ghost use Rattle.pull_laws.specs.Ranges.{maxNodes, InRange};
 ghost use Rattle.definition.specs.Engine.{toBag};
 ghost use Rattle.model_records.specs.Values.{phasesIn};
 ghost use Rattle.pull_laws.specs.Put.{puts, putPorts};
@@ -16,9 +17,9 @@ ghost use Rattle.collect.specs.Turns.{pulledFrom};
 
 mod outputs;
 
-use bag_keys::key_at;
 use bag_keys::put_given;
 use limits::MAX_ANCESTORS;
+use limits::MAX_COMPONENTS;
 use limits::MAX_COUPLINGS;
 use limits::PORT_COUNT;
 use little_endian::size16;
@@ -29,7 +30,9 @@ use table_words::FIRST_AT;
 use table_words::LIVE_AT;
 use table_words::NEXT_AT;
 use table_words::SOURCE_AT;
-use table_words::word_at;
+use table_words::TABLE_SIZE;
+use table_words::mark_at;
+use table_words::word_in;
 
 const PORTS: u32 = 4;
 
@@ -54,57 +57,58 @@ fn port_of(x: u32) -> u8
 }
 
 // The link of the first coupling that ends at node x; the one after a link; and the node where a link's coupling begins.
-pub fn first_link(tables: &[u16; table_words::TABLE_SIZE], x: u32) -> u16
+pub fn first_link(tables: &[u16; TABLE_SIZE], x: u32) -> u16
+    requires { ⌜ x < maxNodes ⌝ }
     ensures { λ r. ⌜ r ≡ getD (now (tables .entry)) (firstAt + x) 0 ⌝ }
 {
-    word_at(tables, FIRST_AT + size(x))
+    word_in(tables, FIRST_AT + size(x))
 }
 
-pub fn next_link(tables: &[u16; table_words::TABLE_SIZE], link: u16) -> u16
+pub fn next_link(tables: &[u16; TABLE_SIZE], link: u16) -> u16
+    requires { ⌜ link ≤ maxCouplings ⌝ }
     ensures { λ r. ⌜ r ≡ getD (now (tables .entry)) (nextAt + link) 0 ⌝ }
 {
-    word_at(tables, NEXT_AT + size16(link))
+    word_in(tables, NEXT_AT + size16(link))
 }
 
-pub fn source_of(tables: &[u16; table_words::TABLE_SIZE], link: u16) -> u32
+pub fn source_of(tables: &[u16; TABLE_SIZE], link: u16) -> u32
+    requires { ⌜ link ≤ maxCouplings ⌝ }
     ensures { λ r. ⌜ r ≡ getD (now (tables .entry)) (sourceAt + link) 0 ⌝ }
 {
-    node(word_at(tables, SOURCE_AT + size16(link)))
+    node(word_in(tables, SOURCE_AT + size16(link)))
 }
 
 // Something may come from node y in this step.
-pub fn may_come(
-    marks: &[u32; limits::MAX_COMPONENTS],
-    reached: &[u32; limits::MAX_COMPONENTS],
-    y: u32,
-) -> bool
+pub fn may_come(marks: &[u32; MAX_COMPONENTS], reached: &[u32; MAX_COMPONENTS], y: u32) -> bool
+    requires { ⌜ y < maxNodes ⌝ }
     ensures { λ r. ⌜ r ≡ mayCome [] [] (now (marks .entry)) (now (reached .entry)) y ⌝ }
 {
     let c = size(y / PORT_NODES);
     if y % PORT_NODES < PORTS {
-        key_at(reached, c) != 0
+        mark_at(reached, c) != 0
     } else {
-        key_at(marks, c) != 0
+        mark_at(marks, c) != 0
     }
 }
 
 fn is_open(
-    tables: &[u16; table_words::TABLE_SIZE],
-    marks: &[u32; limits::MAX_COMPONENTS],
-    reached: &[u32; limits::MAX_COMPONENTS],
+    tables: &[u16; TABLE_SIZE],
+    marks: &[u32; MAX_COMPONENTS],
+    reached: &[u32; MAX_COMPONENTS],
     x: u32,
 ) -> bool
+    requires { ⌜ x < maxNodes ⌝ }
     ensures { λ r. ⌜ r ≡ isOpen [] (now (tables .entry)) (now (marks .entry)) (now (reached .entry)) x ⌝ }
 {
-    (word_at(tables, LIVE_AT + size(x)) != 0) & may_come(marks, reached, x)
+    (word_in(tables, LIVE_AT + size(x)) != 0) & may_come(marks, reached, x)
 }
 
 // What arrives at input node x, at most `depth` levels up.
 fn collect_input(
     phases: &[u8],
-    tables: &[u16; table_words::TABLE_SIZE],
-    marks: &[u32; limits::MAX_COMPONENTS],
-    reached: &[u32; limits::MAX_COMPONENTS],
+    tables: &[u16; TABLE_SIZE],
+    marks: &[u32; MAX_COMPONENTS],
+    reached: &[u32; MAX_COMPONENTS],
     given: &[u8],
     depth: usize,
     own: u8,
@@ -112,6 +116,7 @@ fn collect_input(
     buf: &mut [u32],
     at: usize,
 ) -> usize
+    requires { ⌜ (x < maxNodes) × InRange (now tables) ⌝ }
     ensures { λ r. ⌜ (now (buf .exit), r) ≡ puts own (pulledInto (phasesIn (now (phases .entry))) (now (tables .entry)) (now (marks .entry)) (now (reached .entry)) (toBag (now (given .entry))) depth x) (now (buf .entry), at) ⌝ }
 {
     if x < PORT_NODES {
@@ -150,9 +155,9 @@ fn collect_input(
 // that a call costs more than the test for an atomic: it stands here too, and only a coupled sibling is a call.
 fn collect_source(
     phases: &[u8],
-    tables: &[u16; table_words::TABLE_SIZE],
-    marks: &[u32; limits::MAX_COMPONENTS],
-    reached: &[u32; limits::MAX_COMPONENTS],
+    tables: &[u16; TABLE_SIZE],
+    marks: &[u32; MAX_COMPONENTS],
+    reached: &[u32; MAX_COMPONENTS],
     given: &[u8],
     depth: usize,
     own: u8,
@@ -160,6 +165,7 @@ fn collect_source(
     buf: &mut [u32],
     at: usize,
 ) -> usize
+    requires { ⌜ (y < maxNodes) × InRange (now tables) ⌝ }
     ensures { λ r. ⌜ (now (buf .exit), r) ≡ puts own (pulledFrom (phasesIn (now (phases .entry))) (now (tables .entry)) (now (marks .entry)) (now (reached .entry)) (toBag (now (given .entry))) depth y) (now (buf .entry), at) ⌝ }
 {
     if y % PORT_NODES < PORTS {
@@ -207,15 +213,16 @@ fn root_output(q: u8) -> u32
 // What arrives at input node x, and what leaves at output node x. Most ports are closed in most steps, which is seen here without a call.
 fn collect_arriving(
     phases: &[u8],
-    tables: &[u16; table_words::TABLE_SIZE],
-    marks: &[u32; limits::MAX_COMPONENTS],
-    reached: &[u32; limits::MAX_COMPONENTS],
+    tables: &[u16; TABLE_SIZE],
+    marks: &[u32; MAX_COMPONENTS],
+    reached: &[u32; MAX_COMPONENTS],
     given: &[u8],
     own: u8,
     x: u32,
     buf: &mut [u32],
     at: usize,
 ) -> usize
+    requires { ⌜ (x < maxNodes) × InRange (now tables) ⌝ }
     ensures { λ r. ⌜ (now (buf .exit), r) ≡ puts own (pulledInto (phasesIn (now (phases .entry))) (now (tables .entry)) (now (marks .entry)) (now (reached .entry)) (toBag (now (given .entry))) maxAncestors x) (now (buf .entry), at) ⌝ }
 {
     if (PORT_NODES <= x) & !is_open(tables, marks, reached, x) {
@@ -237,14 +244,15 @@ fn collect_arriving(
 
 fn collect_leaving(
     phases: &[u8],
-    tables: &[u16; table_words::TABLE_SIZE],
-    marks: &[u32; limits::MAX_COMPONENTS],
-    reached: &[u32; limits::MAX_COMPONENTS],
+    tables: &[u16; TABLE_SIZE],
+    marks: &[u32; MAX_COMPONENTS],
+    reached: &[u32; MAX_COMPONENTS],
     own: u8,
     x: u32,
     buf: &mut [u32],
     at: usize,
 ) -> usize
+    requires { ⌜ (x < maxNodes) × InRange (now tables) ⌝ }
     ensures { λ r. ⌜ (now (buf .exit), r) ≡ puts own (pulledBelow (phasesIn (now (phases .entry))) (now (tables .entry)) (now (marks .entry)) (now (reached .entry)) maxAncestors x) (now (buf .entry), at) ⌝ }
 {
     if !is_open(tables, marks, reached, x) {
@@ -266,16 +274,17 @@ fn collect_leaving(
 // The bag of component c, port by port; empty at once where nothing may reach c. What is given reaches the root whatever its flag.
 pub fn collect_bag(
     phases: &[u8],
-    tables: &[u16; table_words::TABLE_SIZE],
-    marks: &[u32; limits::MAX_COMPONENTS],
-    reached: &[u32; limits::MAX_COMPONENTS],
+    tables: &[u16; TABLE_SIZE],
+    marks: &[u32; MAX_COMPONENTS],
+    reached: &[u32; MAX_COMPONENTS],
     given: &[u8],
     c: u16,
     buf: &mut [u32],
 ) -> usize
+    requires { ⌜ (c < maxComponents) × InRange (now tables) ⌝ }
     ensures { λ r. ⌜ (now (buf .exit), r) ≡ putPorts (λ q. pulledInto (phasesIn (now (phases .entry))) (now (tables .entry)) (now (marks .entry)) (now (reached .entry)) (toBag (now (given .entry))) maxAncestors (inputNode c q)) portCount 0 (now (buf .entry), 0) ⌝ }
 {
-    if (c != 0) & (key_at(reached, size16(c)) == 0) {
+    if (c != 0) & (mark_at(reached, size16(c)) == 0) {
         return 0;
     }
     let mut next: usize = 0;
@@ -291,11 +300,12 @@ pub fn collect_bag(
 // The root's output bag, port by port.
 pub fn collect_root(
     phases: &[u8],
-    tables: &[u16; table_words::TABLE_SIZE],
-    marks: &[u32; limits::MAX_COMPONENTS],
-    reached: &[u32; limits::MAX_COMPONENTS],
+    tables: &[u16; TABLE_SIZE],
+    marks: &[u32; MAX_COMPONENTS],
+    reached: &[u32; MAX_COMPONENTS],
     buf: &mut [u32],
 ) -> usize
+    requires { ⌜ InRange (now tables) ⌝ }
     ensures { λ r. ⌜ (now (buf .exit), r) ≡ putPorts (λ q. pulledBelow (phasesIn (now (phases .entry))) (now (tables .entry)) (now (marks .entry)) (now (reached .entry)) maxAncestors (outputNode 0 q)) portCount 0 (now (buf .entry), 0) ⌝ }
 {
     let mut next: usize = 0;

@@ -1,6 +1,8 @@
 // Output collection, by turns: a coupled component asks its children, and a child that is coupled is asked in the same way.
 ghost use mathlib.Core.Path.{_≡_};
+ghost use Prim.Native.Nat.{_<_};
 ghost use lib.ListN.{getD};
+ghost use Rattle.pull_laws.specs.Ranges.{maxNodes, InRange};
 ghost use Rattle.model_records.specs.Values.{phasesIn};
 ghost use Rattle.pull_laws.specs.Put.{puts};
 ghost use Rattle.pull_laws.specs.Tables.{nodeComponent, nodePort, atomicNode};
@@ -14,46 +16,51 @@ use super::next_link;
 use super::port_of;
 use super::size;
 use super::source_of;
-use bag_keys::key_at;
 use bag_keys::put_sent;
+use limits::MAX_COMPONENTS;
 use limits::MAX_COUPLINGS;
 use table_words::KINDS_AT;
-use table_words::word_at;
+use table_words::TABLE_SIZE;
+use table_words::mark_at;
+use table_words::word_in;
 
 // The component of node y is an atomic.
-pub fn is_atomic(tables: &[u16; table_words::TABLE_SIZE], y: u32) -> bool
+pub fn is_atomic(tables: &[u16; TABLE_SIZE], y: u32) -> bool
+    requires { ⌜ y < maxNodes ⌝ }
     ensures { λ r. ⌜ r ≡ atomicNode (now (tables .entry)) y ⌝ }
 {
-    word_at(tables, KINDS_AT + size(y / PORT_NODES)) == 1
+    word_in(tables, KINDS_AT + size(y / PORT_NODES)) == 1
 }
 
 // What the atomic of output node y puts out there.
 pub fn put_output(
     phases: &[u8],
-    marks: &[u32; limits::MAX_COMPONENTS],
+    marks: &[u32; MAX_COMPONENTS],
     own: u8,
     y: u32,
     buf: &mut [u32],
     at: usize,
 ) -> usize
+    requires { ⌜ y < maxNodes ⌝ }
     ensures { λ r. ⌜ (now (buf .exit), r) ≡ puts own (sentOn (phasesIn (now (phases .entry))) (getD (now (marks .entry)) (nodeComponent y) 0) (nodePort y)) (now (buf .entry), at) ⌝ }
 {
-    let mark = key_at(marks, size(y / PORT_NODES));
+    let mark = mark_at(marks, size(y / PORT_NODES));
     put_sent(phases, mark, port_of(y), own, buf, at)
 }
 
 // What the coupled component of output node x puts out there, at most `depth` levels down.
 pub fn collect_coupled(
     phases: &[u8],
-    tables: &[u16; table_words::TABLE_SIZE],
-    marks: &[u32; limits::MAX_COMPONENTS],
-    reached: &[u32; limits::MAX_COMPONENTS],
+    tables: &[u16; TABLE_SIZE],
+    marks: &[u32; MAX_COMPONENTS],
+    reached: &[u32; MAX_COMPONENTS],
     depth: usize,
     own: u8,
     x: u32,
     buf: &mut [u32],
     at: usize,
 ) -> usize
+    requires { ⌜ (x < maxNodes) × InRange (now tables) ⌝ }
     ensures { λ r. ⌜ (now (buf .exit), r) ≡ puts own (pulledBelow (phasesIn (now (phases .entry))) (now (tables .entry)) (now (marks .entry)) (now (reached .entry)) depth x) (now (buf .entry), at) ⌝ }
 {
     if depth == 0 {
@@ -77,15 +84,16 @@ pub fn collect_coupled(
 // What the child of output node y puts out there.
 fn collect_child(
     phases: &[u8],
-    tables: &[u16; table_words::TABLE_SIZE],
-    marks: &[u32; limits::MAX_COMPONENTS],
-    reached: &[u32; limits::MAX_COMPONENTS],
+    tables: &[u16; TABLE_SIZE],
+    marks: &[u32; MAX_COMPONENTS],
+    reached: &[u32; MAX_COMPONENTS],
     depth: usize,
     own: u8,
     y: u32,
     buf: &mut [u32],
     at: usize,
 ) -> usize
+    requires { ⌜ (y < maxNodes) × InRange (now tables) ⌝ }
     ensures { λ r. ⌜ (now (buf .exit), r) ≡ puts own (pulledChild (phasesIn (now (phases .entry))) (now (tables .entry)) (now (marks .entry)) (now (reached .entry)) depth y) (now (buf .entry), at) ⌝ }
 {
     if is_atomic(tables, y) {

@@ -1,6 +1,7 @@
 // When an atomic is due: its last moment and its phase's advance.
 ghost use mathlib.Core.Path.{_≡_};
 ghost use Rattle.definition.specs.SavedRun.{notBefore};
+ghost use Rattle.definition.specs.Engine.{dueNumber};
 ghost use Rattle.clock.specs.Times.{timeOf};
 ghost use Rattle.due.specs.After.{dueAfter};
 use clock::Due;
@@ -32,4 +33,14 @@ pub fn not_before(moment: Moment, due: Due) -> bool
         return true;
     };
     moment.0 <= at.0
+}
+
+// The moment, or 18,446,744,073,709,551,615 for never.
+pub fn due_number(due: Due) -> u64
+    ensures { λ r. ⌜ r ≡ dueNumber (timeOf due) ⌝ }
+{
+    match due {
+        Due::At(moment) => moment.0,
+        Due::Never => 18446744073709551615,
+    }
 }

@@ -1,17 +1,17 @@
 // When something is due, by the tables of a call: an atomic by its phase and last moment, a coupled component by the least among its
-// children. "A never-due child is not imminent."
+// children. Due moments are carried beside the state, by position, as numbers: 2^64 - 1 for never, which is no moment that a run comes to.
 ghost use mathlib.Core.Path.{_≡_};
 ghost use mathlib.Core.List.{[]};
-ghost use Prim.Native.Nat.{_+_, _≤_};
-ghost use lib.ListN.{getD};
-ghost use Rattle.definition.specs.Devs.{sameTime, finite};
-ghost use Rattle.clock.specs.Times.{timeOf};
+ghost use Prim.Native.Nat.{_+_, _<_, _≤_, min};
+ghost use lib.ListN.{length, getD, set};
+ghost use Rattle.definition.specs.Limits.{maxComponents};
+ghost use Rattle.definition.specs.Engine.{dueNumber};
 ghost use Rattle.model_records.specs.Values.{phaseOf, phasesIn};
 ghost use Rattle.run_state.specs.Held.{held};
-ghost use Rattle.pull_laws.specs.Tables.{atomicAt, positionsAt};
-ghost use Rattle.pull_laws.specs.TableStep.{recordOf, phaseIn, dueAtPosition, dueBelow, tableNext};
-use clock::Due;
-use clock::Moment;
+ghost use Rattle.pull_laws.specs.Tables.{positionsAt, atomicAt};
+ghost use Rattle.pull_laws.specs.Ranges.{InRange};
+ghost use Rattle.pull_laws.specs.Carried.{Carried, endBelow, nextEnd};
+ghost use Rattle.pull_laws.specs.TableStep.{recordOf, phaseIn, dueAtPosition};
 use limits::MAX_COMPONENTS;
 use little_endian::size;
 use little_endian::size16;
@@ -23,116 +23,140 @@ use table_words::PHASES_AT;
 use table_words::POSITIONS_AT;
 use table_words::SIBLING_AT;
 use table_words::TABLE_SIZE;
-use table_words::word_at;
-
-// Row i of a region of the tables that begins at `at`.
-pub fn row_word(tables: &[u16; TABLE_SIZE], at: usize, i: u16) -> u16
-    requires { ⌜ at ≤ 65535 ⌝ }
-    ensures { λ r. ⌜ r ≡ getD (now (tables .entry)) (at + i) 0 ⌝ }
-{
-    word_at(tables, at + size16(i))
-}
+use table_words::row_in;
 
 // The number of the record of phase p of component c.
 pub fn record_of(tables: &[u16; TABLE_SIZE], c: u16, p: u8) -> usize
+    requires { ⌜ c < maxComponents ⌝ }
     ensures { λ r. ⌜ r ≡ recordOf [] (now (tables .entry)) c p ⌝ }
 {
-    size16(row_word(tables, PHASES_AT, c)) + size(p)
+    size16(row_in(tables, PHASES_AT, c)) + size(p)
 }
 
 pub fn phase_in(phases: &[u8], tables: &[u16; TABLE_SIZE], c: u16, p: u8) -> Phase
+    requires { ⌜ c < maxComponents ⌝ }
     ensures { λ r. ⌜ phaseOf r ≡ phaseIn (phasesIn (now (phases .entry))) (now (tables .entry)) c p ⌝ }
 {
     model_records::phase_at(phases, record_of(tables, c, p))
 }
 
+// ---- due moments by position
+
+// An array tells its length where it is lent as a slice. For the proofs alone: nothing is run.
+pub fn whole(ends: &[u64; MAX_COMPONENTS])
+    ensures { λ _. ⌜ length (now (ends .entry)) ≡ maxComponents ⌝ }
+{
+    let _all: &[u64] = ends;
+}
+
 // When the atomic at a position is due.
-pub fn due_at(
+fn end_at(
     phases: &[u8],
     tables: &[u16; TABLE_SIZE],
     phase: &[u8; MAX_COMPONENTS],
     last: &[u64; MAX_COMPONENTS],
-    i: u16,
-) -> Due
-    ensures { λ r. ⌜ timeOf r ≡ dueAtPosition (phasesIn (now (phases .entry))) (now (tables .entry)) (held (now (phase .entry)) (now (last .entry))) i ⌝ }
+    i: u8,
+) -> u64
+    requires { ⌜ (i < maxComponents) × InRange (now tables) ⌝ }
+    ensures { λ r. ⌜ r ≡ dueNumber (dueAtPosition (phasesIn (now (phases .entry))) (now (tables .entry)) (held (now (phase .entry)) (now (last .entry))) i) ⌝ }
 {
-    let at = size16(i);
-    let c = row_word(tables, NUMBERS_AT, i);
+    let at = size(i);
+    let c = row_in(tables, NUMBERS_AT, i as u16);
     let own = phase_in(phases, tables, c, run_state::phase_at(phase, at));
-    due::due_after(run_state::last_at(last, at), own.advance)
+    due::due_number(due::due_after(run_state::last_at(last, at), own.advance))
 }
 
-// The due moment has come.
-pub fn is_now(due: Due, now_at: Moment) -> bool
-    ensures { λ r. ⌜ r ≡ sameTime (timeOf due) (finite («now_at» .0)) ⌝ }
+// The due moment of the atomic at a position is carried anew.
+pub fn put_end(
+    phases: &[u8],
+    tables: &[u16; TABLE_SIZE],
+    phase: &[u8; MAX_COMPONENTS],
+    last: &[u64; MAX_COMPONENTS],
+    i: u8,
+    ends: &mut [u64; MAX_COMPONENTS],
+)
+    requires { ⌜ (i < maxComponents) × InRange (now tables) ⌝ }
+    ensures { λ _. ⌜ now (ends .exit) ≡ set (now (ends .entry)) i (dueNumber (dueAtPosition (phasesIn (now (phases .entry))) (now (tables .entry)) (held (now (phase .entry)) (now (last .entry))) i)) ⌝ }
 {
-    let Due::At(at) = due else {
-        return false;
-    };
-    at.0 == now_at.0
+    let at = size(i);
+    ends[at] = end_at(phases, tables, phase, last, i);
+}
+
+// The due moments of n atomics.
+pub fn put_ends(
+    phases: &[u8],
+    tables: &[u16; TABLE_SIZE],
+    n: u8,
+    phase: &[u8; MAX_COMPONENTS],
+    last: &[u64; MAX_COMPONENTS],
+    ends: &mut [u64; MAX_COMPONENTS],
+)
+    requires { ⌜ (n ≤ maxComponents) × InRange (now tables) ⌝ }
+    ensures { λ _. ⌜ Carried (phasesIn (now (phases .entry))) (now (tables .entry)) n (held (now (phase .entry)) (now (last .entry))) (now (ends .exit)) ⌝ }
+{
+    whole(ends);
+    let mut i: u8 = 0;
+    while i < n {
+        put_end(phases, tables, phase, last, i, ends);
+        i = i + 1;
+    }
+}
+
+// ---- the least of them over the component tree
+
+// The latest number stands for never.
+const NEVER: u64 = 18446744073709551615;
+
+fn lesser(a: u64, b: u64) -> u64
+    ensures { λ r. ⌜ r ≡ min a b ⌝ }
+{
+    if a <= b { a } else { b }
 }
 
 fn is_atomic(tables: &[u16; TABLE_SIZE], c: u16) -> bool
+    requires { ⌜ c < maxComponents ⌝ }
     ensures { λ r. ⌜ r ≡ atomicAt (now (tables .entry)) c ⌝ }
 {
-    row_word(tables, KINDS_AT, c) == 1
+    row_in(tables, KINDS_AT, c) == 1
 }
 
 // When the atomic c is due.
-fn due_of(
-    phases: &[u8],
-    tables: &[u16; TABLE_SIZE],
-    phase: &[u8; MAX_COMPONENTS],
-    last: &[u64; MAX_COMPONENTS],
-    c: u16,
-) -> Due
-    ensures { λ r. ⌜ timeOf r ≡ dueAtPosition (phasesIn (now (phases .entry))) (now (tables .entry)) (held (now (phase .entry)) (now (last .entry))) (getD (now (tables .entry)) (positionsAt + c) 0) ⌝ }
+fn end_of(tables: &[u16; TABLE_SIZE], ends: &[u64; MAX_COMPONENTS], c: u16) -> u64
+    requires { ⌜ (c < maxComponents) × InRange (now tables) ⌝ }
+    ensures { λ r. ⌜ r ≡ getD (now (ends .entry)) (getD (now (tables .entry)) (positionsAt + c) 0) 0 ⌝ }
 {
-    let i = row_word(tables, POSITIONS_AT, c);
-    due_at(phases, tables, phase, last, i)
+    let at = size16(row_in(tables, POSITIONS_AT, c));
+    ends[at]
 }
 
-// The earliest due moment of component c, at most `levels` components down. An atomic child is looked up in place: a call for each would
-// cost more than the look-up.
-fn due_below(
-    phases: &[u8],
-    tables: &[u16; TABLE_SIZE],
-    phase: &[u8; MAX_COMPONENTS],
-    last: &[u64; MAX_COMPONENTS],
-    levels: usize,
-    c: u16,
-) -> Due
-    ensures { λ r. ⌜ timeOf r ≡ dueBelow (phasesIn (now (phases .entry))) (now (tables .entry)) (held (now (phase .entry)) (now (last .entry))) levels c ⌝ }
+// "A coupled component's earliest due moment is the least among its children": children are numbered above their parent, so the remaining
+// component numbers fall. An atomic child is looked up in place: a call for each would cost more than the look-up.
+fn end_below(tables: &[u16; TABLE_SIZE], ends: &[u64; MAX_COMPONENTS], c: u16) -> u64
+    requires { ⌜ (c < maxComponents) × InRange (now tables) ⌝ }
+    ensures { λ r. ⌜ r ≡ endBelow (now (tables .entry)) (now (ends .entry)) maxComponents c ⌝ }
 {
-    if levels == 0 {
-        return Due::Never;
-    }
     if is_atomic(tables, c) {
-        return due_of(phases, tables, phase, last, c);
+        return end_of(tables, ends, c);
     }
-    let mut least = Due::Never;
+    let mut least = NEVER;
     let mut left = MAX_COMPONENTS;
-    let mut d = row_word(tables, CHILD_AT, c);
+    let mut d = row_in(tables, CHILD_AT, c);
     while (0 < left) & (0 < d) {
-        if (1 < levels) & is_atomic(tables, d) {
-            least = least.or_earlier(due_of(phases, tables, phase, last, d));
+        if is_atomic(tables, d) {
+            least = lesser(least, end_of(tables, ends, d));
         } else {
-            least = least.or_earlier(due_below(phases, tables, phase, last, levels - 1, d));
+            least = lesser(least, end_below(tables, ends, d));
         }
-        d = row_word(tables, SIBLING_AT, d);
+        d = row_in(tables, SIBLING_AT, d);
         left = left - 1;
     }
     least
 }
 
 // The whole model's next due moment: the root's.
-pub fn next_due(
-    phases: &[u8],
-    tables: &[u16; TABLE_SIZE],
-    phase: &[u8; MAX_COMPONENTS],
-    last: &[u64; MAX_COMPONENTS],
-) -> Due
-    ensures { λ r. ⌜ timeOf r ≡ tableNext (phasesIn (now (phases .entry))) (now (tables .entry)) (held (now (phase .entry)) (now (last .entry))) ⌝ }
+pub fn next_end(tables: &[u16; TABLE_SIZE], ends: &[u64; MAX_COMPONENTS]) -> u64
+    requires { ⌜ InRange (now tables) ⌝ }
+    ensures { λ r. ⌜ r ≡ nextEnd (now (tables .entry)) (now (ends .entry)) ⌝ }
 {
-    due_below(phases, tables, phase, last, MAX_COMPONENTS, 0)
+    end_below(tables, ends, 0)
 }

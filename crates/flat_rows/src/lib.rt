@@ -2,7 +2,9 @@
 // sorted. So a route is walked once, and ways that lead nowhere are not entered.
 ghost use mathlib.Core.Path.{_≡_};
 ghost use mathlib.Core.List.{map};
-ghost use Prim.Native.Nat.{_+_, _≤_};
+ghost use Prim.Native.Nat.{_+_, _<_, _≤_};
+ghost use Rattle.definition.specs.Limits.{maxComponents};
+ghost use Rattle.pull_laws.specs.Ranges.{InRange};
 ghost use lib.Dec.{leb};
 ghost use lib.ListN.{length, take};
 ghost use lib.Seq.{sets};
@@ -18,9 +20,9 @@ use flat_probe::put_probes;
 use flat_ranks::rank_of;
 use limits::MAX_COMPONENTS;
 use limits::PHASE_SIZE;
-use little_endian::size;
 use table_words::NUMBERS_AT;
-use table_words::word_at;
+use table_words::TABLE_SIZE;
+use table_words::row_in;
 
 const PROBE_BYTES: usize = MAX_COMPONENTS * PHASE_SIZE;
 
@@ -38,7 +40,7 @@ fn row_number(source: u32, from: u32, target: u32, to: u32) -> u32
 }
 
 // The row of a message that came to an end.
-fn row_of(tables: &[u16; table_words::TABLE_SIZE], end: u32, key: u32) -> u32
+fn row_of(tables: &[u16; TABLE_SIZE], end: u32, key: u32) -> u32
     ensures { λ r. ⌜ r ≡ rowOf (now (tables .entry)) end key ⌝ }
 {
     let node = key % 65536;
@@ -48,7 +50,7 @@ fn row_of(tables: &[u16; table_words::TABLE_SIZE], end: u32, key: u32) -> u32
 
 // The rows of the messages of one end, and where the next ones go.
 fn put_rows(
-    tables: &[u16; table_words::TABLE_SIZE],
+    tables: &[u16; TABLE_SIZE],
     end: u32,
     keys: &[u32],
     count: usize,
@@ -69,12 +71,12 @@ fn put_rows(
 // The rows that end at the root.
 fn add_root(
     phases: &[u8],
-    tables: &[u16; table_words::TABLE_SIZE],
-    marks: &[u32; limits::MAX_COMPONENTS],
+    tables: &[u16; TABLE_SIZE],
+    marks: &[u32; MAX_COMPONENTS],
     keys: &mut [u32],
     rows: &mut [u32],
 ) -> usize
-    requires { ⌜ (length (rootKeys (phasesIn (now phases)) (now tables) (now marks) (now marks)) ≤ length (now keys))
+    requires { ⌜ InRange (now tables) × (length (rootKeys (phasesIn (now phases)) (now tables) (now marks) (now marks)) ≤ length (now keys))
         × (length (rootKeys (phasesIn (now phases)) (now tables) (now marks) (now marks)) ≤ length (now rows)) ⌝ }
     ensures { λ r. ⌜ (r ≡ length (rootKeys (phasesIn (now (phases .entry))) (now (tables .entry)) (now (marks .entry)) (now (marks .entry))))
         × (now (rows .exit) ≡ sets (now (rows .entry)) 0 (map (rowOf (now (tables .entry)) 0) (rootKeys (phasesIn (now (phases .entry))) (now (tables .entry)) (now (marks .entry)) (now (marks .entry))))) ⌝ }
@@ -86,20 +88,20 @@ fn add_root(
 // The rows that end at the atomic at position i.
 fn add_atomic(
     phases: &[u8],
-    tables: &[u16; table_words::TABLE_SIZE],
-    marks: &[u32; limits::MAX_COMPONENTS],
+    tables: &[u16; TABLE_SIZE],
+    marks: &[u32; MAX_COMPONENTS],
     given: &[u8],
     i: u8,
     keys: &mut [u32],
     rows: &mut [u32],
     at: usize,
 ) -> usize
-    requires { ⌜ (length (rowsAtPosition (phasesIn (now phases)) (now tables) (now marks) (toBag (now given)) i) ≤ length (now keys))
+    requires { ⌜ (i < maxComponents) × InRange (now tables) × (length (rowsAtPosition (phasesIn (now phases)) (now tables) (now marks) (toBag (now given)) i) ≤ length (now keys))
         × (at + length (rowsAtPosition (phasesIn (now phases)) (now tables) (now marks) (toBag (now given)) i) ≤ length (now rows)) ⌝ }
     ensures { λ r. ⌜ (r ≡ at + length (rowsAtPosition (phasesIn (now (phases .entry))) (now (tables .entry)) (now (marks .entry)) (toBag (now (given .entry))) i))
         × (now (rows .exit) ≡ sets (now (rows .entry)) at (rowsAtPosition (phasesIn (now (phases .entry))) (now (tables .entry)) (now (marks .entry)) (toBag (now (given .entry))) i)) ⌝ }
 {
-    let c = word_at(tables, NUMBERS_AT + size(i));
+    let c = row_in(tables, NUMBERS_AT, i as u16);
     let count = collect_bag(phases, tables, marks, marks, given, c, keys);
     put_rows(tables, wide(i) + 1, keys, count, rows, at)
 }
@@ -107,14 +109,14 @@ fn add_atomic(
 // The rows of all ends.
 fn add_all(
     phases: &[u8],
-    tables: &[u16; table_words::TABLE_SIZE],
-    marks: &[u32; limits::MAX_COMPONENTS],
+    tables: &[u16; TABLE_SIZE],
+    marks: &[u32; MAX_COMPONENTS],
     given: &[u8],
     n: u8,
     keys: &mut [u32],
     rows: &mut [u32],
 ) -> usize
-    requires { ⌜ (length (rowsOf (phasesIn (now phases)) (now tables) (now marks) (toBag (now given)) n) ≤ length (now keys))
+    requires { ⌜ (n ≤ maxComponents) × InRange (now tables) × (length (rowsOf (phasesIn (now phases)) (now tables) (now marks) (toBag (now given)) n) ≤ length (now keys))
         × (length (rowsOf (phasesIn (now phases)) (now tables) (now marks) (toBag (now given)) n) ≤ length (now rows)) ⌝ }
     ensures { λ r. ⌜ (r ≡ length (rowsOf (phasesIn (now (phases .entry))) (now (tables .entry)) (now (marks .entry)) (toBag (now (given .entry))) n))
         × (take r (now (rows .exit)) ≡ rowsOf (phasesIn (now (phases .entry))) (now (tables .entry)) (now (marks .entry)) (toBag (now (given .entry))) n) ⌝ }
@@ -129,13 +131,8 @@ fn add_all(
 }
 
 // The rows of the flat form of a model with n atomics, sorted, at the front of `rows`; what the scratch holds afterwards is left open.
-pub fn flat_rows(
-    tables: &[u16; table_words::TABLE_SIZE],
-    n: u8,
-    rows: &mut [u32],
-    scratch: &mut [u32],
-) -> usize
-    requires { ⌜ (length (probeRows (now tables) n) ≤ length (now rows)) × (length (probeRows (now tables) n) ≤ length (now scratch)) ⌝ }
+pub fn flat_rows(tables: &[u16; TABLE_SIZE], n: u8, rows: &mut [u32], scratch: &mut [u32]) -> usize
+    requires { ⌜ (n ≤ maxComponents) × InRange (now tables) × (length (probeRows (now tables) n) ≤ length (now rows)) × (length (probeRows (now tables) n) ≤ length (now scratch)) ⌝ }
     ensures { λ r. ⌜ (r ≡ length (probeRows (now (tables .entry)) n)) × (take r (now (rows .exit)) ≡ sortBy leb (probeRows (now (tables .entry)) n)) ⌝ }
 {
     let mut phases: [u8; PROBE_BYTES] = [0; PROBE_BYTES];

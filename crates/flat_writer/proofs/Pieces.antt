@@ -5,9 +5,8 @@ use mathlib.Core.List.{List, [], _∷_, _++_, map}
 use native.Mathlib.Omega.{arith}
 use lib.ListN.{length, getD, take, drop, length-take, length-drop, drop-of-length-le}
 use lib.Seq.{sets, drop-cons, take-all, take-add, drop-drop}
-use borrow.Author.Tests.{lt-ltb}
 use Rattle.definition.specs.Lists.{concat, sum}
-use Rattle.definition.specs.Bytes.{Bytes, AllBytes, none, more, number, bytesOf, chunks}
+use Rattle.definition.specs.Bytes.{Bytes, AllBytes, number, bytesOf, chunks}
 use Rattle.definition.specs.Limits.{componentSize, phaseSize, ruleSize, couplingSize}
 use Rattle.definition.specs.Model.{Component, Phase, Rule, Coupling, slots}
 use Rattle.definition.specs.Records.{componentBytes, couplingBytes, messageAt, messageBytes, toPhase, phaseBytes, toRule, ruleBytes}
@@ -15,11 +14,6 @@ use Rattle.model_laws.proofs.Codec.{take-bytes, drop-bytes, number-written}
 use Rattle.store_laws.proofs.Stores.{sets-append}
 use Rattle.flat_ranks.specs.Ranks.{rankOf}
 use Rattle.flat_writer.specs.Written.{ruleBy}
-
--- what a slice of bytes is known to hold
-pub slice-bytes : (s : Bytes) → ((i : ℕ) → getD s i 0 < 256) → AllBytes s
-slice-bytes [] h = none
-slice-bytes (b ∷ s) h = more (lt-ltb b 256 (h 0)) (slice-bytes s (λ i. h (suc i)))
 
 -- ---- sizes
 

@@ -1,6 +1,6 @@
 -- The call flatten, from the check of the model to the whole buffer: the tables hold for the accepted model, so that the rows are its routes and
 -- what is written is its flat form. Assumes nothing.
-use mathlib.Core.Path.{_≡_, refl, sym, ap, _∙_, subst}
+use mathlib.Core.Path.{_≡_, refl, sym, ap, _∙_}
 use mathlib.Core.List.{List}
 use Prim.Native.Nat.{ℕ, _+_, _*_, _≤_, _<_}
 use native.Mathlib.Omega.{arith}
@@ -8,27 +8,22 @@ use lib.Dec.{leb}
 use lib.ListN.{length, getD}
 use Rattle.definition.specs.Lists.{sortBy}
 use Rattle.definition.specs.Bytes.{Bytes, ok, refused, stored}
-use Rattle.definition.specs.Limits.{maxComponents, maxPhases, maxRules, maxCouplings, maxRoutes}
+use Rattle.definition.specs.Limits.{maxComponents, maxPhases, maxRules, maxRoutes}
 use Rattle.definition.specs.Model.{atomics}
 use Rattle.definition.specs.File.{modelBytes}
 use Rattle.definition.specs.Routes.{accepted}
 use Rattle.definition.specs.Engine.{wrote}
 use Rattle.definition.specs.Flatten.{flat, flatten}
-use Rattle.model_laws.proofs.Sound.{Accepted}
-use Rattle.model_laws.proofs.Reading.{accepted-sound}
-use Rattle.model_records.specs.Values.{componentsIn, phasesIn, rulesIn, couplingsIn, modelIn}
-use Rattle.model.specs.Checked.{componentsPart, phasesPart, rulesPart, couplingsPart, modelOf}
+use Rattle.model_records.specs.Values.{componentsIn, phasesIn, rulesIn, modelIn}
+use Rattle.model.specs.Checked.{componentsPart, phasesPart, rulesPart, modelOf}
 use Rattle.model.specs.declared.Counts.{Counts}
-use Rattle.pull_laws.specs.Tables.{tableSize}
-use Rattle.pull_laws.specs.Tabled.{Tabled}
-use Rattle.tables.specs.Filled.{filled}
-use Rattle.tables.proofs.Tables.{tables-hold}
-use Rattle.saved_run.proofs.Fitting.{atomics-most}
+use Rattle.pull_laws.specs.Ranges.{InRange}
+use Rattle.pull_laws.specs.TablesOf.{TablesOf}
+use Rattle.model_tables.proofs.Accepted.{fine, few-records, few-atomics}
 use Rattle.run_calls.proofs.Starts.{wrote-short, wrote-whole}
 use Rattle.flat_rows.specs.Rows.{probeRows}
 use Rattle.flat_rows.proofs.ProbeRows.{rows-sorted, rows-many}
 use Rattle.flat_writer.specs.Written.{flatBy}
-use Rattle.flat_writer.proofs.Pieces.{slice-bytes}
 use Rattle.flat_writer.proofs.Sections.{flat-length}
 use Rattle.flat_writer.proofs.FlatBy.{flat-by}
 use Rattle.sort.proofs.Merging.{length-sort}
@@ -41,55 +36,40 @@ pub at-most : {a b c : ℕ} → a ≤ b → c ≡ b → a ≤ c
 at-most l e = omega arith
 
 module _ (file : Bytes) (n : Counts) (bytes : (i : ℕ) → getD file i 0 < 256) (e : ok (modelOf file n) ≡ accepted file) where
-  fine : Accepted (modelOf file n)
-  fine = accepted-sound file (modelOf file n) (slice-bytes file bytes) (sym e)
-
-  pub few-components : length (componentsIn (componentsPart file n)) ≤ maxComponents
-  unfolding modelOf modelIn
-  few-components = fine .sound .components .few
-
   pub few-phases : length (phasesIn (phasesPart file n)) ≤ maxPhases
   unfolding modelOf modelIn
-  few-phases = fine .sound .phases .few
+  few-phases = fine file n bytes e .sound .phases .few
 
   pub few-rules : length (rulesIn (rulesPart file n)) ≤ maxRules
-  unfolding modelOf modelIn
-  few-rules = fine .sound .rules .few
+  few-rules = few-records file n bytes e .1
 
-  pub few-couplings : length (couplingsIn (couplingsPart file n)) ≤ maxCouplings
+  pub few-own : length (atomics (componentsIn (componentsPart file n))) ≤ maxComponents
   unfolding modelOf modelIn
-  few-couplings = fine .sound .couplings .few
-
-  pub few-atomics : length (atomics (componentsIn (componentsPart file n))) ≤ maxComponents
-  few-atomics = omega (arith, atomics-most (componentsIn (componentsPart file n)), few-components)
+  few-own = few-atomics file n bytes e
 
   accepted-is : (buffer : Bytes) → wrote buffer (ok (modelBytes (flat (modelOf file n)))) ≡ flatten file buffer
   unfolding flatten
   accepted-is buffer = rw (← e)
 
-  -- the tables as they were lent, and as they were filled; the number of atomics
-  module _ (lent t : List ℕ) (long : length lent ≡ tableSize)
-      (f : t ≡ filled (componentsIn (componentsPart file n)) (rulesIn (rulesPart file n)) (couplingsIn (couplingsPart file n)) lent)
-      (k : ℕ) (c : k ≡ length (atomics (componentsIn (componentsPart file n)))) where
-    tabled : Tabled (modelOf file n) t
-    tabled = subst (Tabled (modelOf file n)) (sym f) hold
-      where
-        hold : Tabled (modelOf file n) (filled (componentsIn (componentsPart file n)) (rulesIn (rulesPart file n)) (couplingsIn (couplingsPart file n)) lent)
-        hold = unfold modelOf modelIn in (tables-hold (modelOf file n) (fine .sound) lent long)
-
+  -- the tables of the model, and the number of its atomics
+  module _ (t : List ℕ) (h : TablesOf (modelOf file n) t) (k : ℕ) (c : k ≡ length (atomics (componentsIn (componentsPart file n)))) where
     count-is : k ≡ length (atomics (modelOf file n .components))
     unfolding modelOf modelIn
     count-is = c
 
     pub rows-fit : length (probeRows t k) ≤ maxRoutes
-    rows-fit = omega (arith, ap (λ k. length (probeRows t k)) count-is, rows-many (modelOf file n) (fine .sound) t tabled, fine .few-routes)
+    rows-fit = omega (arith, ap (λ k. length (probeRows t k)) count-is, rows-many (modelOf file n) (fine file n bytes e .sound) t (h .tabled), fine file n bytes e .few-routes)
+
+    -- the rows fit their buffers, and the tables are in range
+    pub probing : (rows scratch : ℕ) → rows ≡ maxRoutes → scratch ≡ maxRoutes → (k ≤ maxComponents) × InRange t × (length (probeRows t k) ≤ rows) × (length (probeRows t k) ≤ scratch)
+    probing rows scratch p q = (omega (arith, c, few-own), h .in-range, omega (arith, rows-fit), omega (arith, rows-fit))
 
     -- what is written is the flat form
     flat-is : flatBy (componentsIn (componentsPart file n)) (phasesIn (phasesPart file n)) (rulesIn (rulesPart file n)) t k (sortBy leb (probeRows t k)) ≡ flat (modelOf file n)
     flat-is =
         parts
         ∙ ap (λ k. flatBy (modelOf file n .components) (modelOf file n .phases) (modelOf file n .rules) t k (sortBy leb (probeRows t k))) count-is
-        ∙ flat-by (modelOf file n) (fine .sound) t tabled (sortBy leb (probeRows t (length (atomics (modelOf file n .components))))) (rows-sorted (modelOf file n) (fine .sound) t tabled)
+        ∙ flat-by (modelOf file n) (fine file n bytes e .sound) t (h .tabled) (sortBy leb (probeRows t (length (atomics (modelOf file n .components))))) (rows-sorted (modelOf file n) (fine file n bytes e .sound) t (h .tabled))
       where
         parts : flatBy (componentsIn (componentsPart file n)) (phasesIn (phasesPart file n)) (rulesIn (rulesPart file n)) t k (sortBy leb (probeRows t k))
             ≡ flatBy (modelOf file n .components) (modelOf file n .phases) (modelOf file n .rules) t k (sortBy leb (probeRows t k))

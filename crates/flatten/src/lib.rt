@@ -52,7 +52,7 @@ fn flatten_accepted(
     let phases = model::phases_of(file, n);
     let rules = model::rules_of(file, n);
     let atomics = small(saved_run::atomic_count(components));
-    tables::fill_tables(components, rules, model::couplings_of(file, n), tables);
+    model_tables::fill(file, n, tables);
     let count = flat_rows::flat_rows(tables, atomics, rows, scratch);
     let size = flat_writer::flat_size(phases, rules, atomics, count);
     if out.len() < size {

@@ -6,25 +6,30 @@ use mathlib.Core.Bool.{Bool, true, false, _&&_, _||_, not}
 use Prim.Native.Nat.{ℕ, zero, suc, _+_, _-_, _≤_, _<_}
 use native.Mathlib.Omega.{arith}
 use lib.ListN.{length, length-append, length-map, length-take, take}
-use lib.Dec.{ltb, leb}
+use lib.Dec.{ltb, leb, eqb}
 use lib.Seq.{sets}
 use borrow.Author.Tests.{ltb-false, le-ltb, lt-ltb, le-leb, leb-true, leb-false}
-use Rattle.definition.specs.Lists.{concat, all, sortBy}
+use Rattle.definition.specs.Lists.{concat, all, isEmpty, sortBy}
 use Rattle.definition.specs.Bytes.{Bytes}
 use Rattle.definition.specs.Limits.{maxSteps, maxRootBag}
 use Rattle.definition.specs.Model.{Bag, messageLe}
 use Rattle.definition.specs.Step.{Stepped, Simulator}
-use Rattle.definition.specs.Instant.{Instant, done, jammed, stepped, goesOn, stepsAt, instant, over, traceBytes, recordsFrom, records}
+use Rattle.definition.specs.Instant.{Instant, done, jammed, stepped, isDue, goesOn, stepsAt, instant, over, traceBytes, recordsFrom, records}
 use Rattle.definition.specs.Engine.{toBag}
 use Rattle.laws.proofs.Sorting.{clash}
-use Rattle.clock.specs.declared.Due.{Due}
+use Rattle.clock.specs.Times.{latest}
+use Rattle.model_records.specs.Values.{phasesIn}
+use Rattle.pull_laws.specs.Carried.{Carried, nextEnd}
+use Rattle.pull_laws.specs.TableStep.{tableNext}
+use Rattle.pull_laws.proofs.Carried.{now-number, next-carried}
 use Rattle.run_state.specs.declared.State.{State}
 use Rattle.laws.specs.Keys.{messageOf}
 use Rattle.trace_records.specs.Written.{stepBytes, stepSize, stepPut}
 use Rattle.trace_records.proofs.Records.{length-step}
 use Rattle.store_laws.proofs.Stores.{sets-append}
-use Rattle.instant.specs.Sim.{Lent}
+use Rattle.instant.specs.Sim.{simOf, Lent, Fit, Ready}
 use Rattle.instant.specs.Verdicts.{ranOf, Judged}
+use Rattle.instant.specs.declared.Verdict.{Verdict}
 use Rattle.instant.specs.declared.Verdict.the-variants as VV
 use Rattle.instant.proofs.Steps.{bag-none, length-sort, records-snoc}
 
@@ -169,33 +174,56 @@ module _ {S : Type 0} (k : Simulator S) (now : ℕ) (x : Bag) (s : S) where
       let z : maxSteps - n ≡ suc (maxSteps - (n + 1)) = omega arith in
       rw (z, bag-none b, f) (one-step (maxSteps - (n + 1)) e)
 
+-- ---- the test of the loop, and the due moments
+
+-- The next due moment is at `now` where its number is.
+pub goes-as : (phases rules tables : List ℕ) (n room now : ℕ) (x : Bag) (st : State) (ends : List ℕ) (due : ℕ) → now < latest → Ready phases tables n st ends due
+    → goesOn (simOf phases rules tables n room) now x st ≡ (eqb due now || not (isEmpty x))
+unfolding goesOn isDue
+goes-as phases rules tables n room now x st ends due l r =
+    ap (λ b. b || not (isEmpty x)) (sym (now-number (tableNext (phasesIn phases) tables st) now l) ∙ ap (λ d. eqb d now) (sym (r .next)))
+
+pub ready-next : (phases tables : List ℕ) (n : ℕ) (st : State) (ends : List ℕ) (due : ℕ) → Fit n tables → Carried (phasesIn phases) tables n st ends → due ≡ nextEnd tables ends
+    → Ready phases tables n st ends due
+ready-next phases tables n st ends due f h e = record { carried = h; next = e ∙ next-carried (phasesIn phases) tables n st ends h (f .in-range) (f .seated) }
+
 -- ---- the verdicts
 
-module _ {whole rest : Instant State} {now from : ℕ} {out₀ out : Bytes} {k used : ℕ} {flag : Bool} (sofar : Sofar whole rest now from out₀ out k used flag) (st : State) (due : Due) where
-  pub judged-jams : rest ≡ jammed → Judged now from st out₀ out whole (record { verdict = VV.Jammed; steps = 0; used = from; due = due; state = st })
+-- Something is said of an instant that stands, and of no other.
+abbrev Standing : Verdict → Type 0
+Standing VV.Jammed = ⊥
+Standing VV.Over = ⊥
+Standing VV.Stands = Unit {0}
+
+pub not-jams : VV.Jammed ≡ VV.Stands → ⊥
+not-jams e = subst Standing (sym e) tt
+
+pub not-over : VV.Over ≡ VV.Stands → ⊥
+not-over e = subst Standing (sym e) tt
+
+module _ {whole rest : Instant State} {now from : ℕ} {out₀ out : Bytes} {k used : ℕ} {flag : Bool} (sofar : Sofar whole rest now from out₀ out k used flag) (st : State) (due : ℕ) where
+  pub judged-jams : rest ≡ jammed → Judged now from out₀ out st whole (record { verdict = VV.Jammed; steps = 0; used = from; due = due })
   unfolding ranOf
   judged-jams e =
-      subst (λ (i : Instant State). Judged now from st out₀ out i (record { verdict = VV.Jammed; steps = 0; used = from; due = due; state = st }))
-      (sym (sofar .split ∙ ap (after (sofar .bags)) e ∙ after-jammed (sofar .bags))) (refl, omega arith, tt)
+      subst (λ (i : Instant State). Judged now from out₀ out st i (record { verdict = VV.Jammed; steps = 0; used = from; due = due }))
+      (sym (sofar .split ∙ ap (after (sofar .bags)) e ∙ after-jammed (sofar .bags))) (refl, omega arith, tt, tt)
 
-  ends : (s : State) → rest ≡ done [] s → done (sofar .bags) s ≡ whole
-  ends s e = sym (sofar .split ∙ ap (after (sofar .bags)) e ∙ after-done (sofar .bags) s)
+  ends : rest ≡ done [] st → done (sofar .bags) st ≡ whole
+  ends e = sym (sofar .split ∙ ap (after (sofar .bags)) e ∙ after-done (sofar .bags) st)
 
-  pub judged-over : (s : State) → rest ≡ done [] s → flag ≡ true
-      → Judged now from st out₀ out whole (record { verdict = VV.Over; steps = 0; used = from; due = due; state = st })
+  pub judged-over : rest ≡ done [] st → flag ≡ true → Judged now from out₀ out st whole (record { verdict = VV.Over; steps = 0; used = from; due = due })
   unfolding ranOf
-  judged-over s e f =
+  judged-over e f =
       let o : over (sofar .bags) ≡ true = sym (sofar .overs) ∙ f in
-      subst (λ (i : Instant State). Judged now from st out₀ out i (record { verdict = VV.Over; steps = 0; used = from; due = due; state = st })) (ends s e)
-      (rw o, omega arith, λ h. absurd (clash o h))
+      subst (λ (i : Instant State). Judged now from out₀ out st i (record { verdict = VV.Over; steps = 0; used = from; due = due })) (ends e)
+      (rw o, omega arith, λ h. absurd (clash o h), refl)
 
-  pub judged-stands : (s : State) → rest ≡ done [] s → flag ≡ false → k ≤ maxSteps
-      → Judged now from st out₀ out whole (record { verdict = VV.Stands; steps = k; used = used; due = due; state = s })
+  pub judged-stands : rest ≡ done [] st → flag ≡ false → k ≤ maxSteps → Judged now from out₀ out st whole (record { verdict = VV.Stands; steps = k; used = used; due = due })
   unfolding ranOf
-  judged-stands s e f most =
+  judged-stands e f most =
       let o : over (sofar .bags) ≡ false = sym (sofar .overs) ∙ f in
-      subst (λ (i : Instant State). Judged now from st out₀ out i (record { verdict = VV.Stands; steps = k; used = used; due = due; state = s })) (ends s e)
-      (rw (o, sofar .count, sofar .sized f), most, λ h l. sofar .put f (rw (sofar .sized f) l))
+      subst (λ (i : Instant State). Judged now from out₀ out st i (record { verdict = VV.Stands; steps = k; used = used; due = due })) (ends e)
+      (rw (o, sofar .count, sofar .sized f), most, λ h l. sofar .put f (rw (sofar .sized f) l), refl)
 
 -- Buffers of the same lengths are lent as well.
 pub lent-kept : {w w₀ k k₀ : ℕ} → w ≡ w₀ → k ≡ k₀ → Lent w₀ k₀ → Lent w k

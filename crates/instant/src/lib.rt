@@ -1,22 +1,23 @@
-// An instant: all steps at one moment, at most 1,024, on a copy of the state. Its records are put into a lent buffer while they fit, and
+// An instant: all steps at one moment, at most 1,024, on a lent state. Its records are put into a lent buffer while they fit, and
 // its bytes are counted in any case, so that one function serves a first pass into a small scratch and a second one into the trace.
 ghost use mathlib.Core.Path.{_≡_};
 ghost use mathlib.Core.Bool.{_||_, not};
-ghost use Prim.Native.Nat.{_≤_};
+ghost use Prim.Native.Nat.{_≤_, _<_};
+ghost use lib.Dec.{eqb};
 ghost use lib.ListN.{length, take};
 ghost use Rattle.definition.specs.Lists.{isEmpty};
-ghost use Rattle.definition.specs.Devs.{finite, sameTime};
 ghost use Rattle.definition.specs.Instant.{instant};
 ghost use Rattle.definition.specs.Engine.{toBag};
-ghost use Rattle.clock.specs.Times.{timeOf};
-ghost use Rattle.instant.specs.Sim.{simOf, Lent};
+ghost use Rattle.clock.specs.Times.{latest};
+ghost use Rattle.run_state.specs.Held.{held};
+ghost use Rattle.instant.specs.Sim.{simOf, Lent, Fit, Ready};
 ghost use Rattle.instant.specs.Verdicts.{Judged};
-use clock::Due;
+ghost use Rattle.instant.specs.declared.Verdict.the-variants as VV;
 use clock::Moment;
-use dues::is_now;
-use dues::next_due;
-use run_state::State;
+use dues::next_end;
+use limits::MAX_COMPONENTS;
 use simulator::step_once;
+use table_words::TABLE_SIZE;
 use trace_records::MAX_ROOT_BAG;
 use trace_records::MESSAGE_SIZE;
 use trace_records::put_step;
@@ -31,47 +32,46 @@ pub enum Verdict {
     Stands,
 }
 
-// The verdict on an instant; where it stands its steps, where its records end, and the state after it. `due` is when that state is next
-// due.
+// The verdict on an instant; where it stands its steps, where its records end, and when the state after it is next due.
 pub struct Ran {
     pub verdict: Verdict,
     pub steps: u64,
     pub used: usize,
-    pub due: Due,
-    pub state: State,
+    pub due: u64,
 }
 
 // "A step is taken if something is due or the given bag is not empty."
-fn goes_on(due: Due, at: Moment, bag: &[u8], len: usize) -> bool
-    ensures { λ r. ⌜ r ≡ (sameTime (timeOf due) (finite (at .0)) || not (isEmpty (toBag (take len (now (bag .entry)))))) ⌝ }
+fn goes_on(due: u64, at: Moment, bag: &[u8], len: usize) -> bool
+    ensures { λ r. ⌜ r ≡ (eqb due (at .0) || not (isEmpty (toBag (take len (now (bag .entry)))))) ⌝ }
 {
-    is_now(due, at) | ((MESSAGE_SIZE <= len) & (MESSAGE_SIZE <= bag.len()))
+    (due == at.0) | ((MESSAGE_SIZE <= len) & (MESSAGE_SIZE <= bag.len()))
 }
 
-// The instant at a moment with the first `len` bytes of a bag, its records put from `from` on; `due` is when the state is next due.
+// The instant at a moment with the first `len` bytes of a bag, its records put from `from` on; `due` is when the state is next due. The
+// state is changed in place: where the instant does not stand, what it holds afterwards is left open.
 pub fn instant(
     phases: &[u8],
     rules: &[u8],
-    tables: &[u16; table_words::TABLE_SIZE],
+    tables: &[u16; TABLE_SIZE],
     n: u8,
     at: Moment,
     bag: &[u8],
     len: usize,
-    st: State,
-    due: Due,
+    phase: &mut [u8; MAX_COMPONENTS],
+    last: &mut [u64; MAX_COMPONENTS],
+    ends: &mut [u64; MAX_COMPONENTS],
+    due: u64,
     work: &mut [u32],
     keys: &mut [u32],
     out: &mut [u8],
     from: usize,
 ) -> Ran
-    requires { ⌜ Lent (length (now work)) (length (now keys)) × (from ≤ length (now out))
-        × (timeOf due ≡ simOf (now phases) (now rules) (now tables) n (length (now work)) .next st) ⌝ }
-    ensures { λ r. ⌜ Judged (at .0) from st (now (out .entry)) (now (out .exit))
-        (instant (simOf (now (phases .entry)) (now (rules .entry)) (now (tables .entry)) n (length (now (work .entry)))) (at .0) (toBag (take len (now (bag .entry)))) st) r
-        × (timeOf (r .due) ≡ simOf (now (phases .entry)) (now (rules .entry)) (now (tables .entry)) n (length (now (work .entry))) .next (r .state)) ⌝ }
+    requires { ⌜ Lent (length (now work)) (length (now keys)) × (from ≤ length (now out)) × (at .0 < latest) × Fit n (now tables)
+        × Ready (now phases) (now tables) n (held (now phase) (now last)) (now ends) due ⌝ }
+    ensures { λ r. ⌜ Judged (at .0) from (now (out .entry)) (now (out .exit)) (held (now (phase .exit)) (now (last .exit)))
+        (instant (simOf (now (phases .entry)) (now (rules .entry)) (now (tables .entry)) n (length (now (work .entry)))) (at .0) (toBag (take len (now (bag .entry)))) (held (now (phase .entry)) (now (last .entry)))) r
+        × (r .verdict ≡ VV.Stands → Ready (now (phases .entry)) (now (tables .entry)) n (held (now (phase .exit)) (now (last .exit))) (now (ends .exit)) (r .due)) ⌝ }
 {
-    let mut phase = st.phase;
-    let mut last = st.last;
     let mut next = due;
     let mut given = len;
     let mut used = from;
@@ -84,7 +84,6 @@ pub fn instant(
                 steps: 0,
                 used: from,
                 due,
-                state: st,
             };
         }
         let count = step_once(
@@ -92,8 +91,9 @@ pub fn instant(
             rules,
             tables,
             n,
-            &mut phase,
-            &mut last,
+            phase,
+            last,
+            ends,
             at,
             bag,
             given,
@@ -102,7 +102,7 @@ pub fn instant(
         );
         over = over | (MAX_ROOT_BAG < count);
         used = put_step(out, used, at, k, keys, count);
-        next = next_due(phases, tables, &phase, &last);
+        next = next_end(tables, ends);
         given = 0;
         k = k + 1;
     }
@@ -112,7 +112,6 @@ pub fn instant(
             steps: 0,
             used: from,
             due,
-            state: st,
         };
     }
     Ran {
@@ -120,6 +119,5 @@ pub fn instant(
         steps: k,
         used,
         due: next,
-        state: State { phase, last },
     }
 }

@@ -14,22 +14,24 @@ use Rattle.definition.specs.Limits.{messageSize}
 use Rattle.definition.specs.Model.{Phase}
 use Rattle.definition.specs.Records.{messageAt}
 use Rattle.definition.specs.Engine.{toBag}
-use Rattle.run_state.specs.declared.State.{State}
 use Rattle.route_laws.specs.Nodes.{inputNode}
 use Rattle.pull_laws.specs.Tables.{numbersAt, parentsAt, sourceAt, nextAt, links, chainRows}
-use Rattle.pull_laws.specs.TableStep.{anyOf, isUp, markOf, marked, raised, mayCome, mayReach, reachedFrom}
+use Rattle.pull_laws.specs.TableStep.{anyOf, isUp, raised, mayCome, mayReach, reachedFrom}
+use Rattle.pull_laws.specs.Carried.{endMark, endMarked}
 use Rattle.collect.proofs.Laws.{rowsFrom, both-left}
 
 -- ---- marks
 
-pub marked-more : (ps : List Phase) (t : List ℕ) (now : ℕ) (st : State) (n i : ℕ) (es : List ℕ) → i < n
-    → marked ps t now st (n - (i + 1)) (i + 1) (set es (getD t (numbersAt + i) 0) (markOf ps t now st i)) ≡ marked ps t now st (n - i) i es
-unfolding marked
-marked-more ps t now st n i es h = let e : n - i ≡ suc (n - (i + 1)) = omega arith in rw e
+module _ (t : List ℕ) (now : ℕ) (phase ends : List ℕ) where
+  pub marked-more : (n i : ℕ) (es : List ℕ) → i < n
+      → endMarked t now phase ends (n - (i + 1)) (i + 1) (set es (getD t (numbersAt + i) 0) (endMark t now phase ends i (getD t (numbersAt + i) 0)))
+      ≡ endMarked t now phase ends (n - i) i es
+  unfolding endMarked
+  marked-more n i es h = let e : n - i ≡ suc (n - (i + 1)) = omega arith in rw e
 
-pub marked-none : (ps : List Phase) (t : List ℕ) (now : ℕ) (st : State) (n i : ℕ) (es : List ℕ) → n ≤ i → es ≡ marked ps t now st (n - i) i es
-unfolding marked
-marked-none ps t now st n i es h = let e : n - i ≡ 0 = omega arith in rw e
+  pub marked-none : (n i : ℕ) (es : List ℕ) → n ≤ i → es ≡ endMarked t now phase ends (n - i) i es
+  unfolding endMarked
+  marked-none n i es h = let e : n - i ≡ 0 = omega arith in rw e
 
 pub raised-more : (t : List ℕ) (c : ℕ) (es : List ℕ) → 0 < c
     → raised [] t (c - 1) (cond (isUp es c) (set es (getD t (parentsAt + c) 0) 1) es) ≡ raised [] t c es

@@ -3,32 +3,35 @@
 ghost use mathlib.Core.Path.{_≡_};
 ghost use mathlib.Core.List.{[]};
 ghost use mathlib.Core.Bool.{cond};
-ghost use Prim.Native.Nat.{_+_, _-_, suc};
+ghost use Prim.Native.Nat.{_+_, _-_, _<_, _≤_, suc};
 ghost use lib.ListN.{getD, set};
 ghost use Rattle.definition.specs.Lists.{isEmpty};
-ghost use Rattle.definition.specs.Limits.{portCount};
+ghost use Rattle.definition.specs.Limits.{maxComponents, portCount};
 ghost use Rattle.definition.specs.Engine.{toBag};
-ghost use Rattle.model_records.specs.Values.{phasesIn};
-ghost use Rattle.run_state.specs.Held.{held};
 ghost use Rattle.pull_laws.specs.Tables.{countAt, parentsAt, chainRows};
-ghost use Rattle.pull_laws.specs.TableStep.{anyOf, isUp, recordOf, markOf, marked, raised, mayCome, mayReach, reachedFrom};
+ghost use Rattle.pull_laws.specs.TableStep.{anyOf, isUp, recordOf, raised, mayCome, mayReach, reachedFrom};
+ghost use Rattle.pull_laws.specs.Ranges.{maxNodes, InRange};
+ghost use Rattle.pull_laws.specs.Carried.{endMark, endMarked};
 use bag_keys::MESSAGE_SIZE;
-use bag_keys::key_at;
 use clock::Moment;
 use collect::first_link;
 use collect::input_node;
 use collect::may_come;
 use collect::next_link;
 use collect::source_of;
-use dues::row_word;
+use limits::MAX_COMPONENTS;
 use limits::MAX_COUPLINGS;
 use limits::PORT_COUNT;
+use little_endian::size;
 use little_endian::size16;
 use table_words::COUNT_AT;
 use table_words::NUMBERS_AT;
 use table_words::PARENTS_AT;
 use table_words::PHASES_AT;
-use table_words::word_at;
+use table_words::TABLE_SIZE;
+use table_words::mark_at;
+use table_words::row_in;
+use table_words::word_in;
 
 fn wide(x: u8) -> u32
     ensures { λ r. ⌜ r ≡ x ⌝ }
@@ -51,80 +54,77 @@ fn flag(up: bool) -> u32
 // ---- marks
 
 // The mark of component c that is due in phase p.
-fn mark_for(tables: &[u16; table_words::TABLE_SIZE], c: u16, p: u8) -> u32
+fn mark_for(tables: &[u16; TABLE_SIZE], c: u16, p: u8) -> u32
+    requires { ⌜ c < maxComponents ⌝ }
     ensures { λ r. ⌜ r ≡ suc (recordOf [] (now (tables .entry)) c p) ⌝ }
 {
-    wide16(row_word(tables, PHASES_AT, c)) + wide(p) + 1
+    wide16(row_in(tables, PHASES_AT, c)) + wide(p) + 1
 }
 
-// The mark of the atomic at position i.
+// The mark of the atomic c at position i.
 fn mark_of(
-    phases: &[u8],
-    tables: &[u16; table_words::TABLE_SIZE],
-    phase: &[u8; limits::MAX_COMPONENTS],
-    last: &[u64; limits::MAX_COMPONENTS],
+    tables: &[u16; TABLE_SIZE],
+    phase: &[u8; MAX_COMPONENTS],
+    ends: &[u64; MAX_COMPONENTS],
     at: Moment,
-    i: u16,
+    i: u8,
+    c: u16,
 ) -> u32
-    ensures { λ r. ⌜ r ≡ markOf (phasesIn (now (phases .entry))) (now (tables .entry)) (at .0) (held (now (phase .entry)) (now (last .entry))) i ⌝ }
+    requires { ⌜ (i < maxComponents) × (c < maxComponents) ⌝ }
+    ensures { λ r. ⌜ r ≡ endMark (now (tables .entry)) (at .0) (now (phase .entry)) (now (ends .entry)) i c ⌝ }
 {
-    if dues::is_now(dues::due_at(phases, tables, phase, last, i), at) {
-        mark_for(
-            tables,
-            row_word(tables, NUMBERS_AT, i),
-            run_state::phase_at(phase, size16(i)),
-        )
+    let position = size(i);
+    if ends[position] == at.0 {
+        mark_for(tables, c, run_state::phase_at(phase, position))
     } else {
         0
     }
 }
 
-// A component's mark or flag; nothing where there is no such component.
-fn put_mark(marks: &mut [u32], c: u16, mark: u32)
+// A component's mark or flag.
+fn put_mark(marks: &mut [u32; MAX_COMPONENTS], c: u16, mark: u32)
+    requires { ⌜ c < maxComponents ⌝ }
     ensures { λ _. ⌜ now (marks .exit) ≡ set (now (marks .entry)) c mark ⌝ }
 {
     let at = size16(c);
-    if at < marks.len() {
-        marks[at] = mark;
-    }
+    marks[at] = mark;
 }
 
 fn mark_atomics(
-    phases: &[u8],
-    tables: &[u16; table_words::TABLE_SIZE],
+    tables: &[u16; TABLE_SIZE],
     n: u8,
-    phase: &[u8; limits::MAX_COMPONENTS],
-    last: &[u64; limits::MAX_COMPONENTS],
+    phase: &[u8; MAX_COMPONENTS],
+    ends: &[u64; MAX_COMPONENTS],
     at: Moment,
-    marks: &mut [u32; limits::MAX_COMPONENTS],
+    marks: &mut [u32; MAX_COMPONENTS],
 )
-    ensures { λ _. ⌜ now (marks .exit) ≡ marked (phasesIn (now (phases .entry))) (now (tables .entry)) (at .0) (held (now (phase .entry)) (now (last .entry))) n 0 (now (marks .entry)) ⌝ }
+    requires { ⌜ (n ≤ maxComponents) × InRange (now tables) ⌝ }
+    ensures { λ _. ⌜ now (marks .exit) ≡ endMarked (now (tables .entry)) (at .0) (now (phase .entry)) (now (ends .entry)) n 0 (now (marks .entry)) ⌝ }
 {
     let mut i: u8 = 0;
     while i < n {
-        let mark = mark_of(phases, tables, phase, last, at, i as u16);
-        put_mark(marks, row_word(tables, NUMBERS_AT, i as u16), mark);
+        let c = row_in(tables, NUMBERS_AT, i as u16);
+        let mark = mark_of(tables, phase, ends, at, i, c);
+        put_mark(marks, c, mark);
         i = i + 1;
     }
 }
 
 // The parent of component c is marked where c is.
-fn mark_parent(
-    tables: &[u16; table_words::TABLE_SIZE],
-    c: u16,
-    marks: &mut [u32; limits::MAX_COMPONENTS],
-)
+fn mark_parent(tables: &[u16; TABLE_SIZE], c: u16, marks: &mut [u32; MAX_COMPONENTS])
+    requires { ⌜ (c < maxComponents) × InRange (now tables) ⌝ }
     ensures { λ _. ⌜ now (marks .exit) ≡ cond (isUp (now (marks .entry)) c) (set (now (marks .entry)) (getD (now (tables .entry)) (parentsAt + c) 0) 1) (now (marks .entry)) ⌝ }
 {
-    if key_at(marks, size16(c)) != 0 {
-        put_mark(marks, row_word(tables, PARENTS_AT, c), 1);
+    if mark_at(marks, size16(c)) != 0 {
+        put_mark(marks, row_in(tables, PARENTS_AT, c), 1);
     }
 }
 
-fn mark_parents(tables: &[u16; table_words::TABLE_SIZE], marks: &mut [u32; limits::MAX_COMPONENTS])
+fn mark_parents(tables: &[u16; TABLE_SIZE], marks: &mut [u32; MAX_COMPONENTS])
+    requires { ⌜ InRange (now tables) ⌝ }
     ensures { λ _. ⌜ now (marks .exit) ≡ raised [] (now (tables .entry)) (getD (now (tables .entry)) countAt 0 - 1) (now (marks .entry)) ⌝ }
 {
-    let count = word_at(tables, COUNT_AT);
+    let count = word_in(tables, COUNT_AT);
     let mut c: u16 = 0;
     if 0 < count {
         c = count - 1;
@@ -138,11 +138,12 @@ fn mark_parents(tables: &[u16; table_words::TABLE_SIZE], marks: &mut [u32; limit
 // ---- what may be reached
 
 fn any_source(
-    tables: &[u16; table_words::TABLE_SIZE],
-    marks: &[u32; limits::MAX_COMPONENTS],
-    reached: &[u32; limits::MAX_COMPONENTS],
+    tables: &[u16; TABLE_SIZE],
+    marks: &[u32; MAX_COMPONENTS],
+    reached: &[u32; MAX_COMPONENTS],
     x: u32,
 ) -> bool
+    requires { ⌜ (x < maxNodes) × InRange (now tables) ⌝ }
     ensures { λ r. ⌜ r ≡ anyOf (mayCome [] (now (tables .entry)) (now (marks .entry)) (now (reached .entry))) (chainRows (now (tables .entry)) x) ⌝ }
 {
     let mut left = MAX_COUPLINGS;
@@ -158,11 +159,12 @@ fn any_source(
 }
 
 fn may_reach(
-    tables: &[u16; table_words::TABLE_SIZE],
-    marks: &[u32; limits::MAX_COMPONENTS],
-    reached: &[u32; limits::MAX_COMPONENTS],
+    tables: &[u16; TABLE_SIZE],
+    marks: &[u32; MAX_COMPONENTS],
+    reached: &[u32; MAX_COMPONENTS],
     c: u16,
 ) -> bool
+    requires { ⌜ (c < maxComponents) × InRange (now tables) ⌝ }
     ensures { λ r. ⌜ r ≡ mayReach [] (now (tables .entry)) (now (marks .entry)) (now (reached .entry)) c portCount 0 ⌝ }
 {
     let mut q: u8 = 0;
@@ -176,13 +178,14 @@ fn may_reach(
 }
 
 fn flag_components(
-    tables: &[u16; table_words::TABLE_SIZE],
-    marks: &[u32; limits::MAX_COMPONENTS],
-    reached: &mut [u32; limits::MAX_COMPONENTS],
+    tables: &[u16; TABLE_SIZE],
+    marks: &[u32; MAX_COMPONENTS],
+    reached: &mut [u32; MAX_COMPONENTS],
 )
+    requires { ⌜ InRange (now tables) ⌝ }
     ensures { λ _. ⌜ now (reached .exit) ≡ reachedFrom [] (now (tables .entry)) (now (marks .entry)) (getD (now (tables .entry)) countAt 0 - 1) 1 (now (reached .entry)) ⌝ }
 {
-    let count = word_at(tables, COUNT_AT);
+    let count = word_in(tables, COUNT_AT);
     let mut c: u16 = 1;
     while c < count {
         let up = flag(may_reach(tables, marks, reached, c));
@@ -193,29 +196,30 @@ fn flag_components(
 
 // ---- both, over zeros
 
-// The marks of n atomics and of the components above them.
+// The marks of n atomics, by their phases and due moments, and of the components above them.
 pub fn mark(
-    phases: &[u8],
-    tables: &[u16; table_words::TABLE_SIZE],
+    tables: &[u16; TABLE_SIZE],
     n: u8,
-    phase: &[u8; limits::MAX_COMPONENTS],
-    last: &[u64; limits::MAX_COMPONENTS],
+    phase: &[u8; MAX_COMPONENTS],
+    ends: &[u64; MAX_COMPONENTS],
     at: Moment,
-    marks: &mut [u32; limits::MAX_COMPONENTS],
+    marks: &mut [u32; MAX_COMPONENTS],
 )
-    ensures { λ _. ⌜ now (marks .exit) ≡ raised (phasesIn (now (phases .entry))) (now (tables .entry)) (getD (now (tables .entry)) countAt 0 - 1) (marked (phasesIn (now (phases .entry))) (now (tables .entry)) (at .0) (held (now (phase .entry)) (now (last .entry))) n 0 (now (marks .entry))) ⌝ }
+    requires { ⌜ (n ≤ maxComponents) × InRange (now tables) ⌝ }
+    ensures { λ _. ⌜ now (marks .exit) ≡ raised [] (now (tables .entry)) (getD (now (tables .entry)) countAt 0 - 1) (endMarked (now (tables .entry)) (at .0) (now (phase .entry)) (now (ends .entry)) n 0 (now (marks .entry))) ⌝ }
 {
-    mark_atomics(phases, tables, n, phase, last, at, marks);
+    mark_atomics(tables, n, phase, ends, at, marks);
     mark_parents(tables, marks);
 }
 
 // The flags, where the root's says that something is given.
 pub fn reach(
-    tables: &[u16; table_words::TABLE_SIZE],
-    marks: &[u32; limits::MAX_COMPONENTS],
+    tables: &[u16; TABLE_SIZE],
+    marks: &[u32; MAX_COMPONENTS],
     given: &[u8],
-    reached: &mut [u32; limits::MAX_COMPONENTS],
+    reached: &mut [u32; MAX_COMPONENTS],
 )
+    requires { ⌜ InRange (now tables) ⌝ }
     ensures { λ _. ⌜ now (reached .exit) ≡ reachedFrom [] (now (tables .entry)) (now (marks .entry)) (getD (now (tables .entry)) countAt 0 - 1) 1 (set (now (reached .entry)) 0 (cond (isEmpty (toBag (now (given .entry)))) 0 1)) ⌝ }
 {
     put_mark(reached, 0, flag(MESSAGE_SIZE <= given.len()));

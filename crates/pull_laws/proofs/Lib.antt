@@ -20,4 +20,5 @@ pub mod Decided
 pub mod Moves
 pub mod StepLaw
 pub mod NextLaw
+pub mod Carried
 pub mod Putting

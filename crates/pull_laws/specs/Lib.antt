@@ -4,3 +4,6 @@ pub mod Put
 pub mod Tables
 pub mod TableStep
 pub mod Tabled
+pub mod Ranges
+pub mod Carried
+pub mod TablesOf

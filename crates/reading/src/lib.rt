@@ -7,10 +7,9 @@ ghost use Rattle.definition.specs.Model.{atomics};
 ghost use Rattle.definition.specs.Routes.{accepted};
 ghost use Rattle.definition.specs.SavedRun.{runOf, nextDue, fits};
 ghost use Rattle.definition.specs.Engine.{dueNumber, reading};
-ghost use Rattle.clock.specs.Times.{timeOf};
 ghost use Rattle.model.specs.Checked.{modelOf};
 ghost use Rattle.reading.specs.Answers.{readOf};
-use clock::Due;
+use limits::MAX_COMPONENTS;
 use model::Checked;
 use model::Counts;
 use table_words::TABLE_SIZE;
@@ -47,33 +46,27 @@ fn refused(number: u64) -> Reading
     }
 }
 
-// The moment, or 18,446,744,073,709,551,615 for never.
-fn due_number(due: Due) -> u64
-    ensures { λ r. ⌜ r ≡ dueNumber (timeOf due) ⌝ }
-{
-    match due {
-        Due::At(moment) => moment.0,
-        Due::Never => 18446744073709551615,
-    }
-}
-
-// The next due moment of the whole model, for a run of `count` atomics that fits.
-fn whole_due(file: &[u8], n: Counts, run: &[u8], count: usize) -> Due
+// The next due moment of the whole model as a number, for a run of `count` atomics that fits.
+fn whole_due(file: &[u8], n: Counts, run: &[u8], count: usize) -> u64
     requires { ⌜ (ok (modelOf (now file) n) ≡ accepted (now file)) × (fits (modelOf (now file) n) (now run) ≡ true)
         × (count ≡ length (atomics (modelOf (now file) n .components))) ⌝ }
-    ensures { λ r. ⌜ timeOf r ≡ nextDue (modelOf (now (file .entry)) n) (runOf (modelOf (now (file .entry)) n) (now (run .entry)) .entries) ⌝ }
+    ensures { λ r. ⌜ r ≡ dueNumber (nextDue (modelOf (now (file .entry)) n) (runOf (modelOf (now (file .entry)) n) (now (run .entry)) .entries)) ⌝ }
 {
     let mut tables = [0u16; TABLE_SIZE];
-    tables::fill_tables(
-        model::components_of(file, n),
-        model::rules_of(file, n),
-        model::couplings_of(file, n),
-        &mut tables,
+    model_tables::fill(file, n, &mut tables);
+    let mut phase = [0u8; MAX_COMPONENTS];
+    let mut last = [0u64; MAX_COMPONENTS];
+    saved_run::load(run, count, &mut phase, &mut last);
+    let mut ends = [0u64; MAX_COMPONENTS];
+    dues::put_ends(
+        model::phases_of(file, n),
+        &tables,
+        count as u8,
+        &phase,
+        &last,
+        &mut ends,
     );
-    let st = saved_run::load(run, count);
-    let phase = st.phase;
-    let last = st.last;
-    dues::next_due(model::phases_of(file, n), &tables, &phase, &last)
+    dues::next_end(&tables, &ends)
 }
 
 // The checks of run and position, and the answer, for an accepted model.
@@ -95,7 +88,7 @@ fn read_accepted(file: &[u8], n: Counts, run: &[u8], position: u64) -> Reading
         number: 0,
         phase: wide(entry.phase),
         last: last.0,
-        next_due: due_number(whole_due(file, n, run, count)),
+        next_due: whole_due(file, n, run, count),
     }
 }
 

@@ -18,7 +18,7 @@ use Rattle.route_laws.specs.Ways.{Rising}
 -- ---- components
 
 module _ (cs : List Component) (fit : (i : ℕ) → i < length cs → componentFits cs i ≡ true) where
-  parents : (i : ℕ) → 0 < i → i < length cs → (componentAt cs i .parent < i) × (isAtomic cs (componentAt cs i .parent) ≡ false)
+  pub parents : (i : ℕ) → 0 < i → i < length cs → (componentAt cs i .parent < i) × (isAtomic cs (componentAt cs i .parent) ≡ false)
   unfolding componentFits placeFits isAtomic
   parents i h l =
       let k = componentAt cs i in

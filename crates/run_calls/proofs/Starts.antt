@@ -1,16 +1,16 @@
 -- A start, from the check of the model to the whole buffer. Assumes nothing.
 use mathlib.Core.Path.{_≡_, sym, ap, _∙_}
-use mathlib.Core.List.{[], _∷_}
-use Prim.Native.Nat.{ℕ, suc, _≤_, _<_}
+use mathlib.Core.List.{[]}
+use Prim.Native.Nat.{ℕ, _≤_, _<_}
 use lib.ListN.{length, length-map, getD}
 use borrow.Author.Tests.{lt-ltb, le-ltb}
-use Rattle.definition.specs.Bytes.{Bytes, AllBytes, ok, refused, stored}
-use Rattle.definition.specs.Bytes as B
+use Rattle.definition.specs.Bytes.{Bytes, ok, refused, stored}
 use Rattle.definition.specs.Limits.{maxComponents}
 use Rattle.definition.specs.Model.{atomics}
 use Rattle.definition.specs.Routes.{accepted}
 use Rattle.definition.specs.SavedRun.{runLength, runBytes}
 use Rattle.definition.specs.Engine.{wrote, startRun, start}
+use Rattle.byte_laws.proofs.Slices.{all-bytes}
 use Rattle.model_laws.proofs.Reading.{accepted-sound}
 use Rattle.model_laws.proofs.RunBack.{length-run}
 use Rattle.model_records.specs.Values.{componentsIn, modelIn}
@@ -19,11 +19,6 @@ use Rattle.model.specs.declared.Counts.{Counts}
 use Rattle.run_state.specs.declared.State.{State}
 use Rattle.run_state.specs.Held.{entriesOf}
 use Rattle.saved_run.specs.Runs.{bare, runIn, startEntries}
-
--- Elements below 256 are bytes.
-pub all-bytes : (s : Bytes) → ((i : ℕ) → getD s i 0 < 256) → AllBytes s
-all-bytes [] h = B.none
-all-bytes (b ∷ s) h = B.more (lt-ltb b 256 (h 0)) (all-bytes s (λ i. h (suc i)))
 
 -- An accepted model has no more components than there may be.
 pub few-components : (file : Bytes) (n : Counts) → ((i : ℕ) → getD file i 0 < 256) → ok (modelOf file n) ≡ accepted file

@@ -11,6 +11,7 @@ ghost use Rattle.model_records.specs.Values.{componentsIn};
 ghost use Rattle.saved_run.specs.Runs.{bare};
 ghost use Rattle.run_calls.specs.Answers.{wroteOf};
 use clock::Moment;
+use limits::MAX_COMPONENTS;
 use model::Checked;
 use saved_run::run_size;
 
@@ -39,7 +40,10 @@ fn start_run(components: &[u8], run: &mut [u8]) -> Written
             bytes: 0,
         };
     }
-    saved_run::store(run, Moment(0), n, saved_run::start_state(components));
+    let mut phase = [0u8; MAX_COMPONENTS];
+    let mut last = [0u64; MAX_COMPONENTS];
+    saved_run::start_state(components, &mut phase, &mut last);
+    saved_run::store(run, Moment(0), n, &phase, &last);
     Written {
         number: 0,
         bytes: size as u64,

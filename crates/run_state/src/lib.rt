@@ -1,6 +1,8 @@
 // The state of a run inside a call: the phase and the last moment of each atomic by its position in file order.
 ghost use mathlib.Core.Path.{_≡_};
-ghost use lib.ListN.{getD, set};
+ghost use Prim.Native.Nat.{_<_};
+ghost use lib.ListN.{getD};
+ghost use Rattle.definition.specs.Limits.{maxComponents};
 ghost use Rattle.run_state.specs.Held.{held, changedAt};
 use clock::Moment;
 
@@ -9,48 +11,33 @@ pub struct State {
     pub last: [u64; limits::MAX_COMPONENTS],
 }
 
-// The phase, and the last moment, of the atomic at a position; past the end stand zeros. Inside a step the two arrays are lent as
-// slices, since a struct is copied at each call.
-pub fn phase_at(phase: &[u8], position: usize) -> u8
+// The phase, and the last moment, of the atomic at a position. Inside a call the two arrays are lent, since a struct is copied at each
+// call.
+pub fn phase_at(phase: &[u8; limits::MAX_COMPONENTS], position: usize) -> u8
+    requires { ⌜ position < maxComponents ⌝ }
     ensures { λ r. ⌜ r ≡ getD (now (phase .entry)) position 0 ⌝ }
 {
-    if position < phase.len() {
-        phase[position]
-    } else {
-        0
-    }
+    phase[position]
 }
 
-pub fn last_at(last: &[u64], position: usize) -> Moment
+pub fn last_at(last: &[u64; limits::MAX_COMPONENTS], position: usize) -> Moment
+    requires { ⌜ position < maxComponents ⌝ }
     ensures { λ r. ⌜ r .0 ≡ getD (now (last .entry)) position 0 ⌝ }
 {
-    if position < last.len() {
-        Moment(last[position])
-    } else {
-        Moment(0)
-    }
+    Moment(last[position])
 }
 
-fn put_phase(phase: &mut [u8], position: usize, new: u8)
-    ensures { λ _. ⌜ now (phase .exit) ≡ set (now (phase .entry)) position new ⌝ }
-{
-    if position < phase.len() {
-        phase[position] = new;
-    }
-}
-
-fn put_last(last: &mut [u64], position: usize, since: u64)
-    ensures { λ _. ⌜ now (last .exit) ≡ set (now (last .entry)) position since ⌝ }
-{
-    if position < last.len() {
-        last[position] = since;
-    }
-}
-
-// The atomic at a position is in a phase since a moment; nothing changes where there is no such position.
-pub fn put_at(phase: &mut [u8], last: &mut [u64], position: usize, new: u8, since: Moment)
+// The atomic at a position is in a phase since a moment.
+pub fn put_at(
+    phase: &mut [u8; limits::MAX_COMPONENTS],
+    last: &mut [u64; limits::MAX_COMPONENTS],
+    position: usize,
+    new: u8,
+    since: Moment,
+)
+    requires { ⌜ position < maxComponents ⌝ }
     ensures { λ _. ⌜ held (now (phase .exit)) (now (last .exit)) ≡ changedAt (held (now (phase .entry)) (now (last .entry))) position new (since .0) ⌝ }
 {
-    put_phase(phase, position, new);
-    put_last(last, position, since.0);
+    phase[position] = new;
+    last[position] = since.0;
 }

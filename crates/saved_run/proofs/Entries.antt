@@ -5,7 +5,7 @@ use mathlib.Core.Bool.{Bool, true, false, cond}
 use Prim.Native.Nat.{ℕ, zero, suc, _+_, _*_, _≤_, _<_}
 use native.Mathlib.Omega.{arith}
 use lib.Dec.{ltb}
-use lib.ListN.{length, take, drop, getD, replicate, length-set, length-append, length-replicate}
+use lib.ListN.{length, take, drop, getD, length-set, length-append}
 use lib.Seq.{drop-drop, getD-set-same, getD-set-other}
 use borrow.Author.Tests.{ltb-true, lt-ltb}
 use Rattle.definition.specs.Lists.{keep, upFrom}
@@ -109,9 +109,6 @@ entries-with st i p t h l = split ∙ ap₂ (λ (x : List Entry) (e : Entry). x 
 
     split : entriesOf (i + 1) (changedAt st i p t) ≡ entriesOf i (changedAt st i p t) ++ (record { phase = getD (changedAt st i p t .phase) i 0; last = getD (changedAt st i p t .last) i 0 } ∷ [])
     split = unfold entriesOf in (let e : 0 + i ≡ i = omega arith in ap (map _) (up-more 0 i) ∙ map-append _ (upFrom 0 i) ((0 + i) ∷ []) ∙ rw e)
-
-pub wide-blank : (st : State) → st ≡ record { phase = replicate maxComponents 0; last = replicate maxComponents 0 } → Wide st
-wide-blank st e = (ap (λ (s : State). length (s .phase)) e ∙ length-replicate {A = ℕ} maxComponents 0, ap (λ (s : State). length (s .last)) e ∙ length-replicate {A = ℕ} maxComponents 0)
 
 -- ---- a run's state
 

@@ -20,7 +20,6 @@ use limits::MAX_COMPONENTS;
 use model_records::Component;
 use model_records::component_at;
 use model_records::component_count;
-use run_state::State;
 
 // Open moment (8) and atomic count (2), then for each atomic its phase (1) and last moment (8).
 const HEAD_SIZE: usize = 10;
@@ -81,20 +80,24 @@ pub fn entry_at(run: &[u8], i: usize) -> Entry
     }
 }
 
-// The state that the bytes of a run of n atomics hold.
-pub fn load(run: &[u8], n: usize) -> State
-    requires { ⌜ n ≤ maxComponents ⌝ }
-    ensures { λ r. ⌜ (entriesOf n r ≡ toRun n (now (run .entry)) .entries) × (length (r .phase) ≡ maxComponents) × (length (r .last) ≡ maxComponents) ⌝ }
+// The state that the bytes of a run of n atomics hold, put into two lent arrays. What a lent array holds is a list, whose length no rule gives
+// away: it is asked, and told on.
+pub fn load(
+    run: &[u8],
+    n: usize,
+    phase: &mut [u8; MAX_COMPONENTS],
+    last: &mut [u64; MAX_COMPONENTS],
+)
+    requires { ⌜ (n ≤ maxComponents) × (length (now phase) ≡ maxComponents) × (length (now last) ≡ maxComponents) ⌝ }
+    ensures { λ _. ⌜ (entriesOf n (held (now (phase .exit)) (now (last .exit))) ≡ toRun n (now (run .entry)) .entries)
+        × (length (now (phase .exit)) ≡ maxComponents) × (length (now (last .exit)) ≡ maxComponents) ⌝ }
 {
-    let mut phase = [0u8; MAX_COMPONENTS];
-    let mut last = [0u64; MAX_COMPONENTS];
     let mut i: usize = 0;
     while i < n {
         let e = entry_at(run, i);
-        run_state::put_at(&mut phase, &mut last, i, e.phase, e.last);
+        run_state::put_at(phase, last, i, e.phase, e.last);
         i = i + 1;
     }
-    State { phase, last }
 }
 
 // ---- fitting
@@ -163,7 +166,7 @@ fn wide(x: u8) -> u64
     x as u64
 }
 
-fn put_entry(run: &mut [u8], phase: &[u8], last: &[u64], i: usize)
+fn put_entry(run: &mut [u8], phase: &[u8; MAX_COMPONENTS], last: &[u64; MAX_COMPONENTS], i: usize)
     requires { ⌜ (i < maxComponents) × (runLength (i + 1) ≤ length (now run)) ⌝ }
     ensures { λ _. ⌜ now (run .exit) ≡ sets (now (run .entry)) (runLength i) (entryBytes (heldAt (held (now (phase .entry)) (now (last .entry))) i)) ⌝ }
 {
@@ -173,7 +176,7 @@ fn put_entry(run: &mut [u8], phase: &[u8], last: &[u64], i: usize)
     little_endian::put_number(run, at + 1, 8, since.0);
 }
 
-fn put_entries(run: &mut [u8], n: usize, phase: &[u8], last: &[u64])
+fn put_entries(run: &mut [u8], n: usize, phase: &[u8; MAX_COMPONENTS], last: &[u64; MAX_COMPONENTS])
     requires { ⌜ (n ≤ maxComponents) × (runLength n ≤ length (now run)) ⌝ }
     ensures { λ _. ⌜ now (run .exit) ≡ sets (now (run .entry)) (runLength 0) (entryRows (held (now (phase .entry)) (now (last .entry))) 0 n) ⌝ }
 {
@@ -185,34 +188,39 @@ fn put_entries(run: &mut [u8], n: usize, phase: &[u8], last: &[u64])
 }
 
 // The run of the first n atomics of a state, at the front of a buffer that is long enough; the bytes beyond it stay.
-pub fn store(run: &mut [u8], opening: Moment, n: usize, st: State)
+pub fn store(
+    run: &mut [u8],
+    opening: Moment,
+    n: usize,
+    phase: &[u8; MAX_COMPONENTS],
+    last: &[u64; MAX_COMPONENTS],
+)
     requires { ⌜ (n ≤ maxComponents) × (runLength n ≤ length (now run)) ⌝ }
-    ensures { λ _. ⌜ now (run .exit) ≡ stored (runBytes (runIn (opening .0) n st)) (now (run .entry)) ⌝ }
+    ensures { λ _. ⌜ now (run .exit) ≡ stored (runBytes (runIn (opening .0) n (held (now (phase .entry)) (now (last .entry))))) (now (run .entry)) ⌝ }
 {
     little_endian::put_number(run, 0, 8, opening.0);
     little_endian::put_number(run, 8, 2, n as u64);
-    let phase = st.phase;
-    let last = st.last;
-    put_entries(run, n, &phase, &last);
+    put_entries(run, n, phase, last);
 }
 
 // ---- the start
 
 // Every atomic in its initial phase since moment 0.
-pub fn start_state(components: &[u8]) -> State
-    requires { ⌜ length (componentsIn (now components)) ≤ maxComponents ⌝ }
-    ensures { λ r. ⌜ entriesOf (length (atomics (componentsIn (now (components .entry))))) r ≡ startEntries (componentsIn (now (components .entry))) ⌝ }
+pub fn start_state(
+    components: &[u8],
+    phase: &mut [u8; MAX_COMPONENTS],
+    last: &mut [u64; MAX_COMPONENTS],
+)
+    requires { ⌜ (length (componentsIn (now components)) ≤ maxComponents) × (length (now phase) ≡ maxComponents) × (length (now last) ≡ maxComponents) ⌝ }
+    ensures { λ _. ⌜ entriesOf (length (atomics (componentsIn (now (components .entry))))) (held (now (phase .exit)) (now (last .exit))) ≡ startEntries (componentsIn (now (components .entry))) ⌝ }
 {
     let n = component_count(components);
-    let mut phase = [0u8; MAX_COMPONENTS];
-    let mut last = [0u64; MAX_COMPONENTS];
     let mut k: usize = 0;
     let mut c: usize = 0;
     while c < n {
         let own = component_at(components, c);
-        run_state::put_at(&mut phase, &mut last, k, own.initial, Moment(0));
+        run_state::put_at(phase, last, k, own.initial, Moment(0));
         k = k + one_if(own.kind == 1);
         c = c + 1;
     }
-    State { phase, last }
 }

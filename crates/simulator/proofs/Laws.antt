@@ -6,10 +6,12 @@ use native.Mathlib.Omega.{arith}
 use lib.Dec.{leb, eqb}
 use lib.ListN.{length, take, drop, getD, set, replicate, length-map, length-take}
 use lib.Seq.{take-at, length-take-le}
-use mathlib.Core.Bool.{true, cond, _&&_, not}
+use mathlib.Core.Bool.{Bool, true, cond, _&&_, not}
 use Rattle.definition.specs.Lists.{isEmpty, sortBy}
 use Rattle.definition.specs.Limits.{maxComponents, maxAncestors, portCount}
 use Rattle.definition.specs.Model.{Bag, Phase, Rule, messageLe}
+use Rattle.definition.specs.Engine.{dueNumber}
+use Rattle.clock.specs.Times.{latest}
 use Rattle.run_state.specs.declared.State.{State}
 use Rattle.sort.proofs.Keys.{sort-messages}
 use Rattle.sort.proofs.Merging.{length-sort}
@@ -18,9 +20,11 @@ use Rattle.laws.specs.Keys.{messageOf}
 use Rattle.pull_laws.specs.Put.{putPorts, keysOf}
 use Rattle.definition.specs.Step.{Stepped}
 use Rattle.pull_laws.specs.Tables.{numbersAt, countAt}
-use Rattle.pull_laws.specs.TableStep.{isUp, marked, raised, marks, reachedFrom, reached, pulledInto, pulledBelow, keysInto, rootKeys, rootRoom, changedBy, changedFrom, tableStep}
+use Rattle.pull_laws.specs.TableStep.{isUp, dueAtPosition, raised, marks, reachedFrom, reached, pulledInto, pulledBelow, keysInto, rootKeys, rootRoom, changedBy, changedFrom, tableStep}
 use Rattle.collect.proofs.Laws.{unreached}
-use Rattle.marks.proofs.Laws.{flags-any}
+use Rattle.marks.proofs.Laws.{raised-any, flags-any}
+use Rattle.pull_laws.specs.Carried.{Carried, endMarked}
+use Rattle.pull_laws.proofs.Carried.{marked-carried, carried-put, changed-elsewhere}
 use Rattle.pull_laws.proofs.Putting.{Front, bag-front}
 
 module _ (ps : List Phase) (t es fs : List ℕ) where
@@ -68,14 +72,23 @@ module _ (ps : List Phase) (t : List ℕ) (rs : List Rule) (es fs : List ℕ) (r
   unfolding changedFrom
   changed-none h = let e : n - i ≡ 0 = omega arith in rw e
 
--- ---- the whole step, where the marks and flags are those that the code filled in over zeros
+-- one atomic changed: its due moment is carried anew, and those of the others stay
+pub carried-changed : (ps : List Phase) (t : List ℕ) (rs : List Rule) (now n : ℕ) (st st' : State) (ends : List ℕ) (i c : ℕ) (due : Bool) (x : Bag) → i < length ends
+    → st' ≡ changedBy ps t rs now st i c due x → Carried ps t n st ends → Carried ps t n st' (set ends i (dueNumber (dueAtPosition ps t st' i)))
+carried-changed ps t rs now n st st' ends i c due x l e h =
+    carried-put ps t n st st' ends i l (λ j d. ap (λ s. dueAtPosition ps t s j) e ∙ changed-elsewhere ps t rs now st i c due x j d) h
 
-module _ (ps : List Phase) (t : List ℕ) (rs : List Rule) (n room now : ℕ) (x : Bag) (st : State) (es fs : List ℕ)
-    (e : es ≡ raised ps t (getD t countAt 0 - 1) (marked ps t now st n 0 (replicate maxComponents 0)))
+-- ---- the whole step, where the marks and flags are those that the code filled in over zeros, by due moments that are carried
+
+module _ (ps : List Phase) (t : List ℕ) (rs : List Rule) (n room now : ℕ) (x : Bag) (st : State) (ends es fs : List ℕ) (h : Carried ps t n st ends) (l : now < latest)
+    (e : es ≡ raised [] t (getD t countAt 0 - 1) (endMarked t now (st .phase) ends n 0 (replicate maxComponents 0)))
     (f : fs ≡ reachedFrom [] t es (getD t countAt 0 - 1) 1 (set (replicate maxComponents 0) 0 (cond (isEmpty x) 0 1))) where
   marks-are : marks ps t n now st ≡ es
   unfolding marks
-  marks-are = sym e
+  marks-are =
+      sym
+      (e ∙ raised-any ps t (getD t countAt 0 - 1) (endMarked t now (st .phase) ends n 0 (replicate maxComponents 0))
+      ∙ ap (raised ps t (getD t countAt 0 - 1)) (marked-carried ps t n st ends h now n 0 (replicate maxComponents 0) l (omega arith)))
 
   flags-are : reached ps t es x ≡ fs
   unfolding reached

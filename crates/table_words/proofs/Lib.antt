@@ -2,3 +2,4 @@
 pub mod Loops
 pub mod Columns
 pub mod Chains
+pub mod Words

@@ -2,6 +2,8 @@
 ghost use mathlib.Core.Path.{_≡_};
 ghost use Prim.Native.Nat.{_+_, _<_, _≤_};
 ghost use lib.ListN.{getD, length};
+ghost use Rattle.definition.specs.Limits.{maxComponents};
+ghost use Rattle.pull_laws.specs.Tables.{siblingAt, tableSize};
 ghost use Rattle.table_words.specs.Writes.{column, cleared, putIn, linkAt, linked};
 use limits::MAX_COMPONENTS;
 use limits::MAX_COUPLINGS;
@@ -57,6 +59,30 @@ pub fn word_at(t: &[u16], at: usize) -> u16
     ensures { λ r. ⌜ r ≡ getD (now (t .entry)) at 0 ⌝ }
 {
     if at < t.len() { t[at] } else { 0 }
+}
+
+// A word at a place that the tables have: nothing is tested.
+pub fn word_in(t: &[u16; TABLE_SIZE], at: usize) -> u16
+    requires { ⌜ at < tableSize ⌝ }
+    ensures { λ r. ⌜ r ≡ getD (now (t .entry)) at 0 ⌝ }
+{
+    t[at]
+}
+
+// Row i of a region by component or position that begins at `at`.
+pub fn row_in(t: &[u16; TABLE_SIZE], at: usize, i: u16) -> u16
+    requires { ⌜ (at ≤ siblingAt) × (i < maxComponents) ⌝ }
+    ensures { λ r. ⌜ r ≡ getD (now (t .entry)) (at + i) 0 ⌝ }
+{
+    word_in(t, at + little_endian::size16(i))
+}
+
+// A component's mark or flag.
+pub fn mark_at(marks: &[u32; MAX_COMPONENTS], c: usize) -> u32
+    requires { ⌜ c < maxComponents ⌝ }
+    ensures { λ r. ⌜ r ≡ getD (now (marks .entry)) c 0 ⌝ }
+{
+    marks[c]
 }
 
 // Zeros everywhere.

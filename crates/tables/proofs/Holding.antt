@@ -146,10 +146,10 @@ module _ (cs : List Component) (rs : List Rule) (ks : List Coupling) (t : List �
   pub kept1 : (x : ℕ) → x < rulesFromAt → getD t5 x 0 ≡ getD t1 x 0
   kept1 x h = kept2 x (omega arith) ∙ w2 .below x (omega arith)
 
-  zero2 : (x : ℕ) → childAt ≤ x → getD t2 x 0 ≡ 0
+  pub zero2 : (x : ℕ) → childAt ≤ x → getD t2 x 0 ≡ 0
   zero2 x h = w2 .above x (omega arith) ∙ w1 .above x (omega arith) ∙ cleared-at t x
 
-  zero3 : (x : ℕ) → firstAt ≤ x → getD t3 x 0 ≡ 0
+  pub zero3 : (x : ℕ) → firstAt ≤ x → getD t3 x 0 ≡ 0
   zero3 x h = w3 .above x (omega arith) ∙ zero2 x (omega arith)
 
   -- the links' own places

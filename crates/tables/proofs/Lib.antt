@@ -7,3 +7,4 @@ pub mod Kin
 pub mod Holding
 pub mod Sources
 pub mod Tables
+pub mod Ranged

@@ -1,6 +1,8 @@
 // The transitions of an atomic: internal, external, confluent in both orders, or none. The elapsed time is the atomic's own.
 ghost use mathlib.Core.Path.{_≡_};
 ghost use mathlib.Core.List.{[], map};
+ghost use Prim.Native.Nat.{_<_};
+ghost use Rattle.definition.specs.Limits.{maxComponents};
 ghost use Rattle.definition.specs.Atomic.{ledTo};
 ghost use Rattle.model_records.specs.Values.{phasesIn, rulesIn};
 ghost use Rattle.run_state.specs.Held.{held};
@@ -11,12 +13,14 @@ use clock::Moment;
 use clock::Stay;
 use deciding::Found;
 use dues::phase_in;
-use dues::row_word;
+use limits::MAX_COMPONENTS;
 use little_endian::size;
 use little_endian::size16;
 use table_words::ORDERS_AT;
 use table_words::RULES_FROM_AT;
 use table_words::RULES_TO_AT;
+use table_words::TABLE_SIZE;
+use table_words::row_in;
 
 fn wide(x: u32) -> u64
     ensures { λ r. ⌜ r ≡ x ⌝ }
@@ -25,14 +29,16 @@ fn wide(x: u32) -> u64
 }
 
 // The next phase of phase p.
-fn next_of(phases: &[u8], tables: &[u16; table_words::TABLE_SIZE], c: u16, p: u8) -> u8
+fn next_of(phases: &[u8], tables: &[u16; TABLE_SIZE], c: u16, p: u8) -> u8
+    requires { ⌜ c < maxComponents ⌝ }
     ensures { λ r. ⌜ r ≡ phaseIn (phasesIn (now (phases .entry))) (now (tables .entry)) c p .next ⌝ }
 {
     let phase = phase_in(phases, tables, c, p);
     phase.next
 }
 
-fn advance_of(phases: &[u8], tables: &[u16; table_words::TABLE_SIZE], c: u16, p: u8) -> Stay
+fn advance_of(phases: &[u8], tables: &[u16; TABLE_SIZE], c: u16, p: u8) -> Stay
+    requires { ⌜ c < maxComponents ⌝ }
     ensures { λ r. ⌜ r .0 ≡ phaseIn (phasesIn (now (phases .entry))) (now (tables .entry)) c p .advance ⌝ }
 {
     let phase = phase_in(phases, tables, c, p);
@@ -53,16 +59,17 @@ fn led_to(rules: &[u8], p: u8, found: Found) -> u8
 // The external transition of component c in phase p.
 fn decided(
     rules: &[u8],
-    tables: &[u16; table_words::TABLE_SIZE],
+    tables: &[u16; TABLE_SIZE],
     c: u16,
     p: u8,
     elapsed: Stay,
     bag: &[u32],
 ) -> u8
+    requires { ⌜ c < maxComponents ⌝ }
     ensures { λ r. ⌜ r ≡ decidedIn [] (now (tables .entry)) (rulesIn (now (rules .entry))) c p (elapsed .0) (map messageOf (now (bag .entry))) ⌝ }
 {
-    let first = row_word(tables, RULES_FROM_AT, c);
-    let end = row_word(tables, RULES_TO_AT, c);
+    let first = row_in(tables, RULES_FROM_AT, c);
+    let end = row_in(tables, RULES_TO_AT, c);
     led_to(
         rules,
         p,
@@ -75,14 +82,15 @@ fn decided(
 fn confluent(
     phases: &[u8],
     rules: &[u8],
-    tables: &[u16; table_words::TABLE_SIZE],
+    tables: &[u16; TABLE_SIZE],
     c: u16,
     p: u8,
     bag: &[u32],
 ) -> u8
+    requires { ⌜ c < maxComponents ⌝ }
     ensures { λ r. ⌜ r ≡ confluentIn (phasesIn (now (phases .entry))) (now (tables .entry)) (rulesIn (now (rules .entry))) c p (map messageOf (now (bag .entry))) ⌝ }
 {
-    if row_word(tables, ORDERS_AT, c) == 0 {
+    if row_in(tables, ORDERS_AT, c) == 0 {
         let next = next_of(phases, tables, c, p);
         return decided(rules, tables, c, next, Stay(0), bag);
     }
@@ -95,15 +103,16 @@ fn confluent(
 pub fn transition(
     phases: &[u8],
     rules: &[u8],
-    tables: &[u16; table_words::TABLE_SIZE],
-    phase: &mut [u8; limits::MAX_COMPONENTS],
-    last: &mut [u64; limits::MAX_COMPONENTS],
+    tables: &[u16; TABLE_SIZE],
+    phase: &mut [u8; MAX_COMPONENTS],
+    last: &mut [u64; MAX_COMPONENTS],
     at: Moment,
     i: u8,
     c: u16,
     due: bool,
     bag: &[u32],
 )
+    requires { ⌜ (i < maxComponents) × (c < maxComponents) ⌝ }
     ensures { λ _. ⌜ held (now (phase .exit)) (now (last .exit)) ≡ changedBy (phasesIn (now (phases .entry))) (now (tables .entry)) (rulesIn (now (rules .entry))) (at .0) (held (now (phase .entry)) (now (last .entry))) i c due (map messageOf (now (bag .entry))) ⌝ }
 {
     let position = size(i);

@@ -141,7 +141,6 @@ impl Run<'_> {
                 self.series(&series)?;
             }
         }
-        self.report.goals();
         Ok(())
     }
 }
@@ -174,7 +173,8 @@ fn main() -> ExitCode {
     let mut run = Run { engines: &engines, arguments: &arguments, report };
     match run.all() {
         Ok(()) => {
-            println!("{:.1} s", begun.elapsed().as_secs_f64());
+            println!("\n{:.1} s", begun.elapsed().as_secs_f64());
+            run.report.goals();
             ExitCode::SUCCESS
         }
         Err(fault) => {

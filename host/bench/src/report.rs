@@ -20,24 +20,24 @@ pub struct Line<'l> {
     pub is_flat: bool,
 }
 
-/// The lowest ratio to an engine over all lines where a goal is set, and where it was.
+/// The ratios to an engine, with their places, of all lines where a goal is set.
 #[derive(Default)]
-struct Lowest {
-    met: Option<(f64, String)>,
+struct Ratios {
+    met: Vec<(f64, String)>,
 }
 
 pub struct Report {
     names: Vec<&'static str>,
     pub subject: usize,
-    lowest: Vec<Lowest>,
+    ratios: Vec<Ratios>,
 }
 
 impl Report {
     pub fn new(engines: &Engines) -> Report {
         let names: Vec<&'static str> = engines.iter().map(|(name, _)| *name).collect();
         let subject = names.iter().position(|&name| name == "library").unwrap_or(0);
-        let lowest = names.iter().map(|_| Lowest::default()).collect();
-        Report { names, subject, lowest }
+        let ratios = names.iter().map(|_| Ratios::default()).collect();
+        Report { names, subject, ratios }
     }
 
     fn others(&self) -> impl Iterator<Item = usize> {
@@ -75,7 +75,7 @@ impl Report {
             let mark = if wanted && ratio < GOAL { '!' } else { ' ' };
             text += &format!("{ratio:>13.2}{mark}");
             if wanted {
-                self.lowest[other].meet(ratio, line);
+                self.ratios[other].meet(ratio, line);
             }
         }
         println!("{}", text.trim_end());
@@ -96,31 +96,35 @@ impl Report {
         println!("{text}");
     }
 
-    /// The goals, and the lowest ratios met.
-    pub fn goals(&self) {
+    /// What a change is held to: the middle and the lowest ratio, and how many rows reach the goal.
+    pub fn goals(&mut self) {
         if self.names[self.subject] != "library" {
             println!("\nThe proved library is not linked, so no goal is tested.");
             return;
         }
         println!();
-        for other in self.others() {
-            let place = if self.names[other] == "pulled" { "everywhere" } else { "on flat models" };
-            if let Some((ratio, label)) = &self.lowest[other].met {
-                let verdict = if *ratio < GOAL { "not met" } else { "met" };
-                println!(
-                    "goal {GOAL} of {} {place}: {verdict}, lowest {ratio:.2} ({label})",
-                    self.names[other]
-                );
+        for other in self.others().collect::<Vec<usize>>() {
+            let place = if self.names[other] == "pulled" { "" } else { " on flat models" };
+            if let Some(summary) = self.ratios[other].summary() {
+                println!("of {}{place}: {summary}", self.names[other]);
             }
         }
     }
 }
 
-impl Lowest {
+impl Ratios {
     fn meet(&mut self, ratio: f64, line: &Line) {
-        if self.met.as_ref().is_none_or(|(lowest, _)| ratio < *lowest) {
-            let label = format!("{} {}", line.label, line.facts.join(" "));
-            self.met = Some((ratio, label));
-        }
+        self.met.push((ratio, format!("{} {}", line.label, line.facts.join(" "))));
+    }
+
+    fn summary(&mut self) -> Option<String> {
+        self.met.sort_by(|a, b| a.0.total_cmp(&b.0));
+        let (worst, label) = self.met.first()?;
+        let count = self.met.len();
+        let median = (self.met[(count - 1) / 2].0 + self.met[count / 2].0) / 2.0;
+        let reached = self.met.iter().filter(|(ratio, _)| *ratio >= GOAL).count();
+        Some(format!(
+            "median {median:.2}, worst {worst:.2} ({label}), {reached} of {count} rows at {GOAL} or more"
+        ))
     }
 }

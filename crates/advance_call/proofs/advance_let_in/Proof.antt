@@ -1,116 +1,99 @@
--- The tables that are filled hold what the step asks of them, the buffers lent have room for every bag, and the instants on the tables are
--- the definition's (`call-parts`).
+-- The tables that are filled are the model's, the buffers lent have room for every bag, and the instants on the tables are the definition's
+-- (`call-parts`). What is known once the run is loaded is said of that place.
 use borrow.Author.Needs.{needs}
-use native.Mathlib.Omega.{arith}
 use denote.Ref.{now}
-use Prim.Native.Nat.{ℕ}
-use mathlib.Core.Path.{_∙_}
-use lib.ListN.{length, replicate, length-replicate}
-use Rattle.pull_laws.specs.Tables.{tableSize}
-use Rattle.reading.proofs.Whole.{same-tables, few-records, few-atomics}
+use Prim.Native.Nat.{ℕ, _<_}
+use mathlib.Core.Path.{_≡_, _∙_}
+use lib.ListN.{length, getD}
+use Rattle.definition.specs.Bytes.{Bytes, ok}
+use Rattle.definition.specs.Routes.{accepted}
+use Rattle.model.specs.Checked.{modelOf}
+use Rattle.model.specs.declared.Counts.{Counts}
 use Rattle.advance_call.proofs.Whole.{checked-room, call-parts}
 use Rattle.advance_call.proofs.advance_let_in.Statement.{statement}
 use Rattle.advance_call.proofs.advance_let_in.Tie as tie
 
--- src/lib.rt:65:9
-components-of-requires : tie.Need-components-of-requires
-components-of-requires c κs = search needs
+abbrev file : tie.After-load → Bytes
+file f = f .before .before .before .before .before .before .before .before .before .before .before .before .before .before .args .file .now
 
--- src/lib.rt:66:9
-rules-of-requires : tie.Need-rules-of-requires
-rules-of-requires c κs = search needs
+abbrev counts : tie.After-load → Counts
+counts f = f .before .before .before .before .before .before .before .before .before .before .before .before .before .before .args .n
 
--- src/lib.rt:67:9
-couplings-of-requires : tie.Need-couplings-of-requires
-couplings-of-requires c κs = search needs
+bytes : (f : tie.After-load) (i : ℕ) → getD (file f) i 0 < 256
+bytes f i = f .before .before .before .before .before .before .before .before .before .before .before .before .before .shared-slice-known .given i .fits
 
--- src/lib.rt:68:9
-slice-aggregate-fill-tables : tie.Need-slice-aggregate-fill-tables
-slice-aggregate-fill-tables c = search needs
+told : (f : tie.After-load) → ok (modelOf (file f) (counts f)) ≡ accepted (file f)
+told f = f .before .before .before .before .before .before .before .before .before .before .before .before .before .before .pre .0
 
--- src/lib.rt:64:5
-fill-tables-requires : tie.Need-fill-tables-requires
-fill-tables-requires c κs =
-    let a = c .before .before .before .before .before .before .before .before .before .before .args in
-    let few = few-records (a .file .now) (a .n) (λ i. c .before .before .before .before .before .before .before .before .before .shared-slice-known .given i .fits) (c .before .before .before .before .before .before .before .before .before .before .pre .0) in
-    (rw (c .before .before .before .components-of .ensures) (few .0), rw (c .before .before .rules-of .ensures) (few .1), rw (c .before .couplings-of .ensures) (few .2), length-replicate {A = ℕ} tableSize 0)
+-- src/lib.rt:83:5
+fill-requires : tie.Need-fill-requires
+fill-requires c κs = search needs
 
--- src/lib.rt:70:9
+-- src/lib.rt:84:9
 opening-of-requires : tie.Need-opening-of-requires
 opening-of-requires c κs = search needs
 
--- src/lib.rt:71:9
+-- src/lib.rt:87:5
 load-requires : tie.Need-load-requires
-load-requires c κs =
-    let a = c .before .before .before .before .before .before .before .before .before .before .before .before .before .before .before .args in
-    omega (arith, c .before .before .before .before .before .before .before .before .before .before .before .before .before .before .before .pre .2, few-atomics (a .file .now) (a .n) (λ i. c .before .before .before .before .before .before .before .before .before .before .before .before .before .before .shared-slice-known .given i .fits) (c .before .before .before .before .before .before .before .before .before .before .before .before .before .before .before .pre .0))
+load-requires c κs = search needs
 
--- src/lib.rt:76:9
+-- src/lib.rt:90:9
 phases-of-requires : tie.Need-phases-of-requires
 phases-of-requires c κs = search needs
 
--- src/lib.rt:77:9
-rules-of-requires-2 : tie.Need-rules-of-requires-2
-rules-of-requires-2 c κs = search needs
+-- src/lib.rt:91:9
+rules-of-requires : tie.Need-rules-of-requires
+rules-of-requires c κs = search needs
 
--- src/lib.rt:78:9
+-- src/lib.rt:93:9
+cast-advance-from : tie.Need-cast-advance-from
+cast-advance-from c = search needs
+
+-- src/lib.rt:102:9
 slice-aggregate-advance-from : tie.Need-slice-aggregate-advance-from
 slice-aggregate-advance-from c = search needs
 
--- src/lib.rt:79:9
-cast-advance-from : tie.Need-cast-advance-from
-cast-advance-from c =
-    let a = c .before .before .before .before .before .before .before .before .before .before .before .before .before .before .before .before .before .before .before .args in
-    record { fits = omega (arith, c .before .before .before .before .before .before .before .before .before .before .before .before .before .before .before .before .before .before .before .pre .2, few-atomics (a .file .now) (a .n) (λ i. c .before .before .before .before .before .before .before .before .before .before .before .before .before .before .before .before .before .before .shared-slice-known .given i .fits) (c .before .before .before .before .before .before .before .before .before .before .before .before .before .before .before .before .before .before .before .pre .0)) }
-
--- src/lib.rt:75:9
+-- src/lib.rt:89:9
 advance-from-requires : tie.Need-advance-from-requires
 advance-from-requires c κs =
-    let a = c .before .before .before .before .before .before .before .before .before .before .before .before .before .before .before .before .before .before .before .before .before .before .before .before .args in
-    let r = checked-room (a .file .now) (a .n) (λ i. c .before .before .before .before .before .before .before .before .before .before .before .before .before .before .before .before .before .before .before .before .before .before .before .shared-slice-known .given i .fits) (c .before .before .before .before .before .before .before .before .before .before .before .before .before .before .before .before .before .before .before .before .before .before .before .before .pre .0) (a .run .now) (a .t .0) (a .bag .now) (a .count) (c .before .before .before .before .before .before .before .before .before .before .before .before .before .before .before .before .before .before .before .before .before .before .before .before .pre .1) (c .before .before .before .before .before .before .before .before .before .before .before .before .before .before .before .before .before .before .before .before .before .before .before .before .pre .2) in
-    (c .before .before .before .before .before .before .before .before .before .before .before .before .before .before .before .before .before .before .before .before .before .before .before .before .pre .3, r .0, r .1, r .2)
+    let f = c .before .before .before .before .before .before .before .before .before .before in
+    let r = checked-room (file f) (counts f) (bytes f) (told f) (f .before .before .before .before .before .before .before .before .before .before .before .before .before .before .args .run .now) (f .before .before .before .before .before .before .before .before .before .before .before .before .before .before .args .t .0) (f .before .before .before .before .before .before .before .before .before .before .before .before .before .before .args .bag .now) (f .before .before .before .before .before .before .before .before .before .before .before .before .before .before .args .count) (f .before .before .before .before .before .before .before .before .before .before .before .before .before .before .pre .1) (f .before .before .before .before .before .before .before .before .before .before .before .before .before .before .pre .2) _ (f .before .before .before .before .before .before .fill .ensures) in
+    (f .before .before .before .before .before .before .before .before .before .before .before .before .before .before .pre .3, r .0, r .1, r .2)
 
--- src/lib.rt:50:1
+-- src/lib.rt:66:1
 same-length : tie.Need-same-length
 same-length c = search needs
 
--- src/lib.rt:50:1
+-- src/lib.rt:66:1
 same-length-2 : tie.Need-same-length-2
 same-length-2 c = search needs
 
+-- src/lib.rt:66:1
 same-length-3 : tie.Need-same-length-3
 same-length-3 c = search needs
 
+-- src/lib.rt:66:1
 same-length-4 : tie.Need-same-length-4
 same-length-4 c = search needs
 
--- src/lib.rt:50:1
+-- src/lib.rt:66:1
 returns : tie.Need-returns
 returns c =
-    let a = c .before .before .before .before .before .before .before .before .before .before .before .before .before .before .before .before .before .before .before .before .before .before .before .before .before .before .before .before .before .before .before .before .before .before .args in
-    let r = c .before .before .before .before .before .before .before .before .before .before .before .before .before .before .before .before .before .before .before .before .before .before .before .fill-tables in
+    let f = c .before .before .before .before .before .before .before .before .before .before .before .before .before .before .before .before .before .before .before .before in
     c .before .before .before .before .before .before .before .before .before .advance-from .ensures
-    ∙ call-parts (a .file .now) (a .n) (λ i. c .before .before .before .before .before .before .before .before .before .before .before .before .before .before .before .before .before .before .before .before .before .before .before .before .before .before .before .before .before .before .before .before .before .shared-slice-known .given i .fits) (c .before .before .before .before .before .before .before .before .before .before .before .before .before .before .before .before .before .before .before .before .before .before .before .before .before .before .before .before .before .before .before .before .before .before .pre .0) (a .run .now) (a .t .0) (a .bag .now) (a .trace .now)
-    (λ i. c .before .before .before .before .before .before .before .before .before .before .before .before .before .before .before .before .before .before .before .before .before .before .before .before .before .before .before .before .before .before .before .shared-slice-known2 .given i .fits) (c .before .before .before .before .before .before .before .before .before .before .before .before .before .before .before .before .before .before .before .before .before .before .before .before .before .before .before .before .before .before .before .before .before .before .pre .1) (a .count) (c .before .before .before .before .before .before .before .before .before .before .before .before .before .before .before .before .before .before .before .before .before .before .before .before .before .before .before .before .before .before .before .before .before .before .pre .2)
-    (c .before .before .before .before .before .before .before .before .before .before .before .before .before .before .before .before .before .before .load .result) (c .before .before .before .before .before .before .before .before .before .before .before .before .before .before .before .before .before .before .load .ensures .0) (c .before .before .before .before .before .before .before .before .before .before .before .before .before .before .before .before .before .before .load .ensures .1) (c .before .before .before .before .before .before .before .before .before .before .before .before .before .before .before .before .before .before .load .ensures .2)
-    (replicate {A = ℕ} tableSize 0) (length-replicate {A = ℕ} tableSize 0) (length (now (a .work))) (c .before .before .before .before .before .before .before .before .before .before .before .before .before .before .before .before .before .before .before .before .before .before .before .before .before .before .before .before .before .before .before .before .before .before .pre .4)
-    _ _ _ _ (c .before .before .before .before .before .before .before .before .before .before .before .before .before .before .before .before .before .phases-of .ensures) (c .before .before .before .before .before .before .before .before .before .before .before .before .before .before .before .before .rules-of2 .ensures)
-    (r .ensures ∙ same-tables (replicate {A = ℕ} tableSize 0) (c .before .before .before .before .before .before .before .before .before .before .before .before .before .before .before .before .before .before .before .before .before .before .before .before .before .before .before .components-of .ensures) (c .before .before .before .before .before .before .before .before .before .before .before .before .before .before .before .before .before .before .before .before .before .before .before .before .before .before .rules-of .ensures) (c .before .before .before .before .before .before .before .before .before .before .before .before .before .before .before .before .before .before .before .before .before .before .before .before .before .couplings-of .ensures))
-    (c .before .before .before .before .before .before .before .before .before .before .before .before .before .before .before .before .before .before .before .before .opening-of .ensures)
+    ∙ call-parts (file f) (counts f) (bytes f) (told f) (f .before .before .before .before .before .before .before .before .before .before .before .before .before .before .args .run .now) (f .before .before .before .before .before .before .before .before .before .before .before .before .before .before .args .t .0) (f .before .before .before .before .before .before .before .before .before .before .before .before .before .before .args .bag .now) (f .before .before .before .before .before .before .before .before .before .before .before .before .before .before .args .trace .now) (λ i. f .before .before .before .before .before .before .before .before .before .before .before .shared-slice-known2 .given i .fits) (f .before .before .before .before .before .before .before .before .before .before .before .before .before .before .pre .1)
+    (f .before .before .before .before .before .before .before .before .before .before .before .before .before .before .args .count) (f .before .before .before .before .before .before .before .before .before .before .before .before .before .before .pre .2) _ (f .load .ensures .0) (f .load .ensures .1) (f .load .ensures .2) _ (f .before .before .before .before .before .before .fill .ensures) (length (now (f .before .before .before .before .before .before .before .before .before .before .before .before .before .before .args .work))) (f .before .before .before .before .before .before .before .before .before .before .before .before .before .before .pre .4)
+    _ _ _ (c .before .before .before .before .before .before .before .before .before .before .before .before .before .before .before .before .before .before .before .phases-of .ensures) (c .before .before .before .before .before .before .before .before .before .before .before .before .before .before .before .before .before .before .rules-of .ensures) (f .before .before .before .before .opening-of .ensures)
 
 pub advance-let-in-spec : {M : Type 1} → statement M
 advance-let-in-spec =
     tie.close
     (tie.spec
-    components-of-requires
-    rules-of-requires
-    couplings-of-requires
-    slice-aggregate-fill-tables
-    fill-tables-requires
+    fill-requires
     opening-of-requires
     load-requires
     phases-of-requires
-    rules-of-requires-2
+    rules-of-requires
     cast-advance-from
     slice-aggregate-advance-from
     advance-from-requires

@@ -14,6 +14,7 @@ use Rattle.pull_laws.specs.Tables.{isRootNode, isOutput}
 use Rattle.pull_laws.specs.Put.{puts}
 use Rattle.pull_laws.specs.Pull.{joined, childOut, sourceIn}
 use Rattle.model_records.specs.Values.{phasesIn}
+use Rattle.definition.specs.Limits.{maxCouplings}
 use Rattle.definition.specs.Engine.{toBag}
 use Rattle.collect.specs.Turns.{pulledFrom}
 use Rattle.collect.proofs.Laws.{rowsFrom, both-left, chain-more, chain-end, input-root, input-none, input-open, input-shut, sent-by}
@@ -73,7 +74,7 @@ collect-source-below t =
 
 abbrev collect-input-Inv-loop : collect-input-lts.InvT-loop
 collect-input-Inv-loop phases tables marks reached given depth own x buf₀ at next₀ left₀ link₀ buf next left link =
-    (left ≤ 1024) × (length buf ≡ length buf₀) ×
+    (left ≤ 1024) × (link ≤ maxCouplings) × (length buf ≡ length buf₀) ×
     (puts own (joined (pulledFrom (phasesIn phases) tables marks reached (toBag given) (depth - 1)) (rowsFrom tables left link)) (buf, next) ≡
     puts own (pulledInto (phasesIn phases) tables marks reached (toBag given) depth x) (buf₀, at))
 
@@ -128,19 +129,24 @@ collect-input-loop-holds t c =
     let a = c .before .before .before .before .before .before .before .before .args in
     let r : isRootNode (a .x) ≡ false = unfold isRootNode in le-ltb _ _ (c .before .before .before .before .if1 .left) in
     let s : isOpen [] (now (a .tables)) (now (a .marks)) (now (a .reached)) (a .x) ≡ true = sym (c .before .before .is-open .ensures) ∙ not-false _ (c .before .if3 .left) in
-    (omega arith, refl, rw (c .first-link .ensures) (ap (λ l. puts (a .own) l (now (a .buf), a .at)) (input-open (phasesIn (now (a .phases))) (now (a .tables)) (now (a .marks)) (now (a .reached)) (toBag (now (a .given))) (a .depth) (a .x) r (omega arith) s)))
+    (omega arith, rw (c .first-link .ensures) (c .before .before .before .before .before .before .before .before .pre .1 .1 .firsts (a .x) (c .before .before .before .before .before .before .before .before .pre .1 .0)), refl, rw (c .first-link .ensures) (ap (λ l. puts (a .own) l (now (a .buf), a .at)) (input-open (phasesIn (now (a .phases))) (now (a .tables)) (now (a .marks)) (now (a .reached)) (toBag (now (a .given))) (a .depth) (a .x) r (omega arith) s)))
 
 collect-input-source-of-requires : (t : ℕ) → collect-input-lts.Need-source-of-requires (collect-input-calls t) (collect-input-at t) collect-input.Post collect-input-Inv-loop collect-input-μ-loop
-collect-input-source-of-requires t c κs = search needs
+collect-input-source-of-requires t c κs =
+    c .before .loop .inv .1
 
 collect-input-sub-collect-source : (t : ℕ) → collect-input-lts.Need-sub-collect-source (collect-input-calls t) (collect-input-at t) collect-input.Post collect-input-Inv-loop collect-input-μ-loop
 collect-input-sub-collect-source t c = search needs
 
 collect-input-collect-source-requires : (t : ℕ) → collect-input-lts.Need-collect-source-requires (collect-input-calls t) (collect-input-at t) collect-input.Post collect-input-Inv-loop collect-input-μ-loop
-collect-input-collect-source-requires t c κs = search needs
+collect-input-collect-source-requires t c κs =
+    let r = c .before .before .before .before .before .before .before .before .before .before .before .before .pre .1 .1 in
+    let l = c .before .before .before .loop in
+    (search needs, (rw (c .before .source-of .ensures) (r .sources (l .link) (l .inv .1)), r))
 
 collect-input-next-link-requires : (t : ℕ) → collect-input-lts.Need-next-link-requires (collect-input-calls t) (collect-input-at t) collect-input.Post collect-input-Inv-loop collect-input-μ-loop
-collect-input-next-link-requires t c κs = search needs
+collect-input-next-link-requires t c κs =
+    c .before .before .before .before .before .before .loop .inv .1
 
 collect-input-sub-left : (t : ℕ) → collect-input-lts.Need-sub-left (collect-input-calls t) (collect-input-at t) collect-input.Post collect-input-Inv-loop collect-input-μ-loop
 collect-input-sub-left t c =
@@ -156,18 +162,18 @@ collect-input-loop-again t c =
     let l = c .before .before .before .before .before .before .before .loop in
     let m = c .before .before .before .collect-source in
     let f = pulledFrom (phasesIn (now (a .phases))) (now (a .tables)) (now (a .marks)) (now (a .reached)) (toBag (now (a .given))) (a .depth - 1) in
-    (omega arith, m .kept .1 .1 .1 .1 .1 .1 .1 .1 .0 ∙ l .inv .1, rw (m .ensures, c .before .before .before .before .before .source-of .ensures, c .next-link .ensures) (chain-more f (now (a .tables)) (a .own) (l .left) (l .link) (l .buf, l .next) (c .before .before .before .before .before .before .loop-test .taken) ∙ l .inv .2))
+    (omega arith, rw (c .next-link .ensures) (c .before .before .before .before .before .before .before .before .before .before .before .before .before .before .before .before .pre .1 .1 .nexts (l .link) (l .inv .1)), m .kept .1 .1 .1 .1 .1 .1 .1 .1 .0 ∙ l .inv .2, rw (m .ensures, c .before .before .before .before .before .source-of .ensures, c .next-link .ensures) (chain-more f (now (a .tables)) (a .own) (l .left) (l .link) (l .buf, l .next) (c .before .before .before .before .before .before .loop-test .taken) ∙ l .inv .3))
 
 collect-input-same-length-2 : (t : ℕ) → collect-input-lts.Need-same-length-2 (collect-input-calls t) (collect-input-at t) collect-input.Post collect-input-Inv-loop collect-input-μ-loop
 collect-input-same-length-2 t c =
-    c .before .loop .inv .1
+    c .before .loop .inv .2
 
 collect-input-returns-4 : (t : ℕ) → collect-input-lts.Need-returns-4 (collect-input-calls t) (collect-input-at t) collect-input.Post collect-input-Inv-loop collect-input-μ-loop
 collect-input-returns-4 t c =
     let a = c .before .before .before .before .before .before .before .before .before .before .args in
     let l = c .before .loop in
     let f = pulledFrom (phasesIn (now (a .phases))) (now (a .tables)) (now (a .marks)) (now (a .reached)) (toBag (now (a .given))) (a .depth - 1) in
-    sym (chain-end f (now (a .tables)) (a .own) (l .left) (l .link) (l .buf, l .next) (c .loop-test .left)) ∙ l .inv .2
+    sym (chain-end f (now (a .tables)) (a .own) (l .left) (l .link) (l .buf, l .next) (c .loop-test .left)) ∙ l .inv .3
 
 collect-source-collect-input-requires : (t : ℕ) → collect-source-lts.Need-collect-input-requires (collect-source-calls t) (collect-source-at t) collect-source.Post
 collect-source-collect-input-requires t c κs = search needs

@@ -1,7 +1,7 @@
 -- A component that nothing may reach has an empty bag. Else the ports so far and those that are left are all four; one port more is one call more.
 use borrow.Author.Needs.{needs}
 use native.Mathlib.Omega.{arith}
-use Rattle.collect.proofs.Laws.{ports-more, ports-none, unreached}
+use Rattle.collect.proofs.Laws.{input-below, ports-more, ports-none, unreached}
 use Rattle.definition.specs.Engine.{toBag}
 use Rattle.model_records.specs.Values.{phasesIn}
 use Rattle.pull_laws.specs.Put.{putPorts}
@@ -24,13 +24,13 @@ abbrev μ-loop : tie.MeasureT-loop
 size16-requires : tie.Need-size16-requires Inv-loop μ-loop
 size16-requires c κs = search needs
 
-key-at-requires : tie.Need-key-at-requires Inv-loop μ-loop
-key-at-requires c κs = search needs
+mark-at-requires : tie.Need-mark-at-requires Inv-loop μ-loop
+mark-at-requires c κs = search needs
 
 returns : tie.Need-returns Inv-loop μ-loop
 returns c =
-    let a = c .before .before .before .before .before .before .before .args in
-    sym (unreached (phasesIn (now (a .phases))) (now (a .tables)) (now (a .marks)) (now (a .reached)) (toBag (now (a .given))) 8 (a .c) 4 0 (now (a .buf), 0) (rw (c .before .key-at .ensures, c .before .before .size16 .ensures) at (c .if1 .taken)) (omega arith))
+    let a = c .before .before .before .before .before .before .args in
+    sym (unreached (phasesIn (now (a .phases))) (now (a .tables)) (now (a .marks)) (now (a .reached)) (toBag (now (a .given))) 8 (a .c) 4 0 (now (a .buf), 0) (rw (c .before .mark-at .ensures, c .before .before .size16 .ensures) at (c .if1 .taken)) (omega arith))
 
 loop-holds : tie.Need-loop-holds Inv-loop μ-loop
 loop-holds c =
@@ -40,7 +40,9 @@ input-node-requires : tie.Need-input-node-requires Inv-loop μ-loop
 input-node-requires c κs = search needs
 
 collect-arriving-requires : tie.Need-collect-arriving-requires Inv-loop μ-loop
-collect-arriving-requires c κs = search needs
+collect-arriving-requires c κs =
+    let q = c .before .before .before .before .before .before .before .before .before .before .pre in
+    (rw (c .before .input-node .ensures) (input-below _ _ (q .0) (omega arith)), q .1)
 
 add-q : tie.Need-add-q Inv-loop μ-loop
 add-q c = search needs
@@ -50,7 +52,7 @@ loop-less c = search needs
 
 loop-again : tie.Need-loop-again Inv-loop μ-loop
 loop-again c =
-    let a = c .before .before .before .before .before .before .before .before .before .before .before .before .before .before .args in
+    let a = c .before .before .before .before .before .before .before .before .before .before .before .before .before .args in
     let l = c .before .before .before .before .before .before .loop in
     let m = c .before .before .collect-arriving in
     let f : ℕ → List ℕ = λ p. pulledInto (phasesIn (now (a .phases))) (now (a .tables)) (now (a .marks)) (now (a .reached)) (toBag (now (a .given))) 8 (inputNode (a .c) p) in
@@ -71,7 +73,7 @@ collect-bag-spec =
     Inv-loop
     μ-loop
     size16-requires
-    key-at-requires
+    mark-at-requires
     returns
     loop-holds
     input-node-requires

@@ -1,7 +1,7 @@
 -- The ports so far and those that are left are all four; one port more is one call more.
 use borrow.Author.Needs.{needs}
 use native.Mathlib.Omega.{arith}
-use Rattle.collect.proofs.Laws.{ports-more, ports-none}
+use Rattle.collect.proofs.Laws.{root-below, ports-more, ports-none}
 use Rattle.model_records.specs.Values.{phasesIn}
 use Rattle.pull_laws.specs.Put.{putPorts}
 use Rattle.route_laws.specs.Nodes.{outputNode}
@@ -28,7 +28,8 @@ root-output-requires : tie.Need-root-output-requires Inv-loop μ-loop
 root-output-requires c κs = search needs
 
 collect-leaving-requires : tie.Need-collect-leaving-requires Inv-loop μ-loop
-collect-leaving-requires c κs = search needs
+collect-leaving-requires c κs =
+    (rw (c .before .root-output .ensures) (root-below _ (omega arith)), c .before .before .before .before .before .before .pre)
 
 add-q : tie.Need-add-q Inv-loop μ-loop
 add-q c = search needs

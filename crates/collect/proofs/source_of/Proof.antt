@@ -6,19 +6,19 @@ use Rattle.collect.proofs.source_of.Tie as tie
 size16-requires : tie.Need-size16-requires
 size16-requires c κs = search needs
 
-add-word-at : tie.Need-add-word-at
-add-word-at c = search needs
+add-word-in : tie.Need-add-word-in
+add-word-in c = search needs
 
-word-at-requires : tie.Need-word-at-requires
-word-at-requires c κs = search needs
+word-in-requires : tie.Need-word-in-requires
+word-in-requires c κs = search needs
 
 node-requires : tie.Need-node-requires
 node-requires c κs = search needs
 
 returns : tie.Need-returns
 returns c =
-    rw (c .node .ensures, c .before .word-at .ensures, c .before .before .size16 .ensures)
+    rw (c .node .ensures, c .before .word-in .ensures, c .before .before .size16 .ensures)
 
 pub source-of-spec : {M : Type 1} → statement M
 source-of-spec =
-    tie.close (tie.spec size16-requires add-word-at word-at-requires node-requires returns)
+    tie.close (tie.spec size16-requires add-word-in word-in-requires node-requires returns)

@@ -17,48 +17,48 @@ Inv-loop phases tables marks given n keys₀ rows₀ at₀ i₀ keys rows at i =
 abbrev μ-loop : tie.MeasureT-loop
 μ-loop phases tables marks given n keys₀ rows₀ at₀ i₀ keys rows at i = n - i
 
--- src/lib.rt:116:9
 add-root-requires : tie.Need-add-root-requires Inv-loop μ-loop
 add-root-requires c κs =
-    let a = c .before .before .before .before .before .before .args in let k = root-room (phasesIn (now (a .phases))) (now (a .tables)) (now (a .marks)) (toBag (now (a .given))) (a .n) in (omega (arith, k, c .before .before .before .before .before .before .pre .0), omega (arith, k, c .before .before .before .before .before .before .pre .1))
+    let a = c .before .before .before .before .before .before .args in
+    let k = root-room (phasesIn (now (a .phases))) (now (a .tables)) (now (a .marks)) (toBag (now (a .given))) (a .n) in
+    (c .before .before .before .before .before .before .pre .1, omega (arith, k, c .before .before .before .before .before .before .pre .2), omega (arith, k, c .before .before .before .before .before .before .pre .3))
 
--- src/lib.rt:118:5
 loop-holds : tie.Need-loop-holds Inv-loop μ-loop
 loop-holds c =
-    let a = c .before .before .before .before .before .before .before .before .before .before .before .args in (omega arith, refl, refl, rw (c .before .before .before .before .add-root .ensures .0, c .before .before .before .before .add-root .ensures .1) (so-begins (phasesIn (now (a .phases))) (now (a .tables)) (now (a .marks)) (toBag (now (a .given))) (a .n) (now (a .rows)) (c .before .before .before .before .before .before .before .before .before .before .before .pre .1)))
+    let a = c .before .before .before .before .before .before .before .before .before .before .before .args in (omega arith, refl, refl, rw (c .before .before .before .before .add-root .ensures .0, c .before .before .before .before .add-root .ensures .1) (so-begins (phasesIn (now (a .phases))) (now (a .tables)) (now (a .marks)) (toBag (now (a .given))) (a .n) (now (a .rows)) (c .before .before .before .before .before .before .before .before .before .before .before .pre .3)))
 
--- src/lib.rt:119:9
 add-atomic-requires : tie.Need-add-atomic-requires Inv-loop μ-loop
 add-atomic-requires c κs =
-    let a = c .before .before .before .before .before .before .before .before .before .before .before .before .before .before .before .args in let l = c .before .before .before .loop in let k = so-room (phasesIn (now (a .phases))) (now (a .tables)) (now (a .marks)) (toBag (now (a .given))) (a .n) (l .i) (l .at) (l .rows) (c .before .before .loop-test .taken) (l .inv .3) in (omega (arith, k, c .before .before .before .before .before .before .before .before .before .before .before .before .before .before .before .pre .0, l .inv .1, c .before .before .before .before .before .before .before .before .add-root .kept .1 .1 .1 .0), omega (arith, k, c .before .before .before .before .before .before .before .before .before .before .before .before .before .before .before .pre .1, l .inv .2, c .before .before .before .before .before .before .before .before .add-root .kept .1 .1 .1 .1 .0))
+    let a = c .before .before .before .before .before .before .before .before .before .before .before .before .before .before .before .args in
+    let l = c .before .before .before .loop in
+    let k = so-room (phasesIn (now (a .phases))) (now (a .tables)) (now (a .marks)) (toBag (now (a .given))) (a .n) (l .i) (l .at) (l .rows) (c .before .before .loop-test .taken) (l .inv .3) in
+    (omega (arith, c .before .before .before .before .before .before .before .before .before .before .before .before .before .before .before .pre .0), c .before .before .before .before .before .before .before .before .before .before .before .before .before .before .before .pre .1, omega (arith, k, c .before .before .before .before .before .before .before .before .before .before .before .before .before .before .before .pre .2, l .inv .1, c .before .before .before .before .before .before .before .before .add-root .kept .1 .1 .1 .0), omega (arith, k, c .before .before .before .before .before .before .before .before .before .before .before .before .before .before .before .pre .3, l .inv .2, c .before .before .before .before .before .before .before .before .add-root .kept .1 .1 .1 .1 .0))
 
--- src/lib.rt:120:13
 add-i : tie.Need-add-i Inv-loop μ-loop
 add-i c = search needs
 
--- src/lib.rt:118:5
 loop-less : tie.Need-loop-less Inv-loop μ-loop
 loop-less c = search needs
 
--- src/lib.rt:118:5
 loop-again : tie.Need-loop-again Inv-loop μ-loop
 loop-again c =
-    let a = c .before .before .before .before .before .before .before .before .before .before .before .before .before .before .before .before .before .before .before .before .args in let l = c .before .before .before .before .before .before .before .before .loop in (omega arith, c .before .before .before .before .add-atomic .kept .1 .1 .1 .1 .1 .0 ∙ l .inv .1, c .before .before .before .before .add-atomic .kept .1 .1 .1 .1 .1 .1 .0 ∙ l .inv .2, rw (c .before .before .before .before .add-atomic .ensures .0, c .before .before .before .before .add-atomic .ensures .1) (so-more (phasesIn (now (a .phases))) (now (a .tables)) (now (a .marks)) (toBag (now (a .given))) (a .n) (l .i) (l .at) (l .rows) (c .before .before .before .before .before .before .before .loop-test .taken) (omega (arith, c .before .before .before .before .before .before .before .before .before .before .before .before .before .before .before .before .before .before .before .before .pre .1, l .inv .2, c .before .before .before .before .before .before .before .before .before .before .before .before .before .add-root .kept .1 .1 .1 .1 .0)) (l .inv .3)))
+    let a = c .before .before .before .before .before .before .before .before .before .before .before .before .before .before .before .before .before .before .before .before .args in
+    let l = c .before .before .before .before .before .before .before .before .loop in
+    (omega arith, c .before .before .before .before .add-atomic .kept .1 .1 .1 .1 .1 .0 ∙ l .inv .1, c .before .before .before .before .add-atomic .kept .1 .1 .1 .1 .1 .1 .0 ∙ l .inv .2, rw (c .before .before .before .before .add-atomic .ensures .0, c .before .before .before .before .add-atomic .ensures .1) (so-more (phasesIn (now (a .phases))) (now (a .tables)) (now (a .marks)) (toBag (now (a .given))) (a .n) (l .i) (l .at) (l .rows) (c .before .before .before .before .before .before .before .loop-test .taken) (omega (arith, c .before .before .before .before .before .before .before .before .before .before .before .before .before .before .before .before .before .before .before .before .pre .3, l .inv .2, c .before .before .before .before .before .before .before .before .before .before .before .before .before .add-root .kept .1 .1 .1 .1 .0)) (l .inv .3)))
 
--- src/lib.rt:102:1
 same-length : tie.Need-same-length Inv-loop μ-loop
 same-length c =
     c .before .loop .inv .1 ∙ c .before .before .before .before .before .before .add-root .kept .1 .1 .1 .0
 
--- src/lib.rt:102:1
 same-length-2 : tie.Need-same-length-2 Inv-loop μ-loop
 same-length-2 c =
     c .before .loop .inv .2 ∙ c .before .before .before .before .before .before .add-root .kept .1 .1 .1 .1 .0
 
--- src/lib.rt:102:1
 returns : tie.Need-returns Inv-loop μ-loop
 returns c =
-    let a = c .before .before .before .before .before .before .before .before .before .before .before .before .before .args in let l = c .before .loop in so-ends (phasesIn (now (a .phases))) (now (a .tables)) (now (a .marks)) (toBag (now (a .given))) (a .n) (l .i) (l .at) (l .rows) (c .loop-test .left) (l .inv .3)
+    let a = c .before .before .before .before .before .before .before .before .before .before .before .before .before .args in
+    let l = c .before .loop in
+    so-ends (phasesIn (now (a .phases))) (now (a .tables)) (now (a .marks)) (toBag (now (a .given))) (a .n) (l .i) (l .at) (l .rows) (c .loop-test .left) (l .inv .3)
 
 pub add-all-spec : {M : Type 1} → statement M
 add-all-spec =

@@ -11,55 +11,48 @@ use denote.Ref.{now}
 use Rattle.flat_rows.proofs.add_atomic.Statement.{statement}
 use Rattle.flat_rows.proofs.add_atomic.Tie as tie
 
--- src/lib.rt:95:42
-size-requires : tie.Need-size-requires
-size-requires c κs = search needs
+row-in-requires : tie.Need-row-in-requires
+row-in-requires c κs = search needs
 
--- src/lib.rt:95:29
-add-word-at : tie.Need-add-word-at
-add-word-at c = search needs
-
--- src/lib.rt:95:9
-word-at-requires : tie.Need-word-at-requires
-word-at-requires c κs = search needs
-
--- src/lib.rt:96:9
 collect-bag-requires : tie.Need-collect-bag-requires
-collect-bag-requires c κs = search needs
+collect-bag-requires c κs =
+    let p = c .before .before .before .before .before .before .pre in
+    (rw (c .before .row-in .ensures) (p .1 .numbers (c .before .before .before .before .before .before .args .i) (p .0)), p .1)
 
--- src/lib.rt:97:22
 wide-requires : tie.Need-wide-requires
 wide-requires c κs = search needs
 
--- src/lib.rt:97:22
 add-put-rows : tie.Need-add-put-rows
 add-put-rows c = search needs
 
--- src/lib.rt:97:5
 put-rows-requires : tie.Need-put-rows-requires
 put-rows-requires c κs =
-    let a = c .before .before .before .before .before .before .before .before .before .before .before .before .before .before .args in let ps = phasesIn (now (a .phases)) in let x = toBag (now (a .given)) in let h = atomic-held ps (now (a .tables)) (now (a .marks)) x (a .i) (now (a .keys)) _ (c .before .before .before .before .before .collect-bag .result) (rw (c .before .before .before .before .before .before .before .word-at .ensures, c .before .before .before .before .before .before .before .before .size .ensures) at (c .before .before .before .before .before .collect-bag .ensures)) (c .before .before .before .before .before .before .before .before .before .before .before .before .before .before .pre .0) in (h .room, omega (arith, h .count, position-length ps (now (a .tables)) (now (a .marks)) x (a .i), c .before .before .before .before .before .before .before .before .before .before .before .before .before .before .pre .1))
+    let a = c .before .before .before .before .before .before .before .before .before .before .before .before .args in
+    let ps = phasesIn (now (a .phases)) in
+    let x = toBag (now (a .given)) in
+    let h = atomic-held ps (now (a .tables)) (now (a .marks)) x (a .i) (now (a .keys)) _ (c .before .before .before .before .before .collect-bag .result) (rw (c .before .before .before .before .before .before .before .row-in .ensures) at (c .before .before .before .before .before .collect-bag .ensures)) (c .before .before .before .before .before .before .before .before .before .before .before .before .pre .2) in
+    (h .room, omega (arith, h .count, position-length ps (now (a .tables)) (now (a .marks)) x (a .i), c .before .before .before .before .before .before .before .before .before .before .before .before .pre .3))
 
--- src/lib.rt:80:1
 same-length : tie.Need-same-length
 same-length c = search needs
 
--- src/lib.rt:80:1
 same-length-2 : tie.Need-same-length-2
 same-length-2 c = search needs
 
--- src/lib.rt:80:1
 returns : tie.Need-returns
 returns c =
-    let a = c .before .before .before .before .before .before .before .before .before .before .before .before .before .before .before .before .before .args in let ps = phasesIn (now (a .phases)) in let x = toBag (now (a .given)) in let h = atomic-held ps (now (a .tables)) (now (a .marks)) x (a .i) (now (a .keys)) _ (c .before .before .before .before .before .before .before .before .collect-bag .result) (rw (c .before .before .before .before .before .before .before .before .before .before .word-at .ensures, c .before .before .before .before .before .before .before .before .before .before .before .size .ensures) at (c .before .before .before .before .before .before .before .before .collect-bag .ensures)) (c .before .before .before .before .before .before .before .before .before .before .before .before .before .before .before .before .before .pre .0) in (c .before .before .put-rows .ensures .0 ∙ ap (λ k. a .at + k) (h .count ∙ sym (position-length ps (now (a .tables)) (now (a .marks)) x (a .i))), rw (c .before .before .put-rows .ensures .1, c .before .before .before .before .before .wide .ensures) (ap (sets (now (a .rows)) (a .at)) (position-rows ps (now (a .tables)) (now (a .marks)) x (a .i) _ (c .before .before .before .before .before .before .before .before .collect-bag .result) h)))
+    let a = c .before .before .before .before .before .before .before .before .before .before .before .before .before .before .before .args in
+    let ps = phasesIn (now (a .phases)) in
+    let x = toBag (now (a .given)) in
+    let r = c .before .before .before .before .before .before .before .before .collect-bag .result in
+    let h = atomic-held ps (now (a .tables)) (now (a .marks)) x (a .i) (now (a .keys)) _ r (rw (c .before .before .before .before .before .before .before .before .before .before .row-in .ensures) at (c .before .before .before .before .before .before .before .before .collect-bag .ensures)) (c .before .before .before .before .before .before .before .before .before .before .before .before .before .before .before .pre .2) in
+    (c .before .before .put-rows .ensures .0 ∙ ap (λ k. a .at + k) (h .count ∙ sym (position-length ps (now (a .tables)) (now (a .marks)) x (a .i))), rw (c .before .before .put-rows .ensures .1, c .before .before .before .before .before .wide .ensures) (ap (sets (now (a .rows)) (a .at)) (position-rows ps (now (a .tables)) (now (a .marks)) x (a .i) _ r h)))
 
 pub add-atomic-spec : {M : Type 1} → statement M
 add-atomic-spec =
     tie.close
     (tie.spec
-    size-requires
-    add-word-at
-    word-at-requires
+    row-in-requires
     collect-bag-requires
     wide-requires
     add-put-rows

@@ -2,7 +2,7 @@
 use borrow.Author.Needs.{needs}
 use native.Mathlib.Omega.{arith}
 use Rattle.flat_writer.proofs.Sections.{phase-puts}
-use Rattle.flat_writer.proofs.Pieces.{slice-bytes}
+use Rattle.byte_laws.proofs.Slices.{all-bytes}
 use lib.ListN.{length-take}
 use Prim.Native.Nat.{_*_}
 use denote.Ref.{now}
@@ -45,7 +45,7 @@ same-length c = search needs
 -- src/lib.rt:103:1
 returns : tie.Need-returns
 returns c =
-    let a = c .before .before .before .before .before .before .before .before .before .before .before .before .before .args in rw (c .before .before .put-bytes .ensures, c .before .before .before .before .front .ensures, c .before .before .before .before .before .before .before .put-number .ensures, c .before .before .before .before .before .before .before .before .wide .ensures, c .before .before .before .before .before .before .before .before .before .before .phase-count .ensures) (phase-puts (now (a .phases)) (a .at) (now (a .out)) (slice-bytes (now (a .phases)) (λ i. c .before .before .before .before .before .before .before .before .before .before .before .before .shared-slice-known .given i .fits)))
+    let a = c .before .before .before .before .before .before .before .before .before .before .before .before .before .args in rw (c .before .before .put-bytes .ensures, c .before .before .before .before .front .ensures, c .before .before .before .before .before .before .before .put-number .ensures, c .before .before .before .before .before .before .before .before .wide .ensures, c .before .before .before .before .before .before .before .before .before .before .phase-count .ensures) (phase-puts (now (a .phases)) (a .at) (now (a .out)) (all-bytes (now (a .phases)) (λ i. c .before .before .before .before .before .before .before .before .before .before .before .before .shared-slice-known .given i .fits)))
 
 pub put-phases-spec : {M : Type 1} → statement M
 put-phases-spec =

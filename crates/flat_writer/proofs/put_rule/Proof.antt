@@ -2,7 +2,7 @@
 use borrow.Author.Needs.{needs}
 use native.Mathlib.Omega.{arith}
 use Rattle.flat_writer.proofs.Sections.{rule-puts}
-use Rattle.flat_writer.proofs.Pieces.{slice-bytes}
+use Rattle.byte_laws.proofs.Slices.{all-bytes}
 use lib.ListN.{length-take}
 use denote.Ref.{now}
 use Rattle.flat_writer.proofs.put_rule.Statement.{statement}
@@ -56,7 +56,7 @@ same-length c = search needs
 -- src/lib.rt:115:1
 returns : tie.Need-returns
 returns c =
-    let a = c .before .before .before .before .before .before .before .before .before .before .before .before .before .before .before .before .before .args in rw (c .before .before .put-bytes .ensures, c .before .before .before .before .front .ensures, c .before .before .before .before .before .rest .ensures, c .before .before .before .before .before .before .before .before .put-number .ensures, c .before .before .before .before .before .before .before .before .before .wide32 .ensures, c .before .before .before .before .before .before .before .before .before .before .before .rank-of .ensures, c .before .before .before .before .before .before .before .before .before .before .before .before .number .ensures, c .before .before .before .before .before .before .before .before .before .before .before .before .before .byte-at .ensures) (rule-puts (now (a .tables)) (now (a .rule)) (a .at) (now (a .out)) (c .before .before .before .before .before .before .before .before .before .before .before .before .before .before .before .before .before .pre .0) (slice-bytes (now (a .rule)) (λ i. c .before .before .before .before .before .before .before .before .before .before .before .before .before .before .before .before .shared-slice-known .given i .fits)))
+    let a = c .before .before .before .before .before .before .before .before .before .before .before .before .before .before .before .before .before .args in rw (c .before .before .put-bytes .ensures, c .before .before .before .before .front .ensures, c .before .before .before .before .before .rest .ensures, c .before .before .before .before .before .before .before .before .put-number .ensures, c .before .before .before .before .before .before .before .before .before .wide32 .ensures, c .before .before .before .before .before .before .before .before .before .before .before .rank-of .ensures, c .before .before .before .before .before .before .before .before .before .before .before .before .number .ensures, c .before .before .before .before .before .before .before .before .before .before .before .before .before .byte-at .ensures) (rule-puts (now (a .tables)) (now (a .rule)) (a .at) (now (a .out)) (c .before .before .before .before .before .before .before .before .before .before .before .before .before .before .before .before .before .pre .0) (all-bytes (now (a .rule)) (λ i. c .before .before .before .before .before .before .before .before .before .before .before .before .before .before .before .before .shared-slice-known .given i .fits)))
 
 pub put-rule-spec : {M : Type 1} → statement M
 put-rule-spec =

@@ -1,15 +1,35 @@
--- The tables hold for the accepted model, so that rows and bytes are its flat form's: too little room (`flatten-short`), or the bytes at the buffer's front (`flatten-whole`).
+-- The tables are the accepted model's, so that rows and bytes are its flat form's: too little room (`flatten-short`), or the bytes at the
+-- buffer's front (`flatten-whole`). What is known once the atomics are counted is said of that place, and cited from the later ones.
 use borrow.Author.Needs.{needs}
-use Rattle.flatten.proofs.Flattened.{at-most, few-components, few-phases, few-rules, few-couplings, few-atomics, rows-fit, flatten-short, flatten-whole}
-use Rattle.model_records.specs.Values.{componentsIn}
-use Rattle.definition.specs.Model.{atomics}
-use lib.ListN.{length}
-use Rattle.flat_rows.proofs.Collected.{fits}
-use Prim.Native.Nat.{_≤_}
-use mathlib.Core.Path.{ap, _∙_, subst}
+use Prim.Native.Nat.{ℕ, _≤_, _<_}
+use mathlib.Core.Path.{_≡_, ap, _∙_, subst}
+use lib.ListN.{length, getD}
 use denote.Ref.{now}
+use Rattle.definition.specs.Bytes.{Bytes, ok}
+use Rattle.definition.specs.Model.{atomics}
+use Rattle.definition.specs.Routes.{accepted}
+use Rattle.model_records.specs.Values.{componentsIn}
+use Rattle.model.specs.Checked.{componentsPart, modelOf}
+use Rattle.model.specs.declared.Counts.{Counts}
+use Rattle.flat_rows.proofs.Collected.{fits}
+use Rattle.flatten.proofs.Flattened.{at-most, few-phases, few-rules, few-own, rows-fit, probing, flatten-short, flatten-whole}
 use Rattle.flatten.proofs.flatten_accepted.Statement.{statement}
 use Rattle.flatten.proofs.flatten_accepted.Tie as tie
+
+abbrev file : tie.After-small → Bytes
+file f = f .before .before .before .before .before .before .before .before .before .args .file .now
+
+abbrev counts : tie.After-small → Counts
+counts f = f .before .before .before .before .before .before .before .before .before .args .n
+
+bytes : (f : tie.After-small) (i : ℕ) → getD (file f) i 0 < 256
+bytes f i = f .before .before .before .before .before .before .before .before .shared-slice-known .given i .fits
+
+told : (f : tie.After-small) → ok (modelOf (file f) (counts f)) ≡ accepted (file f)
+told f = f .before .before .before .before .before .before .before .before .before .pre .0
+
+own : (f : tie.After-small) → f .small .result ≡ length (atomics (componentsIn (componentsPart (file f) (counts f))))
+own f = f .small .ensures ∙ f .before .atomic-count .ensures ∙ ap (λ (s : Bytes). length (atomics (componentsIn s))) (f .before .before .before .before .components-of .ensures)
 
 -- src/lib.rt:51:9
 components-of-requires : tie.Need-components-of-requires
@@ -27,55 +47,57 @@ rules-of-requires c κs = search needs
 atomic-count-requires : tie.Need-atomic-count-requires
 atomic-count-requires c κs = search needs
 
--- src/lib.rt:54:9
+-- src/lib.rt:54:19
 small-requires : tie.Need-small-requires
 small-requires c κs =
-    let a = c .before .before .before .before .before .before .before .before .args in rw (c .atomic-count .ensures, c .before .before .before .components-of .ensures) (few-atomics (now (a .file)) (a .n) (λ i. c .before .before .before .before .before .before .before .shared-slice-known .given i .fits) (c .before .before .before .before .before .before .before .before .pre .0))
-
--- src/lib.rt:55:44
-couplings-of-requires : tie.Need-couplings-of-requires
-couplings-of-requires c κs = search needs
+    let given = c .before .before .before .before .before .before .before .before in
+    rw (c .atomic-count .ensures, c .before .before .before .components-of .ensures) (few-own (given .args .file .now) (given .args .n) (λ i. c .before .before .before .before .before .before .before .shared-slice-known .given i .fits) (given .pre .0))
 
 -- src/lib.rt:55:5
-fill-tables-requires : tie.Need-fill-tables-requires
-fill-tables-requires c κs =
-    let a = c .before .before .before .before .before .before .before .before .before .before .before .args in rw (c .before .before .before .before .before .before .components-of .ensures, c .before .before .before .before .rules-of .ensures, c .before .couplings-of .ensures) (few-components (now (a .file)) (a .n) (λ i. c .before .before .before .before .before .before .before .before .before .before .shared-slice-known .given i .fits) (c .before .before .before .before .before .before .before .before .before .before .before .pre .0), few-rules (now (a .file)) (a .n) (λ i. c .before .before .before .before .before .before .before .before .before .before .shared-slice-known .given i .fits) (c .before .before .before .before .before .before .before .before .before .before .before .pre .0), few-couplings (now (a .file)) (a .n) (λ i. c .before .before .before .before .before .before .before .before .before .before .shared-slice-known .given i .fits) (c .before .before .before .before .before .before .before .before .before .before .before .pre .0), c .before .before .before .before .before .before .before .before .before .before .before .pre .1)
+fill-requires : tie.Need-fill-requires
+fill-requires c κs = search needs
 
--- src/lib.rt:56:9
+-- src/lib.rt:56:17
 flat-rows-requires : tie.Need-flat-rows-requires
 flat-rows-requires c κs =
-    let a = c .before .before .before .before .before .before .before .before .before .before .before .before .before .before .before .args in let q = rows-fit (now (a .file)) (a .n) (λ i. c .before .before .before .before .before .before .before .before .before .before .before .before .before .before .shared-slice-known .given i .fits) (c .before .before .before .before .before .before .before .before .before .before .before .before .before .before .before .pre .0) (now (a .tables)) _ (c .before .before .before .before .before .before .before .before .before .before .before .before .before .before .before .pre .1) (rw (c .before .before .before .before .before .before .before .before .before .before .components-of .ensures, c .before .before .before .before .before .before .before .before .rules-of .ensures, c .before .before .before .before .before .couplings-of .ensures) at (c .before .before .before .fill-tables .ensures)) (c .before .before .before .before .before .before .small .result) (c .before .before .before .before .before .before .small .ensures ∙ c .before .before .before .before .before .before .before .atomic-count .ensures ∙ ap (λ s. length (atomics (componentsIn s))) (c .before .before .before .before .before .before .before .before .before .before .components-of .ensures)) in (at-most q (c .before .before .before .before .before .before .before .before .before .before .before .before .before .before .before .pre .2), at-most q (c .before .before .before .before .before .before .before .before .before .before .before .before .before .before .before .pre .3))
+    let f = c .before .before .before .before .before in
+    probing (file f) (counts f) (bytes f) (told f) _ (c .before .before .before .fill .ensures) (f .small .result) (own f) _ _ (f .before .before .before .before .before .before .before .before .before .pre .2) (f .before .before .before .before .before .before .before .before .before .pre .3)
 
--- src/lib.rt:57:9
+-- src/lib.rt:57:16
 flat-size-requires : tie.Need-flat-size-requires
 flat-size-requires c κs =
-    let a = c .before .before .before .before .before .before .before .before .before .before .before .before .before .before .before .before .before .before .before .before .args in let q = rows-fit (now (a .file)) (a .n) (λ i. c .before .before .before .before .before .before .before .before .before .before .before .before .before .before .before .before .before .before .before .shared-slice-known .given i .fits) (c .before .before .before .before .before .before .before .before .before .before .before .before .before .before .before .before .before .before .before .before .pre .0) (now (a .tables)) _ (c .before .before .before .before .before .before .before .before .before .before .before .before .before .before .before .before .before .before .before .before .pre .1) (rw (c .before .before .before .before .before .before .before .before .before .before .before .before .before .before .before .components-of .ensures, c .before .before .before .before .before .before .before .before .before .before .before .before .before .rules-of .ensures, c .before .before .before .before .before .before .before .before .before .before .couplings-of .ensures) at (c .before .before .before .before .before .before .before .before .fill-tables .ensures)) (c .before .before .before .before .before .before .before .before .before .before .before .small .result) (c .before .before .before .before .before .before .before .before .before .before .before .small .ensures ∙ c .before .before .before .before .before .before .before .before .before .before .before .before .atomic-count .ensures ∙ ap (λ s. length (atomics (componentsIn s))) (c .before .before .before .before .before .before .before .before .before .before .before .before .before .before .before .components-of .ensures)) in (rw (c .before .before .before .before .before .before .before .before .before .before .before .before .before .before .phases-of .ensures) (few-phases (now (a .file)) (a .n) (λ i. c .before .before .before .before .before .before .before .before .before .before .before .before .before .before .before .before .before .before .before .shared-slice-known .given i .fits) (c .before .before .before .before .before .before .before .before .before .before .before .before .before .before .before .before .before .before .before .before .pre .0)), rw (c .before .before .before .before .before .before .before .before .before .before .before .before .before .rules-of .ensures) (few-rules (now (a .file)) (a .n) (λ i. c .before .before .before .before .before .before .before .before .before .before .before .before .before .before .before .before .before .before .before .shared-slice-known .given i .fits) (c .before .before .before .before .before .before .before .before .before .before .before .before .before .before .before .before .before .before .before .before .pre .0)), rw (c .before .before .before .before .flat-rows .ensures .0) q)
+    let f = c .before .before .before .before .before .before .before .before .before .before in
+    (rw (f .before .before .before .phases-of .ensures) (few-phases (file f) (counts f) (bytes f) (told f)), rw (f .before .before .rules-of .ensures) (few-rules (file f) (counts f) (bytes f) (told f)), rw (c .before .before .before .before .flat-rows .ensures .0) (rows-fit (file f) (counts f) (bytes f) (told f) _ (c .before .before .before .before .before .before .before .before .fill .ensures) (f .small .result) (own f)))
 
--- src/lib.rt:59:9
+-- src/lib.rt:59:16
 same-length : tie.Need-same-length
 same-length c = search needs
 
--- src/lib.rt:59:9
+-- src/lib.rt:59:16
 same-length-2 : tie.Need-same-length-2
 same-length-2 c = search needs
 
--- src/lib.rt:59:9
-same-length-3 : tie.Need-same-length-3
-same-length-3 c = search needs
-
--- src/lib.rt:59:9
+-- src/lib.rt:59:16
 returns : tie.Need-returns
 returns c =
-    let a = c .before .before .before .before .before .before .before .before .before .before .before .before .before .before .before .before .before .before .before .before .before .before .args in flatten-short (now (a .file)) (a .n) (λ i. c .before .before .before .before .before .before .before .before .before .before .before .before .before .before .before .before .before .before .before .before .before .shared-slice-known .given i .fits) (c .before .before .before .before .before .before .before .before .before .before .before .before .before .before .before .before .before .before .before .before .before .before .pre .0) (now (a .tables)) _ (c .before .before .before .before .before .before .before .before .before .before .before .before .before .before .before .before .before .before .before .before .before .before .pre .1) (rw (c .before .before .before .before .before .before .before .before .before .before .before .before .before .before .before .before .before .components-of .ensures, c .before .before .before .before .before .before .before .before .before .before .before .before .before .before .before .rules-of .ensures, c .before .before .before .before .before .before .before .before .before .before .before .before .couplings-of .ensures) at (c .before .before .before .before .before .before .before .before .before .before .fill-tables .ensures)) (c .before .before .before .before .before .before .before .before .before .before .before .before .before .small .result) (c .before .before .before .before .before .before .before .before .before .before .before .before .before .small .ensures ∙ c .before .before .before .before .before .before .before .before .before .before .before .before .before .before .atomic-count .ensures ∙ ap (λ s. length (atomics (componentsIn s))) (c .before .before .before .before .before .before .before .before .before .before .before .before .before .before .before .before .before .components-of .ensures)) (c .before .before .before .before .before .before .flat-rows .result) (c .before .flat-size .result) (c .before .before .before .before .before .before .flat-rows .ensures .0) (rw (c .before .before .before .before .before .before .before .before .before .before .before .before .before .before .before .before .phases-of .ensures, c .before .before .before .before .before .before .before .before .before .before .before .before .before .before .before .rules-of .ensures) at (c .before .flat-size .ensures)) (now (a .out)) (c .if1 .taken)
+    let f = c .before .before .before .before .before .before .before .before .before .before .before .before in
+    flatten-short (file f) (counts f) (bytes f) (told f) _ (c .before .before .before .before .before .before .before .before .before .before .fill .ensures) (f .small .result) (own f) (c .before .before .before .before .before .before .flat-rows .result) (c .before .flat-size .result) (c .before .before .before .before .before .before .flat-rows .ensures .0)
+    (rw (f .before .before .before .phases-of .ensures, f .before .before .rules-of .ensures) at (c .before .flat-size .ensures)) (now (f .before .before .before .before .before .before .before .before .before .args .out)) (c .if1 .taken)
 
 -- src/lib.rt:64:5
 put-flat-requires : tie.Need-put-flat-requires
 put-flat-requires c κs =
-    let a = c .before .before .before .before .before .before .before .before .before .before .before .before .before .before .before .before .before .before .before .before .before .before .before .before .before .before .args in let q = rows-fit (now (a .file)) (a .n) (λ i. c .before .before .before .before .before .before .before .before .before .before .before .before .before .before .before .before .before .before .before .before .before .before .before .before .before .shared-slice-known .given i .fits) (c .before .before .before .before .before .before .before .before .before .before .before .before .before .before .before .before .before .before .before .before .before .before .before .before .before .before .pre .0) (now (a .tables)) _ (c .before .before .before .before .before .before .before .before .before .before .before .before .before .before .before .before .before .before .before .before .before .before .before .before .before .before .pre .1) (rw (c .before .before .before .before .before .before .before .before .before .before .before .before .before .before .before .before .before .before .before .before .before .components-of .ensures, c .before .before .before .before .before .before .before .before .before .before .before .before .before .before .before .before .before .before .before .rules-of .ensures, c .before .before .before .before .before .before .before .before .before .before .before .before .before .before .before .before .couplings-of .ensures) at (c .before .before .before .before .before .before .before .before .before .before .before .before .before .before .fill-tables .ensures)) (c .before .before .before .before .before .before .before .before .before .before .before .before .before .before .before .before .before .small .result) (c .before .before .before .before .before .before .before .before .before .before .before .before .before .before .before .before .before .small .ensures ∙ c .before .before .before .before .before .before .before .before .before .before .before .before .before .before .before .before .before .before .atomic-count .ensures ∙ ap (λ s. length (atomics (componentsIn s))) (c .before .before .before .before .before .before .before .before .before .before .before .before .before .before .before .before .before .before .before .before .before .components-of .ensures)) in (fits (c .before .before .before .before .before .before .before .before .before .before .flat-rows .ensures .0) (c .before .before .before .before .before .before .before .before .before .before .flat-rows .kept .1 .1 .0) (at-most q (c .before .before .before .before .before .before .before .before .before .before .before .before .before .before .before .before .before .before .before .before .before .before .before .before .before .before .pre .2)), subst (λ z. z ≤ length (now (a .out))) (c .before .before .before .before .before .flat-size .ensures) (c .before .before .before .before .if1 .left))
+    let f = c .before .before .before .before .before .before .before .before .before .before .before .before .before .before .before .before in
+    let q = rows-fit (file f) (counts f) (bytes f) (told f) _ (c .before .before .before .before .before .before .before .before .before .before .before .before .before .before .fill .ensures) (f .small .result) (own f) in
+    (fits (c .before .before .before .before .before .before .before .before .before .before .flat-rows .ensures .0) (c .before .before .before .before .before .before .before .before .before .before .flat-rows .kept .1 .1 .0) (at-most q (f .before .before .before .before .before .before .before .before .before .pre .2)), subst (λ z. z ≤ length (now (f .before .before .before .before .before .before .before .before .before .args .out))) (c .before .before .before .before .before .flat-size .ensures) (c .before .before .before .before .if1 .left))
 
 -- src/lib.rt:67:16
 wide-requires : tie.Need-wide-requires
 wide-requires c κs = search needs
+
+-- src/lib.rt:40:1
+same-length-3 : tie.Need-same-length-3
+same-length-3 c = search needs
 
 -- src/lib.rt:40:1
 same-length-4 : tie.Need-same-length-4
@@ -88,7 +110,11 @@ same-length-5 c = search needs
 -- src/lib.rt:40:1
 returns-2 : tie.Need-returns-2
 returns-2 c =
-    let a = c .before .before .before .before .before .before .before .before .before .before .before .before .before .before .before .before .before .before .before .before .before .before .before .before .before .before .before .before .before .before .args in rw (c .wide .ensures) (flatten-whole (now (a .file)) (a .n) (λ i. c .before .before .before .before .before .before .before .before .before .before .before .before .before .before .before .before .before .before .before .before .before .before .before .before .before .before .before .before .before .shared-slice-known .given i .fits) (c .before .before .before .before .before .before .before .before .before .before .before .before .before .before .before .before .before .before .before .before .before .before .before .before .before .before .before .before .before .before .pre .0) (now (a .tables)) _ (c .before .before .before .before .before .before .before .before .before .before .before .before .before .before .before .before .before .before .before .before .before .before .before .before .before .before .before .before .before .before .pre .1) (rw (c .before .before .before .before .before .before .before .before .before .before .before .before .before .before .before .before .before .before .before .before .before .before .before .before .before .components-of .ensures, c .before .before .before .before .before .before .before .before .before .before .before .before .before .before .before .before .before .before .before .before .before .before .before .rules-of .ensures, c .before .before .before .before .before .before .before .before .before .before .before .before .before .before .before .before .before .before .before .before .couplings-of .ensures) at (c .before .before .before .before .before .before .before .before .before .before .before .before .before .before .before .before .before .before .fill-tables .ensures)) (c .before .before .before .before .before .before .before .before .before .before .before .before .before .before .before .before .before .before .before .before .before .small .result) (c .before .before .before .before .before .before .before .before .before .before .before .before .before .before .before .before .before .before .before .before .before .small .ensures ∙ c .before .before .before .before .before .before .before .before .before .before .before .before .before .before .before .before .before .before .before .before .before .before .atomic-count .ensures ∙ ap (λ s. length (atomics (componentsIn s))) (c .before .before .before .before .before .before .before .before .before .before .before .before .before .before .before .before .before .before .before .before .before .before .before .before .before .components-of .ensures)) (c .before .before .before .before .before .before .before .before .before .before .before .before .before .before .flat-rows .result) (c .before .before .before .before .before .before .before .before .before .flat-size .result) (c .before .before .before .before .before .before .before .before .before .before .before .before .before .before .flat-rows .ensures .0) (rw (c .before .before .before .before .before .before .before .before .before .before .before .before .before .before .before .before .before .before .before .before .before .before .before .before .phases-of .ensures, c .before .before .before .before .before .before .before .before .before .before .before .before .before .before .before .before .before .before .before .before .before .before .before .rules-of .ensures) at (c .before .before .before .before .before .before .before .before .before .flat-size .ensures)) (now (a .out)) _ _ (c .before .before .before .before .before .before .before .before .if1 .left) (c .before .before .before .before .before .before .before .before .before .before .before .before .before .before .flat-rows .ensures .1) (rw (c .before .before .before .before .before .before .before .before .before .before .before .before .before .before .before .before .before .before .before .before .before .before .before .before .before .components-of .ensures, c .before .before .before .before .before .before .before .before .before .before .before .before .before .before .before .before .before .before .before .before .before .before .before .before .phases-of .ensures, c .before .before .before .before .before .before .before .before .before .before .before .before .before .before .before .before .before .before .before .before .before .before .before .rules-of .ensures) at (c .before .before .before .put-flat .ensures)))
+    let f = c .before .before .before .before .before .before .before .before .before .before .before .before .before .before .before .before .before .before .before .before in
+    rw (c .wide .ensures)
+    (flatten-whole (file f) (counts f) (bytes f) (told f) _ (c .before .before .before .before .before .before .before .before .before .before .before .before .before .before .before .before .before .before .fill .ensures) (f .small .result) (own f) (c .before .before .before .before .before .before .before .before .before .before .before .before .before .before .flat-rows .result) (c .before .before .before .before .before .before .before .before .before .flat-size .result) (c .before .before .before .before .before .before .before .before .before .before .before .before .before .before .flat-rows .ensures .0)
+    (rw (f .before .before .before .phases-of .ensures, f .before .before .rules-of .ensures) at (c .before .before .before .before .before .before .before .before .before .flat-size .ensures)) (now (f .before .before .before .before .before .before .before .before .before .args .out)) _ _ (c .before .before .before .before .before .before .before .before .if1 .left) (c .before .before .before .before .before .before .before .before .before .before .before .before .before .before .flat-rows .ensures .1)
+    (rw (f .before .before .before .before .components-of .ensures, f .before .before .before .phases-of .ensures, f .before .before .rules-of .ensures) at (c .before .before .before .put-flat .ensures)))
 
 pub flatten-accepted-spec : {M : Type 1} → statement M
 flatten-accepted-spec =
@@ -99,8 +125,7 @@ flatten-accepted-spec =
     rules-of-requires
     atomic-count-requires
     small-requires
-    couplings-of-requires
-    fill-tables-requires
+    fill-requires
     flat-rows-requires
     flat-size-requires
     same-length

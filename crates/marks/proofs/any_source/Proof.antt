@@ -1,5 +1,6 @@
 -- Some source of the chain that is left, since none was found before.
 use borrow.Author.Needs.{needs}
+use Rattle.definition.specs.Limits.{maxCouplings}
 use native.Mathlib.Omega.{arith}
 use Prim.Native.Nat.{_≤_, _+_}
 use mathlib.Core.Path.{_≡_, _∙_, sym}
@@ -14,7 +15,7 @@ use Rattle.marks.proofs.any_source.Statement.{statement}
 use Rattle.marks.proofs.any_source.Tie as tie
 
 abbrev Inv-loop : tie.InvT-loop
-Inv-loop tables marks reached x left₀ link₀ left link = (left ≤ 1024) × (anyOf (mayCome [] tables marks reached) (rowsFrom tables left link) ≡ anyOf (mayCome [] tables marks reached) (chainRows tables x))
+Inv-loop tables marks reached x left₀ link₀ left link = (left ≤ maxCouplings) × (link ≤ maxCouplings) × (anyOf (mayCome [] tables marks reached) (rowsFrom tables left link) ≡ anyOf (mayCome [] tables marks reached) (chainRows tables x))
 
 abbrev μ-loop : tie.MeasureT-loop
 μ-loop tables marks reached x left₀ link₀ left link = left
@@ -24,13 +25,16 @@ first-link-requires c κs = search needs
 
 loop-holds : tie.Need-loop-holds Inv-loop μ-loop
 loop-holds c =
-    (omega arith, rw (c .first-link .ensures, rows-first))
+    let q = c .before .pre in
+    (omega arith, rw (c .first-link .ensures) (q .1 .firsts (c .before .args .x) (q .0)), rw (c .first-link .ensures, rows-first))
 
 source-of-requires : tie.Need-source-of-requires Inv-loop μ-loop
-source-of-requires c κs = search needs
+source-of-requires c κs =
+    c .before .loop .inv .1
 
 may-come-requires : tie.Need-may-come-requires Inv-loop μ-loop
-may-come-requires c κs = search needs
+may-come-requires c κs =
+    rw (c .source-of .ensures) (c .before .before .before .before .pre .1 .sources (c .before .before .loop .link) (c .before .before .loop .inv .1))
 
 returns : tie.Need-returns Inv-loop μ-loop
 returns c =
@@ -38,10 +42,11 @@ returns c =
     let l = c .before .before .before .before .loop in
     let e : mayCome [] (now (a .tables)) (now (a .marks)) (now (a .reached)) (getD (now (a .tables)) (sourceAt + l .link) 0) ≡ c .before .may-come .result =
     unfold mayCome in sym (rw (c .before .before .source-of .ensures) at (c .before .may-come .ensures)) in
-    any-here (mayCome [] (now (a .tables)) (now (a .marks)) (now (a .reached))) (now (a .tables)) (l .left) (l .link) (c .before .before .before .loop-test .taken) (e ∙ c .if1 .taken) ∙ l .inv .1
+    any-here (mayCome [] (now (a .tables)) (now (a .marks)) (now (a .reached))) (now (a .tables)) (l .left) (l .link) (c .before .before .before .loop-test .taken) (e ∙ c .if1 .taken) ∙ l .inv .2
 
 next-link-requires : tie.Need-next-link-requires Inv-loop μ-loop
-next-link-requires c κs = search needs
+next-link-requires c κs =
+    c .before .before .before .before .loop .inv .1
 
 sub-left : tie.Need-sub-left Inv-loop μ-loop
 sub-left c =
@@ -57,13 +62,13 @@ loop-again c =
     let l = c .before .before .before .before .before .loop in
     let e : mayCome [] (now (a .tables)) (now (a .marks)) (now (a .reached)) (getD (now (a .tables)) (sourceAt + l .link) 0) ≡ c .before .before .may-come .result =
     unfold mayCome in sym (rw (c .before .before .before .source-of .ensures) at (c .before .before .may-come .ensures)) in
-    (omega arith, rw (c .next-link .ensures) (any-later (mayCome [] (now (a .tables)) (now (a .marks)) (now (a .reached))) (now (a .tables)) (l .left) (l .link) (c .before .before .before .before .loop-test .taken) (e ∙ c .before .if1 .left)) ∙ l .inv .1)
+    (omega arith, rw (c .next-link .ensures) (c .before .before .before .before .before .before .before .pre .1 .nexts (l .link) (l .inv .1)), rw (c .next-link .ensures) (any-later (mayCome [] (now (a .tables)) (now (a .marks)) (now (a .reached))) (now (a .tables)) (l .left) (l .link) (c .before .before .before .before .loop-test .taken) (e ∙ c .before .if1 .left)) ∙ l .inv .2)
 
 returns-2 : tie.Need-returns-2 Inv-loop μ-loop
 returns-2 c =
     let a = c .before .before .before .args in
     let l = c .before .loop in
-    any-end (mayCome [] (now (a .tables)) (now (a .marks)) (now (a .reached))) (now (a .tables)) (l .left) (l .link) (c .loop-test .left) ∙ l .inv .1
+    any-end (mayCome [] (now (a .tables)) (now (a .marks)) (now (a .reached))) (now (a .tables)) (l .left) (l .link) (c .loop-test .left) ∙ l .inv .2
 
 pub any-source-spec : {M : Type 1} → statement M
 any-source-spec =

@@ -5,8 +5,8 @@ use Rattle.pull_laws.specs.TableStep.{recordOf}
 use Rattle.marks.proofs.mark_for.Statement.{statement}
 use Rattle.marks.proofs.mark_for.Tie as tie
 
-row-word-requires : tie.Need-row-word-requires
-row-word-requires c κs = search needs
+row-in-requires : tie.Need-row-in-requires
+row-in-requires c κs = search needs
 
 wide16-requires : tie.Need-wide16-requires
 wide16-requires c κs = search needs
@@ -23,9 +23,9 @@ add-result-2 c = search needs
 returns : tie.Need-returns
 unfolding recordOf
 returns c =
-    rw (c .wide .ensures, c .before .wide16 .ensures, c .before .before .row-word .ensures) (add-one _)
+    rw (c .wide .ensures, c .before .wide16 .ensures, c .before .before .row-in .ensures) (add-one _)
 
 pub mark-for-spec : {M : Type 1} → statement M
 mark-for-spec =
     tie.close
-    (tie.spec row-word-requires wide16-requires wide-requires add-result add-result-2 returns)
+    (tie.spec row-in-requires wide16-requires wide-requires add-result add-result-2 returns)

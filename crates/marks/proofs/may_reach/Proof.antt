@@ -1,7 +1,8 @@
 -- Some port of those that are left, since none was found before.
 use borrow.Author.Needs.{needs}
+use Rattle.pull_laws.specs.Ranges.{maxNodes}
 use native.Mathlib.Omega.{arith}
-use Prim.Native.Nat.{_≤_, _-_}
+use Prim.Native.Nat.{_≤_, _<_, _-_}
 use mathlib.Core.Path.{_≡_, _∙_, refl, sym}
 use mathlib.Core.List.{[]}
 use denote.Ref.{now}
@@ -26,7 +27,10 @@ input-node-requires : tie.Need-input-node-requires Inv-loop μ-loop
 input-node-requires c κs = search needs
 
 any-source-requires : tie.Need-any-source-requires Inv-loop μ-loop
-any-source-requires c κs = search needs
+any-source-requires c κs =
+    let l = c .before .before .loop in
+    let node : inputNode (c .before .before .before .args .c) (l .q) < maxNodes = unfold inputNode in omega arith in
+    (rw (c .input-node .ensures) node, c .before .before .before .pre .1)
 
 returns : tie.Need-returns Inv-loop μ-loop
 returns c =

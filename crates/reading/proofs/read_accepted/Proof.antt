@@ -2,13 +2,13 @@
 -- (`answered`, `read-done`).
 use borrow.Author.Needs.{needs}
 use native.Mathlib.Omega.{arith}
-use Rattle.reading.proofs.Whole.{not-true, not-false, few-atomics}
+use Rattle.reading.proofs.Whole.{not-true, not-false}
+use Rattle.model_tables.proofs.Accepted.{few-atomics}
 use Rattle.reading.proofs.Answering.{fits-file, count-file, read-unfit, read-past, read-done, answered}
 use Rattle.run_calls.proofs.Starts.{few-components}
 use Rattle.saved_run.specs.Runs.{bare, entryOf}
 use Rattle.model.specs.Checked.{modelOf}
 use Rattle.model_records.specs.Values.{componentsIn}
-use Rattle.definition.specs.Engine.{dueNumber}
 use Rattle.definition.specs.SavedRun.{fits}
 use Rattle.definition.specs.Model.{atomics}
 use Rattle.definition.specs.Bytes.{Bytes}
@@ -78,21 +78,17 @@ whole-due-requires c κs =
     let ce = c .before .before .before .before .atomic-count .ensures ∙ ap (λ (s : Bytes). length (atomics (componentsIn s))) (c .before .before .before .before .before .before .before .before .components-of .ensures) ∙ count-file (a .file .now) (a .n) in
     (c .before .before .before .before .before .before .before .before .before .before .before .pre, sym f ∙ not-false (c .before .before .before .before .before .before .fits2 .result) (c .before .before .before .before .before .if1 .left), ce)
 
--- src/lib.rt:92:19
-due-number-requires : tie.Need-due-number-requires
-due-number-requires c κs = search needs
-
 -- src/lib.rt:74:1
 returns-3 : tie.Need-returns-3
 returns-3 c =
-    let a = c .before .before .before .before .before .before .before .before .before .before .before .before .before .args in
-    let f = c .before .before .before .before .before .before .before .before .fits2 .ensures ∙ ap₂ (λ (x y : Bytes). fits (bare x y) (a .run .now)) (c .before .before .before .before .before .before .before .before .before .before .components-of .ensures) (c .before .before .before .before .before .before .before .before .before .phases-of .ensures) ∙ fits-file (a .file .now) (a .run .now) (a .n) in
-    let ce = c .before .before .before .before .before .before .atomic-count .ensures ∙ ap (λ (s : Bytes). length (atomics (componentsIn s))) (c .before .before .before .before .before .before .before .before .before .before .components-of .ensures) ∙ count-file (a .file .now) (a .n) in
+    let a = c .before .before .before .before .before .before .before .before .before .before .before .before .args in
+    let f = c .before .before .before .before .before .before .before .fits2 .ensures ∙ ap₂ (λ (x y : Bytes). fits (bare x y) (a .run .now)) (c .before .before .before .before .before .before .before .before .before .components-of .ensures) (c .before .before .before .before .before .before .before .before .phases-of .ensures) ∙ fits-file (a .file .now) (a .run .now) (a .n) in
+    let ce = c .before .before .before .before .before .atomic-count .ensures ∙ ap (λ (s : Bytes). length (atomics (componentsIn s))) (c .before .before .before .before .before .before .before .before .before .components-of .ensures) ∙ count-file (a .file .now) (a .n) in
     let m = modelOf (a .file .now) (a .n) in
-    let l : a .position < length (atomics (m .components)) = omega (arith, ce, c .before .before .before .before .before .if2 .left) in
-    rw (c .before .before .wide .ensures)
-    (answered m (a .run .now) (a .position) (entryOf (c .before .before .before .before .entry-at .result)) (c .due-number .result) l (c .before .before .before .before .entry-at .ensures) (c .due-number .ensures ∙ ap dueNumber (c .before .whole-due .ensures))
-    ∙ read-done (a .file .now) (a .run .now) (a .position) m (c .before .before .before .before .before .before .before .before .before .before .before .before .before .pre) (sym f ∙ not-false (c .before .before .before .before .before .before .before .before .fits2 .result) (c .before .before .before .before .before .before .before .if1 .left)) l)
+    let l : a .position < length (atomics (m .components)) = omega (arith, ce, c .before .before .before .before .if2 .left) in
+    rw (c .before .wide .ensures)
+    (answered m (a .run .now) (a .position) (entryOf (c .before .before .before .entry-at .result)) (c .whole-due .result) l (c .before .before .before .entry-at .ensures) (c .whole-due .ensures)
+    ∙ read-done (a .file .now) (a .run .now) (a .position) m (c .before .before .before .before .before .before .before .before .before .before .before .before .pre) (sym f ∙ not-false (c .before .before .before .before .before .before .before .fits2 .result) (c .before .before .before .before .before .before .if1 .left)) l)
 
 pub read-accepted-spec : {M : Type 1} → statement M
 read-accepted-spec =
@@ -109,5 +105,4 @@ read-accepted-spec =
     entry-at-requires
     wide-requires
     whole-due-requires
-    due-number-requires
     returns-3)

@@ -13,42 +13,38 @@ use mathlib.Core.Path.{_∙_, ap, sym}
 use Rattle.run_calls.proofs.start_run.Statement.{statement}
 use Rattle.run_calls.proofs.start_run.Tie as tie
 
--- src/lib.rt:36:9
 atomic-count-requires : tie.Need-atomic-count-requires
 atomic-count-requires c κs = search needs
 
--- src/lib.rt:37:9
 run-size-requires : tie.Need-run-size-requires
 run-size-requires c κs =
     omega (arith, c .atomic-count .ensures, atomics-most (componentsIn (c .before .before .before .args .components .now)), c .before .before .before .pre)
 
--- src/lib.rt:39:9
 returns : tie.Need-returns
 returns c =
     let a = c .before .before .before .before .before .args in
     let l = start-length (a .components .now) (c .before .before .atomic-count .result) (c .before .before .atomic-count .ensures) in
     wrote-short (a .run .now) (runBytes (startRun (bare (a .components .now) []))) (omega (arith, l, c .before .run-size .ensures, c .if1 .taken))
 
--- src/lib.rt:41:41
 start-state-requires : tie.Need-start-state-requires
 start-state-requires c κs = search needs
 
--- src/lib.rt:41:5
 store-requires : tie.Need-store-requires
 store-requires c κs =
-    (omega (arith, c .before .before .before .before .atomic-count .ensures, atomics-most (componentsIn (c .before .before .before .before .before .before .before .args .components .now)), c .before .before .before .before .before .before .before .pre), omega (arith, c .before .before .before .run-size .ensures, c .before .before .if1 .left))
+    let few = atomics-most (componentsIn (c .before .before .before .before .before .before .before .before .before .before .before .args .components .now)) in
+    (omega (arith, c .before .before .before .before .before .before .before .before .atomic-count .ensures, few, c .before .before .before .before .before .before .before .before .before .before .before .pre), omega (arith, c .before .before .before .before .before .before .before .run-size .ensures, c .before .before .before .before .before .before .if1 .left))
 
--- src/lib.rt:32:1
 same-length : tie.Need-same-length
 same-length c = search needs
 
--- src/lib.rt:32:1
 returns-2 : tie.Need-returns-2
 returns-2 c =
-    let a = c .before .before .before .before .before .before .before .before .before .before .args in
-    let l = start-length (a .components .now) (c .before .before .before .before .before .before .before .atomic-count .result) (c .before .before .before .before .before .before .before .atomic-count .ensures) in
-    let e = start-run-is (a .components .now) (c .before .before .before .before .before .before .before .atomic-count .result) (c .before .before .before .before .before .before .before .atomic-count .ensures) (c .before .before .before .start-state .result) (c .before .before .before .start-state .ensures) in
-    wrote-whole (a .run .now) (runBytes (startRun (bare (a .components .now) []))) (c .before .before .before .before .before .before .run-size .result) (c .before .before .store .last .0) (c .before .before .before .before .before .before .run-size .ensures ∙ sym l) (c .before .before .store .ensures ∙ ap (λ (r : Run). stored (runBytes r) (a .run .now)) e) (omega (arith, l, c .before .before .before .before .before .before .run-size .ensures, c .before .before .before .before .before .if1 .left))
+    let a = c .before .before .before .before .before .before .before .before .before .before .before .before .before .before .args in
+    let n = c .before .before .before .before .before .before .before .before .before .before .before .atomic-count in
+    let s = c .before .before .before .before .before .before .before .before .before .before .run-size in
+    let l = start-length (a .components .now) (n .result) (n .ensures) in
+    let e = start-run-is (a .components .now) (n .result) (n .ensures) _ (c .before .before .before .before .before .before .start-state .ensures) in
+    wrote-whole (a .run .now) (runBytes (startRun (bare (a .components .now) []))) (s .result) (c .before .before .store .last .0) (s .ensures ∙ sym l) (c .before .before .store .ensures ∙ ap (λ (r : Run). stored (runBytes r) (a .run .now)) e) (omega (arith, l, s .ensures, c .before .before .before .before .before .before .before .before .before .if1 .left))
 
 pub start-run-spec : {M : Type 1} → statement M
 start-run-spec =

@@ -3,29 +3,25 @@ use borrow.Author.Needs.{needs}
 use Rattle.run_state.specs.Held.{changedAt}
 use Rattle.run_state.proofs.put_at.Statement.{statement}
 use Rattle.run_state.proofs.put_at.Tie as tie
+use Rattle.run_state.proofs.put_at.Reads as reads
+use Rattle.run_state.proofs.put_at.Lts as lts
 
--- src/lib.rt:56:5
-put-phase-requires : tie.Need-put-phase-requires
-put-phase-requires c κs = search needs
+-- src/lib.rt:41:5
+element-write-phase : tie.Need-element-write-phase
+element-write-phase c = search needs
 
--- src/lib.rt:57:5
-put-last-requires : tie.Need-put-last-requires
-put-last-requires c κs = search needs
+-- src/lib.rt:42:5
+mul-last : tie.Need-mul-last
+mul-last c = search needs
 
--- src/lib.rt:53:1
-same-length : tie.Need-same-length
-same-length c = search needs
+-- src/lib.rt:42:5
+element-write-last : tie.Need-element-write-last
+element-write-last c = search needs
 
--- src/lib.rt:53:1
-same-length-2 : tie.Need-same-length-2
-same-length-2 c = search needs
-
--- src/lib.rt:53:1
+-- src/lib.rt:31:1
 returns : tie.Need-returns
 unfolding changedAt
-returns c =
-    rw (c .before .before .put-last .ensures, c .before .before .before .before .before .before .put-phase .ensures)
+returns c = search needs
 
 pub put-at-spec : {M : Type 1} → statement M
-put-at-spec =
-    tie.close (tie.spec put-phase-requires put-last-requires same-length same-length-2 returns)
+put-at-spec = tie.close (tie.spec element-write-phase mul-last element-write-last returns)

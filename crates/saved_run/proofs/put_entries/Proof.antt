@@ -18,41 +18,34 @@ Inv-loop run₀ n phase last i₀ run i = (i ≤ n) × (length run ≡ length ru
 abbrev μ-loop : tie.MeasureT-loop
 μ-loop run₀ n phase last i₀ run i = n - i
 
--- src/lib.rt:172:5
 loop-holds : tie.Need-loop-holds Inv-loop μ-loop
 loop-holds c =
     (omega arith, refl, refl)
 
--- src/lib.rt:173:9
 put-entry-requires : tie.Need-put-entry-requires Inv-loop μ-loop
 unfolding runLength
 put-entry-requires c κs =
     (omega arith, omega arith)
 
--- src/lib.rt:174:13
 add-i : tie.Need-add-i Inv-loop μ-loop
 add-i c = search needs
 
--- src/lib.rt:172:5
 loop-less : tie.Need-loop-less Inv-loop μ-loop
 loop-less c = search needs
 
--- src/lib.rt:172:5
 loop-again : tie.Need-loop-again Inv-loop μ-loop
 loop-again c =
-    let a = c .before .before .before .before .before .before .before .before .before .args in
+    let a = c .before .before .before .before .before .before .before .args in
     let l = c .before .before .before .before .before .loop in
     (omega arith, c .before .before .put-entry .kept .0 ∙ l .inv .1, rw (c .before .before .put-entry .ensures) (rows-put (held (a .phase .now) (a .last .now)) (a .n) (l .i) (l .run) (omega arith)) ∙ l .inv .2)
 
--- src/lib.rt:167:1
 same-length : tie.Need-same-length Inv-loop μ-loop
 same-length c =
     c .before .loop .inv .1
 
--- src/lib.rt:167:1
 returns : tie.Need-returns Inv-loop μ-loop
 returns c =
-    let a = c .before .before .before .before .before .args in
+    let a = c .before .before .before .args in
     let l = c .before .loop in
     let z : a .n - 0 ≡ a .n = omega arith in
     sym (rows-none (held (a .phase .now) (a .last .now)) (l .i) (a .n - l .i) (runLength (l .i)) (l .run) (omega arith)) ∙ l .inv .2 ∙ ap (λ k. sets (a .run .now) (runLength 0) (entryRows (held (a .phase .now) (a .last .now)) 0 k)) z

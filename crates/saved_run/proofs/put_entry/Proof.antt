@@ -7,48 +7,38 @@ use Rattle.definition.specs.SavedRun.{runLength}
 use Rattle.saved_run.proofs.put_entry.Statement.{statement}
 use Rattle.saved_run.proofs.put_entry.Tie as tie
 
--- src/lib.rt:161:26
 mul-at : tie.Need-mul-at
 mul-at c = search needs
 
--- src/lib.rt:161:14
 add-at : tie.Need-add-at
 add-at c = search needs
 
--- src/lib.rt:162:9
 last-at-requires : tie.Need-last-at-requires
 last-at-requires c κs = search needs
 
--- src/lib.rt:163:48
 phase-at-requires : tie.Need-phase-at-requires
 phase-at-requires c κs = search needs
 
--- src/lib.rt:163:43
 wide-requires : tie.Need-wide-requires
 wide-requires c κs = search needs
 
--- src/lib.rt:163:5
 put-number-requires : tie.Need-put-number-requires
 unfolding runLength
 put-number-requires c κs = search needs
 
--- src/lib.rt:164:36
 add-put-number : tie.Need-add-put-number
 add-put-number c = search needs
 
--- src/lib.rt:164:5
 put-number-requires-2 : tie.Need-put-number-requires-2
 unfolding runLength
 put-number-requires-2 c κs = search needs
 
--- src/lib.rt:157:1
 same-length : tie.Need-same-length
 same-length c = search needs
 
--- src/lib.rt:157:1
 returns : tie.Need-returns
 returns c =
-    let a = c .before .before .before .before .before .before .before .before .before .before .before .before .before .before .args in
+    let a = c .before .before .before .before .before .before .before .before .before .before .before .before .args in
     rw (c .before .before .put-number2 .ensures, c .before .before .before .before .before .before .put-number .ensures, c .before .before .before .before .before .before .before .wide .ensures, c .before .before .before .before .before .before .before .before .phase-at .ensures, c .before .before .before .before .before .before .before .before .before .before .last-at .ensures) (entry-put (a .run .now) (a .i) (heldAt (held (a .phase .now) (a .last .now)) (a .i)))
 
 pub put-entry-spec : {M : Type 1} → statement M

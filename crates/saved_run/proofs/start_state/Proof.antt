@@ -3,7 +3,7 @@ use borrow.Author.Needs.{needs}
 use native.Mathlib.Omega.{arith}
 use Rattle.saved_run.proofs.Starting.{startedTo, started-none, started-more, started-all, length-atomics}
 use Rattle.saved_run.proofs.Fitting.{atomic-said}
-use Rattle.saved_run.proofs.Entries.{Wide, wide-blank, wide-changed, kept-more, one-most}
+use Rattle.saved_run.proofs.Entries.{Wide, wide-changed, kept-more, one-most}
 use Rattle.run_state.specs.declared.State.{State}
 use Rattle.run_state.specs.Held.{held, entriesOf}
 use Rattle.model_records.specs.Values.{componentsIn, componentOf}
@@ -18,70 +18,55 @@ use Rattle.saved_run.proofs.start_state.Statement.{statement}
 use Rattle.saved_run.proofs.start_state.Tie as tie
 
 abbrev Inv-loop : tie.InvT-loop
-Inv-loop components n phase₀ last₀ k₀ c₀ phase last k c = (c ≤ n) × (k ≤ c) × (k ≡ length (keep (isAtomic (componentsIn components)) (upFrom 0 c))) × Wide (held phase last) × (entriesOf k (held phase last) ≡ startedTo (componentsIn components) c)
+Inv-loop components phase₀ last₀ n k₀ c₀ phase last k c = (c ≤ n) × (k ≤ c) × (k ≡ length (keep (isAtomic (componentsIn components)) (upFrom 0 c))) × Wide (held phase last) × (entriesOf k (held phase last) ≡ startedTo (componentsIn components) c)
 
 abbrev μ-loop : tie.MeasureT-loop
-μ-loop components n phase₀ last₀ k₀ c₀ phase last k c = n - c
+μ-loop components phase₀ last₀ n k₀ c₀ phase last k c = n - c
 
--- src/lib.rt:195:9
 component-count-requires : tie.Need-component-count-requires Inv-loop μ-loop
 component-count-requires c κs = search needs
 
--- src/lib.rt:199:5
 loop-holds : tie.Need-loop-holds Inv-loop μ-loop
 unfolding keep upFrom
 loop-holds c =
-    (omega arith, omega arith, refl, wide-blank _ refl, started-none (componentsIn (c .before .before .args .components .now)) _)
+    (omega arith, omega arith, refl, (c .before .before .pre .1, c .before .before .pre .2), started-none (componentsIn (c .before .before .args .components .now)) _)
 
--- src/lib.rt:200:13
 component-at-requires : tie.Need-component-at-requires Inv-loop μ-loop
 component-at-requires c κs = search needs
-
-slice-aggregate-put-at : tie.Need-slice-aggregate-put-at Inv-loop μ-loop
-slice-aggregate-put-at c = sym (c .before .before .before .loop .inv .3 .0)
-
-slice-aggregate-put-at-2 : tie.Need-slice-aggregate-put-at-2 Inv-loop μ-loop
-slice-aggregate-put-at-2 c = sym (c .before .before .before .before .loop .inv .3 .1)
 
 put-at-requires : tie.Need-put-at-requires Inv-loop μ-loop
 put-at-requires c κs = search needs
 
--- src/lib.rt:202:17
 one-if-requires : tie.Need-one-if-requires Inv-loop μ-loop
 one-if-requires c κs = search needs
 
--- src/lib.rt:202:13
 add-k : tie.Need-add-k Inv-loop μ-loop
 add-k c =
-    let b = one-most (eqb (c .before .before .before .before .before .before .before .component-at .result .kind) 1) in
+    let b = one-most (eqb (c .before .before .before .before .before .component-at .result .kind) 1) in
     search needs
 
--- src/lib.rt:203:13
 add-c : tie.Need-add-c Inv-loop μ-loop
 add-c c = search needs
 
--- src/lib.rt:199:5
 loop-less : tie.Need-loop-less Inv-loop μ-loop
 loop-less c = search needs
 
--- src/lib.rt:199:5
 loop-again : tie.Need-loop-again Inv-loop μ-loop
 loop-again c =
-    let l = c .before .before .before .before .before .before .before .before .before .loop in
-    let cs = componentsIn (c .before .before .before .before .before .before .before .before .before .before .before .before .args .components .now) in
-    let own = c .before .before .before .before .before .before .before .component-at .result in
-    let g = atomic-said cs (l .c) (componentOf own) (c .before .before .before .before .before .before .before .component-at .ensures) in
+    let l = c .before .before .before .before .before .before .before .loop in
+    let cs = componentsIn (c .before .before .before .before .before .before .before .before .before .before .args .components .now) in
+    let own = c .before .before .before .before .before .component-at .result in
+    let g = atomic-said cs (l .c) (componentOf own) (c .before .before .before .before .before .component-at .ensures) in
     let o = c .one-if .ensures ∙ ap (λ (b : Bool). cond b 1 0) g in
     let st = held (l .phase) (l .last) in
-    let new = sym (c .before .before .before .before .put-at .ensures) in (
+    let new = sym (c .before .before .put-at .ensures) in (
       omega arith,
       omega (arith, c .one-if .ensures, one-most (eqb (own .kind) 1)),
       ap₂ _+_ (l .inv .2) o ∙ kept-more (isAtomic cs) (l .c),
       subst Wide new (wide-changed st (l .k) (own .initial) 0 (l .inv .3)),
-      subst (λ (s : State). entriesOf (l .k + c .one-if .result) s ≡ startedTo cs (l .c + 1)) new (rw o (started-more cs st (l .c) (l .k) (own .initial) (l .inv .3) (omega (arith, c .before .before .before .before .before .before .before .before .before .before .component-count .ensures, c .before .before .before .before .before .before .before .before .before .before .before .before .pre)) (ap (λ (k : Component). k .initial) (c .before .before .before .before .before .before .before .component-at .ensures)) (l .inv .4))),
+      subst (λ (s : State). entriesOf (l .k + c .one-if .result) s ≡ startedTo cs (l .c + 1)) new (rw o (started-more cs st (l .c) (l .k) (own .initial) (l .inv .3) (omega (arith, c .before .before .before .before .before .before .before .before .component-count .ensures, c .before .before .before .before .before .before .before .before .before .before .pre .0)) (ap (λ (k : Component). k .initial) (c .before .before .before .before .before .component-at .ensures)) (l .inv .4))),
     )
 
--- src/lib.rt:191:1
 returns : tie.Need-returns Inv-loop μ-loop
 returns c =
     let l = c .before .loop in
@@ -99,8 +84,6 @@ start-state-spec =
     component-count-requires
     loop-holds
     component-at-requires
-    slice-aggregate-put-at
-    slice-aggregate-put-at-2
     put-at-requires
     one-if-requires
     add-k

@@ -1,5 +1,4 @@
 -- What `collect_root` leaves at the front of the buffer is the root's bag, as much as has room; sorting keys sorts messages.
-use borrow.Author.Needs.{needs}
 use native.Mathlib.Omega.{arith}
 use mathlib.Core.Path.{_∙_, ap}
 use mathlib.Core.List.{map}
@@ -13,7 +12,8 @@ use Rattle.simulator.proofs.root_bag.Statement.{statement}
 use Rattle.simulator.proofs.root_bag.Tie as tie
 
 collect-root-requires : tie.Need-collect-root-requires
-collect-root-requires c κs = search needs
+collect-root-requires c κs =
+    c .before .before .before .before .pre .0
 
 sort-requires : tie.Need-sort-requires
 sort-requires c κs =

@@ -1,5 +1,6 @@
 -- The marks and flags over zeros are the definition's, and then the step is the definition's with them.
 use borrow.Author.Needs.{needs}
+use native.Mathlib.Omega.{arith}
 use Rattle.simulator.proofs.Laws.{step-is, count-bag}
 use Rattle.definition.specs.Lists.{sortBy}
 use Rattle.definition.specs.Model.{messageLe}
@@ -16,42 +17,37 @@ use Prim.Native.Nat.{min}
 use Rattle.simulator.proofs.step_once.Statement.{statement}
 use Rattle.simulator.proofs.step_once.Tie as tie
 
--- src/lib.rt:161:9
 front-requires : tie.Need-front-requires
 front-requires c κs = search needs
 
--- src/lib.rt:164:5
 mark-requires : tie.Need-mark-requires
 mark-requires c κs = search needs
 
--- src/lib.rt:165:5
 reach-requires : tie.Need-reach-requires
 reach-requires c κs = search needs
 
--- src/lib.rt:166:5
 step-marked-requires : tie.Need-step-marked-requires
-step-marked-requires c κs = search needs
+step-marked-requires c κs =
+    let q = c .before .before .before .before .before .before .before .before .before .before .before .before .before .before .before .before .before .before .before .before .pre in
+    (q .0, q .2, omega (arith, q .3), q .4)
 
--- src/lib.rt:142:1
 same-length : tie.Need-same-length
 same-length c = search needs
 
--- src/lib.rt:142:1
 same-length-2 : tie.Need-same-length-2
 same-length-2 c = search needs
 
--- src/lib.rt:142:1
 returns : tie.Need-returns
 returns c =
-    let a = c .before .before .before .before .before .before .before .before .before .before .before .before .before .before .before .before .before .before .before .before .before .before .before .before .args in
+    let a = c .before .before .before .before .before .before .before .before .before .before .before .before .before .before .before .before .before .before .before .before .before .before .before .before .before .args in
+    let q = c .before .before .before .before .before .before .before .before .before .before .before .before .before .before .before .before .before .before .before .before .before .before .before .before .before .pre in
     let ps = phasesIn (now (a .phases)) in
     let t = now (a .tables) in
-    let es = c .before .before .before .before .before .before .before .before .before .before .before .before .before .before .mark .last .1 .1 .1 .1 .1 .1 .0 in
-    let fs = c .before .before .before .before .before .before .before .before .before .before .before .reach .last .1 .1 .1 .0 in
-    let full = c .before .before .before .before .before .before .before .before .before .before .before .before .before .before .before .before .before .before .before .before .before .before .before .before .pre in
+    let es = c .before .before .before .before .before .before .before .before .before .before .before .before .before .before .before .mark .last .1 .1 .1 .1 .1 .0 in
+    let fs = c .before .before .before .before .before .before .before .before .before .before .before .before .reach .last .1 .1 .1 .0 in
     let s = c .before .before .before .before .step-marked .ensures in
-    rw (← c .before .before .before .before .before .before .before .before .before .before .before .before .before .before .before .before .before .before .front .ensures, step-is ps t (rulesIn (now (a .rules))) (a .n) (length (now (a .work))) (a .at .0) (toBag (now (c .before .before .before .before .before .before .before .before .before .before .before .before .before .before .before .before .before .before .front .result))) (held (now (a .phase)) (now (a .last))) es fs (c .before .before .before .before .before .before .before .before .before .before .before .before .before .before .mark .ensures) (c .before .before .before .before .before .before .before .before .before .before .before .reach .ensures))
-    (s .0, s .1 ∙ ap (λ n. min n (length (rootKeys ps t es fs))) full ∙ count-bag (rootRoom (length (now (a .work)))) (rootKeys ps t es fs), s .2 ∙ ap (λ n. sortBy messageLe (map messageOf (take n (rootKeys ps t es fs)))) full)
+    rw (← c .before .before .before .before .before .before .before .before .before .before .before .before .before .before .before .before .before .before .before .front .ensures, step-is ps t (rulesIn (now (a .rules))) (a .n) (length (now (a .work))) (a .at .0) (toBag (now (c .before .before .before .before .before .before .before .before .before .before .before .before .before .before .before .before .before .before .before .front .result))) (held (now (a .phase)) (now (a .last))) (now (a .ends)) es fs (q .4) (q .1) (c .before .before .before .before .before .before .before .before .before .before .before .before .before .before .before .mark .ensures) (c .before .before .before .before .before .before .before .before .before .before .before .before .reach .ensures))
+    (s .0, s .1, s .2 ∙ ap (λ n. min n (length (rootKeys ps t es fs))) (q .3) ∙ count-bag (rootRoom (length (now (a .work)))) (rootKeys ps t es fs), s .3 ∙ ap (λ n. sortBy messageLe (map messageOf (take n (rootKeys ps t es fs)))) (q .3))
 
 pub step-once-spec : {M : Type 1} → statement M
 step-once-spec =

@@ -6,8 +6,8 @@ use Rattle.pull_laws.specs.TableStep.{decidedIn, confluentIn}
 use Rattle.transitions.proofs.confluent.Statement.{statement}
 use Rattle.transitions.proofs.confluent.Tie as tie
 
-row-word-requires : tie.Need-row-word-requires
-row-word-requires c κs = search needs
+row-in-requires : tie.Need-row-in-requires
+row-in-requires c κs = search needs
 
 next-of-requires : tie.Need-next-of-requires
 next-of-requires c κs = search needs
@@ -18,7 +18,7 @@ decided-requires c κs = search needs
 returns : tie.Need-returns
 unfolding confluentIn decidedIn
 returns c =
-    rw (eq-eqb _ _ (sym (c .before .before .before .row-word .ensures) ∙ c .before .before .if1 .taken)) (rw (c .before .next-of .ensures) at (c .decided .ensures))
+    rw (eq-eqb _ _ (sym (c .before .before .before .row-in .ensures) ∙ c .before .before .if1 .taken)) (rw (c .before .next-of .ensures) at (c .decided .ensures))
 
 advance-of-requires : tie.Need-advance-of-requires
 advance-of-requires c κs = search needs
@@ -32,13 +32,13 @@ next-of-requires-2 c κs = search needs
 returns-2 : tie.Need-returns-2
 unfolding confluentIn decidedIn
 returns-2 c =
-    rw (ne-eqb _ _ (λ q. c .before .before .before .if1 .left (c .before .before .before .before .row-word .ensures ∙ q))) (rw (c .before .decided2 .ensures, c .before .before .advance-of .ensures) at (c .next-of2 .ensures))
+    rw (ne-eqb _ _ (λ q. c .before .before .before .if1 .left (c .before .before .before .before .row-in .ensures ∙ q))) (rw (c .before .decided2 .ensures, c .before .before .advance-of .ensures) at (c .next-of2 .ensures))
 
 pub confluent-spec : {M : Type 1} → statement M
 confluent-spec =
     tie.close
     (tie.spec
-    row-word-requires
+    row-in-requires
     next-of-requires
     decided-requires
     returns

@@ -4,11 +4,11 @@ use Rattle.pull_laws.specs.TableStep.{decidedIn}
 use Rattle.transitions.proofs.decided.Statement.{statement}
 use Rattle.transitions.proofs.decided.Tie as tie
 
-row-word-requires : tie.Need-row-word-requires
-row-word-requires c κs = search needs
+row-in-requires : tie.Need-row-in-requires
+row-in-requires c κs = search needs
 
-row-word-requires-2 : tie.Need-row-word-requires-2
-row-word-requires-2 c κs = search needs
+row-in-requires-2 : tie.Need-row-in-requires-2
+row-in-requires-2 c κs = search needs
 
 deciding-requires : tie.Need-deciding-requires
 deciding-requires c κs = search needs
@@ -19,9 +19,9 @@ led-to-requires c κs = search needs
 returns : tie.Need-returns
 unfolding decidedIn
 returns c =
-    rw (c .before .deciding .ensures, c .before .before .row-word2 .ensures, c .before .before .before .row-word .ensures) at (c .led-to .ensures)
+    rw (c .before .deciding .ensures, c .before .before .row-in2 .ensures, c .before .before .before .row-in .ensures) at (c .led-to .ensures)
 
 pub decided-spec : {M : Type 1} → statement M
 decided-spec =
     tie.close
-    (tie.spec row-word-requires row-word-requires-2 deciding-requires led-to-requires returns)
+    (tie.spec row-in-requires row-in-requires-2 deciding-requires led-to-requires returns)

@@ -9,70 +9,56 @@ use mathlib.Core.Path.{_∙_}
 use Rattle.transitions.proofs.transition.Statement.{statement}
 use Rattle.transitions.proofs.transition.Tie as tie
 
--- src/lib.rt:95:9
 size-requires : tie.Need-size-requires
 size-requires c κs = search needs
 
--- src/lib.rt:96:9
 phase-at-requires : tie.Need-phase-at-requires
 phase-at-requires c κs = search needs
 
--- src/lib.rt:99:54
 next-of-requires : tie.Need-next-of-requires
 next-of-requires c κs = search needs
 
--- src/lib.rt:99:13
 put-at-requires : tie.Need-put-at-requires
 put-at-requires c κs = search needs
 
--- src/lib.rt:101:9
 returns : tie.Need-returns
 returns c =
-    let a = c .before .before .before .before .before .before .before .before .before .before .before .before .before .args in
-    rw (c .before .before .before .before .if2 .taken) ((rw (c .before .before .before .next-of .ensures, c .before .before .before .before .before .before .phase-at .ensures, c .before .before .before .before .before .before .before .before .before .size .ensures) at (c .put-at .ensures)) ∙ internal-case (phasesIn (now (a .phases))) (now (a .tables)) (rulesIn (now (a .rules))) (a .at .0) (held (now (a .phase)) (now (a .last))) (a .i) (a .c) (now (a .bag)) (c .before .before .before .before .before .if1 .taken))
+    let a = c .before .before .before .before .before .before .before .before .before .before .before .before .args in
+    rw (c .before .before .before .before .if2 .taken) ((rw (c .before .before .before .next-of .ensures, c .before .before .before .before .before .before .phase-at .ensures, c .before .before .before .before .before .before .before .before .size .ensures) at (c .put-at .ensures)) ∙ internal-case (phasesIn (now (a .phases))) (now (a .tables)) (rulesIn (now (a .rules))) (a .at .0) (held (now (a .phase)) (now (a .last))) (a .i) (a .c) (now (a .bag)) (c .before .before .before .before .before .if1 .taken))
 
--- src/lib.rt:101:9
 returns-2 : tie.Need-returns-2
 returns-2 c =
-    let a = c .before .before .before .before .before .before .before .before .before .args in
+    let a = c .before .before .before .before .before .before .before .before .args in
     rw (c .if2 .left) (still-case (phasesIn (now (a .phases))) (now (a .tables)) (rulesIn (now (a .rules))) (a .at .0) (held (now (a .phase)) (now (a .last))) (a .i) (a .c) (now (a .bag)) (c .before .if1 .taken))
 
--- src/lib.rt:108:13
 confluent-requires : tie.Need-confluent-requires
 confluent-requires c κs = search needs
 
--- src/lib.rt:104:9
 put-at-requires-2 : tie.Need-put-at-requires-2
 put-at-requires-2 c κs = search needs
 
--- src/lib.rt:111:9
 returns-3 : tie.Need-returns-3
 returns-3 c =
-    let a = c .before .before .before .before .before .before .before .before .before .before .before .before .before .args in
-    rw (c .before .before .before .before .if3 .taken) ((rw (c .before .before .before .confluent .ensures, c .before .before .before .before .before .before .phase-at .ensures, c .before .before .before .before .before .before .before .before .before .size .ensures) at (c .put-at2 .ensures)) ∙ confluent-case (phasesIn (now (a .phases))) (now (a .tables)) (rulesIn (now (a .rules))) (a .at .0) (held (now (a .phase)) (now (a .last))) (a .i) (a .c) (now (a .bag)) (c .before .before .before .before .before .if1 .left))
+    let a = c .before .before .before .before .before .before .before .before .before .before .before .before .args in
+    rw (c .before .before .before .before .if3 .taken) ((rw (c .before .before .before .confluent .ensures, c .before .before .before .before .before .before .phase-at .ensures, c .before .before .before .before .before .before .before .before .size .ensures) at (c .put-at2 .ensures)) ∙ confluent-case (phasesIn (now (a .phases))) (now (a .tables)) (rulesIn (now (a .rules))) (a .at .0) (held (now (a .phase)) (now (a .last))) (a .i) (a .c) (now (a .bag)) (c .before .before .before .before .before .if1 .left))
 
--- src/lib.rt:113:28
 last-at-requires : tie.Need-last-at-requires
 last-at-requires c κs = search needs
 
--- src/lib.rt:113:9
 since-requires : tie.Need-since-requires
 since-requires c κs = search needs
 
--- src/lib.rt:118:9
 decided-requires : tie.Need-decided-requires
 decided-requires c κs = search needs
 
--- src/lib.rt:114:5
 put-at-requires-3 : tie.Need-put-at-requires-3
 put-at-requires-3 c κs = search needs
 
--- src/lib.rt:81:1
 returns-4 : tie.Need-returns-4
 unfolding decidedIn
 returns-4 c =
-    let a = c .before .before .before .before .before .before .before .before .before .before .before .before .before .before .before .before .before .args in
-    rw (c .before .before .before .before .before .before .before .before .if3 .left) ((rw (c .before .before .before .decided .ensures, c .before .before .before .before .since .ensures, c .before .before .before .before .before .last-at .ensures, c .before .before .before .before .before .before .before .before .before .before .phase-at .ensures, c .before .before .before .before .before .before .before .before .before .before .before .before .before .size .ensures) at (c .put-at3 .ensures)) ∙ external-case (phasesIn (now (a .phases))) (now (a .tables)) (rulesIn (now (a .rules))) (a .at .0) (held (now (a .phase)) (now (a .last))) (a .i) (a .c) (now (a .bag)) (c .before .before .before .before .before .before .before .before .before .if1 .left))
+    let a = c .before .before .before .before .before .before .before .before .before .before .before .before .before .before .before .args in
+    rw (c .before .before .before .before .before .before .before .if3 .left) ((rw (c .before .before .before .decided .ensures, c .before .before .before .before .since .ensures, c .before .before .before .before .before .last-at .ensures, c .before .before .before .before .before .before .before .before .before .phase-at .ensures, c .before .before .before .before .before .before .before .before .before .before .before .size .ensures) at (c .put-at3 .ensures)) ∙ external-case (phasesIn (now (a .phases))) (now (a .tables)) (rulesIn (now (a .rules))) (a .at .0) (held (now (a .phase)) (now (a .last))) (a .i) (a .c) (now (a .bag)) (c .before .before .before .before .before .before .before .before .if1 .left))
 
 pub transition-spec : {M : Type 1} → statement M
 transition-spec =

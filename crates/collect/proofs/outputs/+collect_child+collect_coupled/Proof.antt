@@ -13,6 +13,7 @@ use Rattle.pull_laws.specs.TableStep.{isOpen, pulledBelow}
 use Rattle.pull_laws.specs.Put.{puts}
 use Rattle.pull_laws.specs.Pull.{joined, childOut, coupledOut}
 use Rattle.model_records.specs.Values.{phasesIn}
+use Rattle.definition.specs.Limits.{maxCouplings}
 use Rattle.collect.specs.Turns.{pulledChild}
 use Rattle.collect.proofs.Laws.{rowsFrom, both-left, chain-more, chain-end, coupled-open, coupled-shut, sent-by}
 use borrow.Fn.Kinds.{In}
@@ -102,7 +103,7 @@ collect-child-returns-2 t c =
 
 abbrev collect-coupled-Inv-loop : collect-coupled-lts.InvT-loop
 collect-coupled-Inv-loop phases tables marks reached depth own x buf₀ at next₀ left₀ link₀ buf next left link =
-    (left ≤ 1024) × (length buf ≡ length buf₀) ×
+    (left ≤ 1024) × (link ≤ maxCouplings) × (length buf ≡ length buf₀) ×
     (puts own (joined (pulledChild (phasesIn phases) tables marks reached (depth - 1)) (rowsFrom tables left link)) (buf, next) ≡
     puts own (pulledBelow (phasesIn phases) tables marks reached depth x) (buf₀, at))
 
@@ -131,19 +132,24 @@ collect-coupled-loop-holds : (t : ℕ) → collect-coupled-lts.Need-loop-holds (
 collect-coupled-loop-holds t c =
     let a = c .before .before .before .before .before .before .args in
     let s : isOpen [] (now (a .tables)) (now (a .marks)) (now (a .reached)) (a .x) ≡ true = sym (c .before .before .is-open .ensures) ∙ not-false _ (c .before .if2 .left) in
-    (omega arith, refl, rw (c .first-link .ensures) (ap (λ l. puts (a .own) l (now (a .buf), a .at)) (coupled-open (phasesIn (now (a .phases))) (now (a .tables)) (now (a .marks)) (now (a .reached)) (a .depth) (a .x) (omega arith) s)))
+    (omega arith, rw (c .first-link .ensures) (c .before .before .before .before .before .before .pre .1 .1 .firsts (a .x) (c .before .before .before .before .before .before .pre .1 .0)), refl, rw (c .first-link .ensures) (ap (λ l. puts (a .own) l (now (a .buf), a .at)) (coupled-open (phasesIn (now (a .phases))) (now (a .tables)) (now (a .marks)) (now (a .reached)) (a .depth) (a .x) (omega arith) s)))
 
 collect-coupled-source-of-requires : (t : ℕ) → collect-coupled-lts.Need-source-of-requires (collect-coupled-calls t) (collect-coupled-at t) collect-coupled.Post collect-coupled-Inv-loop collect-coupled-μ-loop
-collect-coupled-source-of-requires t c κs = search needs
+collect-coupled-source-of-requires t c κs =
+    c .before .loop .inv .1
 
 collect-coupled-sub-collect-child : (t : ℕ) → collect-coupled-lts.Need-sub-collect-child (collect-coupled-calls t) (collect-coupled-at t) collect-coupled.Post collect-coupled-Inv-loop collect-coupled-μ-loop
 collect-coupled-sub-collect-child t c = search needs
 
 collect-coupled-collect-child-requires : (t : ℕ) → collect-coupled-lts.Need-collect-child-requires (collect-coupled-calls t) (collect-coupled-at t) collect-coupled.Post collect-coupled-Inv-loop collect-coupled-μ-loop
-collect-coupled-collect-child-requires t c κs = search needs
+collect-coupled-collect-child-requires t c κs =
+    let r = c .before .before .before .before .before .before .before .before .before .before .pre .1 .1 in
+    let l = c .before .before .before .loop in
+    (search needs, (rw (c .before .source-of .ensures) (r .sources (l .link) (l .inv .1)), r))
 
 collect-coupled-next-link-requires : (t : ℕ) → collect-coupled-lts.Need-next-link-requires (collect-coupled-calls t) (collect-coupled-at t) collect-coupled.Post collect-coupled-Inv-loop collect-coupled-μ-loop
-collect-coupled-next-link-requires t c κs = search needs
+collect-coupled-next-link-requires t c κs =
+    c .before .before .before .before .before .before .loop .inv .1
 
 collect-coupled-sub-left : (t : ℕ) → collect-coupled-lts.Need-sub-left (collect-coupled-calls t) (collect-coupled-at t) collect-coupled.Post collect-coupled-Inv-loop collect-coupled-μ-loop
 collect-coupled-sub-left t c =
@@ -159,18 +165,18 @@ collect-coupled-loop-again t c =
     let l = c .before .before .before .before .before .before .before .loop in
     let m = c .before .before .before .collect-child in
     let f = pulledChild (phasesIn (now (a .phases))) (now (a .tables)) (now (a .marks)) (now (a .reached)) (a .depth - 1) in
-    (omega arith, m .kept .1 .1 .1 .1 .1 .1 .1 .0 ∙ l .inv .1, rw (m .ensures, c .before .before .before .before .before .source-of .ensures, c .next-link .ensures) (chain-more f (now (a .tables)) (a .own) (l .left) (l .link) (l .buf, l .next) (c .before .before .before .before .before .before .loop-test .taken) ∙ l .inv .2))
+    (omega arith, rw (c .next-link .ensures) (c .before .before .before .before .before .before .before .before .before .before .before .before .before .before .pre .1 .1 .nexts (l .link) (l .inv .1)), m .kept .1 .1 .1 .1 .1 .1 .1 .0 ∙ l .inv .2, rw (m .ensures, c .before .before .before .before .before .source-of .ensures, c .next-link .ensures) (chain-more f (now (a .tables)) (a .own) (l .left) (l .link) (l .buf, l .next) (c .before .before .before .before .before .before .loop-test .taken) ∙ l .inv .3))
 
 collect-coupled-same-length : (t : ℕ) → collect-coupled-lts.Need-same-length (collect-coupled-calls t) (collect-coupled-at t) collect-coupled.Post collect-coupled-Inv-loop collect-coupled-μ-loop
 collect-coupled-same-length t c =
-    c .before .loop .inv .1
+    c .before .loop .inv .2
 
 collect-coupled-returns-3 : (t : ℕ) → collect-coupled-lts.Need-returns-3 (collect-coupled-calls t) (collect-coupled-at t) collect-coupled.Post collect-coupled-Inv-loop collect-coupled-μ-loop
 collect-coupled-returns-3 t c =
     let a = c .before .before .before .before .before .before .before .before .args in
     let l = c .before .loop in
     let f = pulledChild (phasesIn (now (a .phases))) (now (a .tables)) (now (a .marks)) (now (a .reached)) (a .depth - 1) in
-    sym (chain-end f (now (a .tables)) (a .own) (l .left) (l .link) (l .buf, l .next) (c .loop-test .left)) ∙ l .inv .2
+    sym (chain-end f (now (a .tables)) (a .own) (l .left) (l .link) (l .buf, l .next) (c .loop-test .left)) ∙ l .inv .3
 
 pub +collect-child+collect-coupled-spec : {M : Type 1} → statement M
 +collect-child+collect-coupled-spec =

@@ -7,16 +7,16 @@ use Rattle.collect.proofs.outputs.is_atomic.Tie as tie
 size-requires : tie.Need-size-requires
 size-requires c κs = search needs
 
-add-word-at : tie.Need-add-word-at
-add-word-at c = search needs
+add-word-in : tie.Need-add-word-in
+add-word-in c = search needs
 
-word-at-requires : tie.Need-word-at-requires
-word-at-requires c κs = search needs
+word-in-requires : tie.Need-word-in-requires
+word-in-requires c κs = search needs
 
 returns : tie.Need-returns
 unfolding atomicNode atomicAt nodeComponent
 returns c =
-    rw (c .word-at .ensures, c .before .size .ensures)
+    rw (c .word-in .ensures, c .before .size .ensures)
 
 pub is-atomic-spec : {M : Type 1} → statement M
-is-atomic-spec = tie.close (tie.spec size-requires add-word-at word-at-requires returns)
+is-atomic-spec = tie.close (tie.spec size-requires add-word-in word-in-requires returns)

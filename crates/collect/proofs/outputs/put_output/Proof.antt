@@ -7,8 +7,8 @@ use Rattle.collect.proofs.outputs.put_output.Tie as tie
 size-requires : tie.Need-size-requires
 size-requires c κs = search needs
 
-key-at-requires : tie.Need-key-at-requires
-key-at-requires c κs = search needs
+mark-at-requires : tie.Need-mark-at-requires
+mark-at-requires c κs = search needs
 
 port-of-requires : tie.Need-port-of-requires
 port-of-requires c κs = search needs
@@ -23,9 +23,9 @@ same-length c =
 returns : tie.Need-returns
 unfolding nodeComponent
 returns c =
-    rw (c .before .before .before .before .before .key-at .ensures, c .before .before .before .before .before .before .size .ensures, c .before .before .before .before .port-of .ensures) at (c .before .before .put-sent .ensures)
+    rw (c .before .before .before .before .before .mark-at .ensures, c .before .before .before .before .before .before .size .ensures, c .before .before .before .before .port-of .ensures) at (c .before .before .put-sent .ensures)
 
 pub put-output-spec : {M : Type 1} → statement M
 put-output-spec =
     tie.close
-    (tie.spec size-requires key-at-requires port-of-requires put-sent-requires same-length returns)
+    (tie.spec size-requires mark-at-requires port-of-requires put-sent-requires same-length returns)

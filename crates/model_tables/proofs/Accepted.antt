@@ -1,0 +1,41 @@
+-- What a call takes of an accepted model: its records are few, and the filled tables are its own. Assumes nothing.
+use mathlib.Core.Path.{_≡_, sym, subst}
+use Prim.Native.Nat.{ℕ, _≤_, _<_}
+use mathlib.Core.List.{List}
+use native.Mathlib.Omega.{arith}
+use lib.ListN.{length, getD}
+use Rattle.definition.specs.Bytes.{Bytes, ok}
+use Rattle.definition.specs.Limits.{maxComponents, maxRules, maxCouplings}
+use Rattle.definition.specs.Model.{atomics}
+use Rattle.definition.specs.Routes.{accepted}
+use Rattle.byte_laws.proofs.Slices.{all-bytes}
+use Rattle.model_laws.proofs.Sound.{Accepted}
+use Rattle.model_laws.proofs.Reading.{accepted-sound}
+use Rattle.model_records.specs.Values.{componentsIn, rulesIn, couplingsIn, modelIn}
+use Rattle.model.specs.Checked.{modelOf, componentsPart, rulesPart, couplingsPart}
+use Rattle.model.specs.declared.Counts.{Counts}
+use Rattle.pull_laws.specs.Tables.{tableSize}
+use Rattle.pull_laws.specs.TablesOf.{TablesOf}
+use Rattle.tables.specs.Filled.{filled}
+use Rattle.tables.proofs.Rows.{atomics-few}
+use Rattle.tables.proofs.Ranged.{tables-of}
+
+module _ (file : Bytes) (n : Counts) (bytes : (i : ℕ) → getD file i 0 < 256) (told : ok (modelOf file n) ≡ accepted file) where
+  pub fine : Accepted (modelOf file n)
+  fine = accepted-sound file (modelOf file n) (all-bytes file bytes) (sym told)
+
+  -- no section has more records than its limit
+  pub few-records : (length (componentsIn (componentsPart file n)) ≤ maxComponents) × (length (rulesIn (rulesPart file n)) ≤ maxRules) × (length (couplingsIn (couplingsPart file n)) ≤ maxCouplings)
+  unfolding modelOf modelIn
+  few-records = (fine .sound .components .few, fine .sound .rules .few, fine .sound .couplings .few)
+
+  pub few-atomics : length (atomics (modelOf file n .components)) ≤ maxComponents
+  few-atomics = omega (arith, atomics-few (modelOf file n .components), fine .sound .components .few)
+
+  -- the tables, by what the code has: the parts and the filled tables
+  pub tables-filled : (cs rs ks : Bytes) (blank t : List ℕ) → cs ≡ componentsPart file n → rs ≡ rulesPart file n → ks ≡ couplingsPart file n → length blank ≡ tableSize
+      → t ≡ filled (componentsIn cs) (rulesIn rs) (couplingsIn ks) blank → TablesOf (modelOf file n) t
+  unfolding modelOf modelIn
+  tables-filled cs rs ks blank t p q r long e =
+      let f : t ≡ filled (componentsIn (componentsPart file n)) (rulesIn (rulesPart file n)) (couplingsIn (couplingsPart file n)) blank = rw (p, q, r) at e in
+      subst (TablesOf (modelOf file n)) (sym f) (tables-of (modelOf file n) (fine .sound) blank long)
