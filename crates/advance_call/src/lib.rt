@@ -9,6 +9,7 @@ ghost use Rattle.instant.specs.Sim.{Lent};
 ghost use Prim.Native.Nat.{_*_, _≤_};
 ghost use Rattle.definition.specs.Engine.{advanceChecks, advance};
 ghost use Rattle.model.specs.Checked.{modelOf};
+ghost use Rattle.pull_laws.specs.TablesOf.{TablesOf};
 ghost use Rattle.advance_call.specs.Answers.{advancedOf};
 use clock::Moment;
 use limits::MAX_COMPONENTS;
@@ -66,6 +67,7 @@ fn refused(number: u64) -> Advanced
 fn advance_let_in(
     file: &[u8],
     n: Counts,
+    tables: &[u16; TABLE_SIZE],
     run: &mut [u8],
     count: usize,
     t: Moment,
@@ -74,13 +76,11 @@ fn advance_let_in(
     work: &mut [u32],
     keys: &mut [u32],
 ) -> Advanced
-    requires { ⌜ (ok (modelOf (now file) n) ≡ accepted (now file)) × (advanceChecks (modelOf (now file) n) (now run) (t .0) (now bag) ≡ ok tt)
+    requires { ⌜ (ok (modelOf (now file) n) ≡ accepted (now file)) × TablesOf (modelOf (now file) n) (now tables) × (advanceChecks (modelOf (now file) n) (now run) (t .0) (now bag) ≡ ok tt)
         × (count ≡ length (atomics (modelOf (now file) n .components)))
         × Lent (length (now work)) (length (now keys)) × (maxGiven * length (routes (modelOf (now file) n)) ≤ length (now work)) ⌝ }
     ensures { λ r. ⌜ advancedOf r (now (run .exit)) (now (trace .exit)) ≡ advance (now (file .entry)) (now (run .entry)) (t .0) (now (bag .entry)) (now (trace .entry)) ⌝ }
 {
-    let mut tables = [0u16; TABLE_SIZE];
-    model_tables::fill(file, n, &mut tables);
     let opening = saved_run::opening_of(run);
     let mut phase = [0u8; MAX_COMPONENTS];
     let mut last = [0u64; MAX_COMPONENTS];
@@ -89,7 +89,7 @@ fn advance_let_in(
     let r = advance::advance_from(
         model::phases_of(file, n),
         model::rules_of(file, n),
-        &tables,
+        tables,
         count as u8,
         run,
         opening,
@@ -113,38 +113,62 @@ fn advance_let_in(
 fn advance_few(
     file: &[u8],
     n: Counts,
+    tables: &[u16; TABLE_SIZE],
     run: &mut [u8],
     count: usize,
     t: Moment,
     bag: &[u8],
     trace: &mut [u8],
 ) -> Advanced
-    requires { ⌜ (ok (modelOf (now file) n) ≡ accepted (now file)) × (advanceChecks (modelOf (now file) n) (now run) (t .0) (now bag) ≡ ok tt)
+    requires { ⌜ (ok (modelOf (now file) n) ≡ accepted (now file)) × TablesOf (modelOf (now file) n) (now tables) × (advanceChecks (modelOf (now file) n) (now run) (t .0) (now bag) ≡ ok tt)
         × (count ≡ length (atomics (modelOf (now file) n .components)))
         × (length (routes (modelOf (now file) n)) ≤ 64) ⌝ }
     ensures { λ r. ⌜ advancedOf r (now (run .exit)) (now (trace .exit)) ≡ advance (now (file .entry)) (now (run .entry)) (t .0) (now (bag .entry)) (now (trace .entry)) ⌝ }
 {
     let mut work = [0u32; FEW_IN];
     let mut keys = [0u32; FEW_OUT];
-    advance_let_in(file, n, run, count, t, bag, trace, &mut work, &mut keys)
+    advance_let_in(
+        file,
+        n,
+        tables,
+        run,
+        count,
+        t,
+        bag,
+        trace,
+        &mut work,
+        &mut keys,
+    )
 }
 
 fn advance_many(
     file: &[u8],
     n: Counts,
+    tables: &[u16; TABLE_SIZE],
     run: &mut [u8],
     count: usize,
     t: Moment,
     bag: &[u8],
     trace: &mut [u8],
 ) -> Advanced
-    requires { ⌜ (ok (modelOf (now file) n) ≡ accepted (now file)) × (advanceChecks (modelOf (now file) n) (now run) (t .0) (now bag) ≡ ok tt)
+    requires { ⌜ (ok (modelOf (now file) n) ≡ accepted (now file)) × TablesOf (modelOf (now file) n) (now tables) × (advanceChecks (modelOf (now file) n) (now run) (t .0) (now bag) ≡ ok tt)
         × (count ≡ length (atomics (modelOf (now file) n .components))) ⌝ }
     ensures { λ r. ⌜ advancedOf r (now (run .exit)) (now (trace .exit)) ≡ advance (now (file .entry)) (now (run .entry)) (t .0) (now (bag .entry)) (now (trace .entry)) ⌝ }
 {
     let mut work = [0u32; MOST_IN];
     let mut keys = [0u32; MOST_OUT];
-    advance_let_in(file, n, run, count, t, bag, trace, &mut work, &mut keys)
+    advance_let_in(
+        file,
+        n,
+        tables,
+        run,
+        count,
+        t,
+        bag,
+        trace,
+        &mut work,
+        &mut keys,
+    )
 }
 
 // The checks of run, time and bag, for an accepted model with so many routes.
@@ -152,12 +176,13 @@ fn advance_accepted(
     file: &[u8],
     n: Counts,
     route_count: u16,
+    tables: &[u16; TABLE_SIZE],
     run: &mut [u8],
     t: u64,
     bag: &[u8],
     trace: &mut [u8],
 ) -> Advanced
-    requires { ⌜ (ok (modelOf (now file) n) ≡ accepted (now file)) × (length (routes (modelOf (now file) n)) ≡ «route_count») ⌝ }
+    requires { ⌜ (ok (modelOf (now file) n) ≡ accepted (now file)) × TablesOf (modelOf (now file) n) (now tables) × (length (routes (modelOf (now file) n)) ≡ «route_count») ⌝ }
     ensures { λ r. ⌜ advancedOf r (now (run .exit)) (now (trace .exit)) ≡ advance (now (file .entry)) (now (run .entry)) t (now (bag .entry)) (now (trace .entry)) ⌝ }
 {
     let components = model::components_of(file, n);
@@ -176,19 +201,20 @@ fn advance_accepted(
     }
     let count = saved_run::atomic_count(components);
     if route_count <= FEW_ROUTES {
-        advance_few(file, n, run, count, Moment(t), bag, trace)
+        advance_few(file, n, tables, run, count, Moment(t), bag, trace)
     } else {
-        advance_many(file, n, run, count, Moment(t), bag, trace)
+        advance_many(file, n, tables, run, count, Moment(t), bag, trace)
     }
 }
 
 pub fn advance(file: &[u8], run: &mut [u8], t: u64, bag: &[u8], trace: &mut [u8]) -> Advanced
     ensures { λ r. ⌜ advancedOf r (now (run .exit)) (now (trace .exit)) ≡ advance (now (file .entry)) (now (run .entry)) t (now (bag .entry)) (now (trace .entry)) ⌝ }
 {
-    let counted = route_count::check_routes(file);
+    let mut tables = [0u16; TABLE_SIZE];
+    let counted = model_tables::open_model(file, &mut tables);
     let checked = counted.checked;
     let Checked::Accepted(n) = checked else {
         return refused(wide16(model::checked_number(checked)));
     };
-    advance_accepted(file, n, counted.routes, run, t, bag, trace)
+    advance_accepted(file, n, counted.routes, &tables, run, t, bag, trace)
 }

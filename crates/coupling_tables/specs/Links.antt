@@ -4,10 +4,10 @@ use mathlib.Core.Path.{_≡_}
 use Prim.Native.Nat.{ℕ, zero, suc, _+_, _-_, _*_, _<_, _≤_}
 use mathlib.Core.List.{List}
 use mathlib.Core.Bool.{Bool, cond}
-use lib.ListN.{length, getD}
+use lib.ListN.{length, getD, replicate}
 use Rattle.definition.specs.Limits.{maxComponents}
 use Rattle.definition.specs.Model.{Component, Coupling, noCoupling, isAtomic}
-use Rattle.pull_laws.specs.Tables.{portNodes, isOutput, isRootNode, nodeComponent, firstAt, liveAt, nextAt, sourceAt, sourceNumber, targetNumber}
+use Rattle.pull_laws.specs.Tables.{portNodes, isOutput, isRootNode, nodeComponent, firstAt, liveAt, nextAt, sourceAt, tableSize, sourceNumber, targetNumber}
 use Rattle.pull_laws.specs.Tabled.{isLive}
 use Rattle.table_words.specs.Writes.{column, putIn, linked}
 use Rattle.coupling_tables.specs.declared.End.{End}
@@ -28,6 +28,30 @@ sourceIn t j = getD t (sourceAt + j) 0
 -- A table holds f of each of the first n links.
 abbrev pub Held : (ℕ → ℕ) → ℕ → List ℕ → Type 0
 Held f n t = (j : ℕ) → 0 < j → j ≤ n → getD t j 0 ≡ f j
+
+-- The first n links join nodes that there is room for.
+abbrev pub OnNodes : (ℕ → ℕ) → (ℕ → ℕ) → ℕ → Type 0
+OnNodes src tgt n = (j : ℕ) → 0 < j → j ≤ n → (src j < portNodes * maxComponents) × (tgt j < portNodes * maxComponents)
+
+-- The words of the links are the couplings' nodes: where each ends, in a list of its own, and where it begins, in a table.
+pub record Joined (cs : List Component) (ks : List Coupling) (targets t : List ℕ) : Type 0 where
+  pub ends : Held (linkEnd Target cs ks) (length ks) targets
+  pub begins : (j : ℕ) → 0 < j → j ≤ length ks → sourceIn t j ≡ linkEnd Source cs ks j
+  pub nodes : OnNodes (linkEnd Source cs ks) (linkEnd Target cs ks) (length ks)
+
+-- The table with the nodes where the links begin.
+unfoldable pub begun : List Component → List Coupling → List ℕ → List ℕ
+begun cs ks t = column (sourceAt + 1) (λ i. linkEnd Source cs ks (1 + i)) (length ks) 0 t
+
+-- Tables before anything stands in them.
+unfoldable pub zeros : List ℕ
+zeros = replicate tableSize 0
+
+-- The nodes of the links stand, and nothing else: what a check of a model leaves, and where filling the tables goes on.
+pub record Begun (cs : List Component) (ks : List Coupling) (targets t : List ℕ) : Type 0 where
+  pub ends : Held (linkEnd Target cs ks) (length ks) targets
+  pub begins : t ≡ begun cs ks zeros
+  pub nodes : OnNodes (linkEnd Source cs ks) (linkEnd Target cs ks) (length ks)
 
 -- "from an atomic's output port or a root input port"
 unfoldable pub isSource : List Component → ℕ → Bool
@@ -51,12 +75,11 @@ module _ (src tgt : ℕ → ℕ) where
   spreadDown zero j t = t
   spreadDown (suc m) j t = spreadDown m (j + 1) (spread (src j) (tgt j) t)
 
-  -- Every table by node and by link, from the nodes of the m links.
+  -- Every table by node and by link but the nodes where links begin, from the nodes of the m links.
   unfoldable pub byLink : List Component → ℕ → List ℕ → List ℕ
   byLink cs m t =
       let chains = linked firstAt (portNodes * maxComponents) nextAt tgt m t in
-      let sources = column (sourceAt + 1) (λ i. src (1 + i)) m 0 chains in
-      let marked = column liveAt (sourceFlag cs) (portNodes * length cs) 0 sources in
+      let marked = column liveAt (sourceFlag cs) (portNodes * length cs) 0 chains in
       spreadDown m 1 (spreadUp m marked)
 
 unfoldable pub byCoupling : List Component → List Coupling → List ℕ → List ℕ

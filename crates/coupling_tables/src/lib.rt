@@ -5,18 +5,21 @@ ghost use Prim.Native.Nat.{_+_, _*_, _<_, _≤_};
 ghost use lib.ListN.{length, getD};
 ghost use Rattle.definition.specs.Limits.{maxComponents, maxCouplings};
 ghost use Rattle.model_records.specs.Values.{couplingOf, componentsIn, couplingsIn};
-ghost use Rattle.pull_laws.specs.Tables.{portNodes, inputNode, outputNode, sourceNumber, targetNumber, liveAt, sourceAt, tableSize};
+ghost use Rattle.pull_laws.specs.Tables.{portNodes, inputNode, outputNode, sourceNumber, targetNumber, liveAt};
 ghost use Rattle.table_words.specs.Writes.{column};
-ghost use Rattle.coupling_tables.specs.Links.{sourceIn, linkEnd, Held, sourceFlag, spread, spreadUp, spreadDown, byCoupling};
+ghost use Rattle.coupling_tables.specs.Links.{sourceIn, linkEnd, Held, OnNodes, Joined, begun, sourceFlag, spread, spreadUp, spreadDown, byCoupling};
 use limits::MAX_NODES;
 use limits::PORT_COUNT;
 use limits::PORT_NODES;
+use little_endian::size;
+use little_endian::size16;
 use model_records::Coupling;
 use table_words::FIRST_AT;
 use table_words::LINKS;
 use table_words::LIVE_AT;
 use table_words::NEXT_AT;
 use table_words::SOURCE_AT;
+use table_words::TABLE_SIZE;
 
 // The two ends of a coupling, as the contracts name them.
 pub enum End {
@@ -41,11 +44,7 @@ fn output_node(c: u8, q: u8) -> u16
 fn source_node(components: &[u8], k: Coupling) -> u16
     ensures { λ r. ⌜ r ≡ sourceNumber (componentsIn (now (components .entry))) (couplingOf k) ⌝ }
 {
-    if model_records::is_child(
-        components,
-        little_endian::size(k.source),
-        little_endian::size(k.target),
-    ) {
+    if model_records::is_child(components, size(k.source), size(k.target)) {
         input_node(k.source, k.source_port)
     } else {
         output_node(k.source, k.source_port)
@@ -56,11 +55,7 @@ fn source_node(components: &[u8], k: Coupling) -> u16
 fn target_node(components: &[u8], k: Coupling) -> u16
     ensures { λ r. ⌜ r ≡ targetNumber (componentsIn (now (components .entry))) (couplingOf k) ⌝ }
 {
-    if model_records::is_child(
-        components,
-        little_endian::size(k.target),
-        little_endian::size(k.source),
-    ) {
+    if model_records::is_child(components, size(k.target), size(k.source)) {
         output_node(k.target, k.target_port)
     } else {
         input_node(k.target, k.target_port)
@@ -75,10 +70,15 @@ fn link_count(couplings: &[u8]) -> u16
 }
 
 // The node where each link begins, in its table, and the node where it ends; each coupling is read once.
-fn put_ends(components: &[u8], couplings: &[u8], targets: &mut [u16], t: &mut [u16])
-    requires { ⌜ (length (couplingsIn (now couplings)) ≤ maxCouplings) × (length (now targets) ≡ maxCouplings + 1) × (length (now t) ≡ tableSize) ⌝ }
+pub fn put_ends(
+    components: &[u8],
+    couplings: &[u8],
+    targets: &mut [u16; LINKS],
+    t: &mut [u16; TABLE_SIZE],
+)
+    requires { ⌜ (length (couplingsIn (now couplings)) ≤ maxCouplings) × (length (now targets) ≡ maxCouplings + 1) ⌝ }
     ensures { λ _. ⌜ Held (linkEnd End.Target (componentsIn (now (components .entry))) (couplingsIn (now (couplings .entry)))) (length (couplingsIn (now (couplings .entry)))) (now (targets .exit))
-        × (now (t .exit) ≡ column (sourceAt + 1) (λ i. linkEnd End.Source (componentsIn (now (components .entry))) (couplingsIn (now (couplings .entry))) (1 + i)) (length (couplingsIn (now (couplings .entry)))) 0 (now (t .entry))) ⌝ }
+        × (now (t .exit) ≡ begun (componentsIn (now (components .entry))) (couplingsIn (now (couplings .entry))) (now (t .entry))) ⌝ }
 {
     let n = model_records::coupling_count(couplings);
     let mut i: usize = 0;
@@ -97,8 +97,8 @@ fn flag(b: bool) -> u16
 }
 
 // The sources are live, and nothing else yet: the root's inputs and the atomics' outputs, four ports at once.
-fn mark_sources(components: &[u8], t: &mut [u16])
-    requires { ⌜ (length (componentsIn (now components)) ≤ maxComponents) × (length (now t) ≡ tableSize) ⌝ }
+fn mark_sources(components: &[u8], t: &mut [u16; TABLE_SIZE])
+    requires { ⌜ length (componentsIn (now components)) ≤ maxComponents ⌝ }
     ensures { λ _. ⌜ now (t .exit) ≡ column liveAt (sourceFlag (componentsIn (now (components .entry)))) (portNodes * length (componentsIn (now (components .entry)))) 0 (now (t .entry)) ⌝ }
 {
     let n = model_records::component_count(components);
@@ -116,29 +116,29 @@ fn mark_sources(components: &[u8], t: &mut [u16])
 }
 
 // Where x is live, so is y.
-fn spread_one(x: usize, y: usize, t: &mut [u16])
-    requires { ⌜ (x < 65536) × (length (now t) ≡ tableSize) ⌝ }
+fn spread_one(x: u16, y: u16, t: &mut [u16; TABLE_SIZE])
+    requires { ⌜ (x < portNodes * maxComponents) × (y < portNodes * maxComponents) ⌝ }
     ensures { λ _. ⌜ now (t .exit) ≡ spread x y (now (t .entry)) ⌝ }
 {
-    if !(table_words::word_at(t, LIVE_AT + x) == 0) {
-        table_words::put_in(t, LIVE_AT, MAX_NODES, y, 1);
+    if !(t[LIVE_AT + size16(x)] == 0) {
+        t[LIVE_AT + size16(y)] = 1;
     }
 }
 
 // Along link j.
-fn spread_link(targets: &[u16], j: u16, t: &mut [u16])
-    requires { ⌜ (j ≤ maxCouplings) × (length (now targets) ≡ maxCouplings + 1) × (length (now t) ≡ tableSize) ⌝ }
+fn spread_link(targets: &[u16; LINKS], j: u16, t: &mut [u16; TABLE_SIZE])
+    requires { ⌜ (j ≤ maxCouplings) × (sourceIn (now t) j < portNodes * maxComponents) × (getD (now targets) j 0 < portNodes * maxComponents) ⌝ }
     ensures { λ _. ⌜ now (t .exit) ≡ spread (sourceIn (now (t .entry)) j) (getD (now (targets .entry)) j 0) (now (t .entry)) ⌝ }
 {
-    let at = little_endian::size16(j);
-    let x = little_endian::size16(t[SOURCE_AT + at]);
-    let y = little_endian::size16(targets[at]);
+    let at = size16(j);
+    let x = t[SOURCE_AT + at];
+    let y = targets[at];
     spread_one(x, y, t);
 }
 
 // Outputs, from the deepest components up.
-fn spread_up(targets: &[u16], n: u16, t: &mut [u16])
-    requires { ⌜ (n ≤ maxCouplings) × (length (now targets) ≡ maxCouplings + 1) × (length (now t) ≡ tableSize) ⌝ }
+fn spread_up(targets: &[u16; LINKS], n: u16, t: &mut [u16; TABLE_SIZE])
+    requires { ⌜ (n ≤ maxCouplings) × OnNodes (sourceIn (now t)) (λ j. getD (now targets) j 0) n ⌝ }
     ensures { λ _. ⌜ now (t .exit) ≡ spreadUp (sourceIn (now (t .entry))) (λ j. getD (now (targets .entry)) j 0) n (now (t .entry)) ⌝ }
 {
     let mut j = n;
@@ -149,8 +149,8 @@ fn spread_up(targets: &[u16], n: u16, t: &mut [u16])
 }
 
 // Inputs, from the root down.
-fn spread_down(targets: &[u16], n: u16, t: &mut [u16])
-    requires { ⌜ (n ≤ maxCouplings) × (length (now targets) ≡ maxCouplings + 1) × (length (now t) ≡ tableSize) ⌝ }
+fn spread_down(targets: &[u16; LINKS], n: u16, t: &mut [u16; TABLE_SIZE])
+    requires { ⌜ (n ≤ maxCouplings) × OnNodes (sourceIn (now t)) (λ j. getD (now targets) j 0) n ⌝ }
     ensures { λ _. ⌜ now (t .exit) ≡ spreadDown (sourceIn (now (t .entry))) (λ j. getD (now (targets .entry)) j 0) n 1 (now (t .entry)) ⌝ }
 {
     let mut j: u16 = 1;
@@ -160,16 +160,19 @@ fn spread_down(targets: &[u16], n: u16, t: &mut [u16])
     }
 }
 
-// Every table by node and by link.
-pub fn fill_couplings(components: &[u8], couplings: &[u8], t: &mut [u16])
-    requires { ⌜ (length (componentsIn (now components)) ≤ maxComponents) × (length (couplingsIn (now couplings)) ≤ maxCouplings) × (length (now t) ≡ tableSize) ⌝ }
+// Every other table by node and by link, where the nodes of the links stand.
+pub fn fill_linked(
+    components: &[u8],
+    couplings: &[u8],
+    targets: &[u16; LINKS],
+    t: &mut [u16; TABLE_SIZE],
+)
+    requires { ⌜ (length (componentsIn (now components)) ≤ maxComponents) × (length (couplingsIn (now couplings)) ≤ maxCouplings) × Joined (componentsIn (now components)) (couplingsIn (now couplings)) (now targets) (now t) ⌝ }
     ensures { λ _. ⌜ now (t .exit) ≡ byCoupling (componentsIn (now (components .entry))) (couplingsIn (now (couplings .entry))) (now (t .entry)) ⌝ }
 {
-    let mut targets = [0u16; LINKS];
-    put_ends(components, couplings, &mut targets, t);
     let n = link_count(couplings);
-    table_words::link_all(&targets, n, FIRST_AT, MAX_NODES, NEXT_AT, t);
+    table_words::link_all(targets, n, FIRST_AT, MAX_NODES, NEXT_AT, t);
     mark_sources(components, t);
-    spread_up(&targets, n, t);
-    spread_down(&targets, n, t);
+    spread_up(targets, n, t);
+    spread_down(targets, n, t);
 }

@@ -7,7 +7,7 @@ ghost use Rattle.definition.specs.Limits.{maxComponents, maxRoutes};
 ghost use Rattle.definition.specs.Routes.{accepted};
 ghost use Rattle.definition.specs.Flatten.{flatten};
 ghost use Rattle.model.specs.Checked.{modelOf};
-ghost use Rattle.pull_laws.specs.Tables.{tableSize};
+ghost use Rattle.pull_laws.specs.TablesOf.{TablesOf};
 ghost use Rattle.run_calls.specs.Answers.{wroteOf};
 use model::Checked;
 use model::Counts;
@@ -40,19 +40,18 @@ fn small(x: usize) -> u8
 fn flatten_accepted(
     file: &[u8],
     n: Counts,
-    tables: &mut [u16; table_words::TABLE_SIZE],
+    tables: &[u16; TABLE_SIZE],
     rows: &mut [u32],
     scratch: &mut [u32],
     out: &mut [u8],
 ) -> Written
-    requires { ⌜ (ok (modelOf (now file) n) ≡ accepted (now file)) × (length (now tables) ≡ tableSize) × (length (now rows) ≡ maxRoutes) × (length (now scratch) ≡ maxRoutes) ⌝ }
+    requires { ⌜ (ok (modelOf (now file) n) ≡ accepted (now file)) × TablesOf (modelOf (now file) n) (now tables) × (length (now rows) ≡ maxRoutes) × (length (now scratch) ≡ maxRoutes) ⌝ }
     ensures { λ r. ⌜ wroteOf r (now (out .exit)) ≡ flatten (now (file .entry)) (now (out .entry)) ⌝ }
 {
     let components = model::components_of(file, n);
     let phases = model::phases_of(file, n);
     let rules = model::rules_of(file, n);
     let atomics = small(saved_run::atomic_count(components));
-    model_tables::fill(file, n, tables);
     let count = flat_rows::flat_rows(tables, atomics, rows, scratch);
     let size = flat_writer::flat_size(phases, rules, atomics, count);
     if out.len() < size {
@@ -72,15 +71,16 @@ fn flatten_accepted(
 pub fn flatten(file: &[u8], out: &mut [u8]) -> Written
     ensures { λ r. ⌜ wroteOf r (now (out .exit)) ≡ flatten (now (file .entry)) (now (out .entry)) ⌝ }
 {
-    let checked = route_count::check(file);
+    let mut tables = [0u16; TABLE_SIZE];
+    let counted = model_tables::open_model(file, &mut tables);
+    let checked = counted.checked;
     let Checked::Accepted(n) = checked else {
         return Written {
             number: wide16(model::checked_number(checked)),
             bytes: 0,
         };
     };
-    let mut tables: [u16; TABLE_SIZE] = [0; TABLE_SIZE];
     let mut rows: [u32; MAX_ROWS] = [0; MAX_ROWS];
     let mut scratch: [u32; MAX_ROWS] = [0; MAX_ROWS];
-    flatten_accepted(file, n, &mut tables, &mut rows, &mut scratch, out)
+    flatten_accepted(file, n, &tables, &mut rows, &mut scratch, out)
 }

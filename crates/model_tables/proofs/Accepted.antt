@@ -14,7 +14,8 @@ use Rattle.model_laws.proofs.Reading.{accepted-sound}
 use Rattle.model_records.specs.Values.{componentsIn, rulesIn, couplingsIn, modelIn}
 use Rattle.model.specs.Checked.{modelOf, componentsPart, rulesPart, couplingsPart}
 use Rattle.model.specs.declared.Counts.{Counts}
-use Rattle.pull_laws.specs.Tables.{tableSize}
+use Rattle.coupling_tables.specs.Links.{Begun}
+use Rattle.route_count.specs.Routed.{Linked}
 use Rattle.pull_laws.specs.TablesOf.{TablesOf}
 use Rattle.tables.specs.Filled.{filled}
 use Rattle.tables.proofs.Rows.{atomics-few}
@@ -32,10 +33,15 @@ module _ (file : Bytes) (n : Counts) (bytes : (i : ℕ) → getD file i 0 < 256)
   pub few-atomics : length (atomics (modelOf file n .components)) ≤ maxComponents
   few-atomics = omega (arith, atomics-few (modelOf file n .components), fine .sound .components .few)
 
-  -- the tables, by what the code has: the parts and the filled tables
-  pub tables-filled : (cs rs ks : Bytes) (blank t : List ℕ) → cs ≡ componentsPart file n → rs ≡ rulesPart file n → ks ≡ couplingsPart file n → length blank ≡ tableSize
-      → t ≡ filled (componentsIn cs) (rulesIn rs) (couplingsIn ks) blank → TablesOf (modelOf file n) t
+  -- the tables, by what the code has: the parts, and what was filled from them
+  pub tables-filled : (cs rs ks : Bytes) (t : List ℕ) → cs ≡ componentsPart file n → rs ≡ rulesPart file n → ks ≡ couplingsPart file n
+      → t ≡ filled (componentsIn cs) (rulesIn rs) (couplingsIn ks) → TablesOf (modelOf file n) t
   unfolding modelOf modelIn
-  tables-filled cs rs ks blank t p q r long e =
-      let f : t ≡ filled (componentsIn (componentsPart file n)) (rulesIn (rulesPart file n)) (couplingsIn (couplingsPart file n)) blank = rw (p, q, r) at e in
-      subst (TablesOf (modelOf file n)) (sym f) (tables-of (modelOf file n) (fine .sound) blank long)
+  tables-filled cs rs ks t p q r e =
+      let f : t ≡ filled (componentsIn (componentsPart file n)) (rulesIn (rulesPart file n)) (couplingsIn (couplingsPart file n)) = rw (p, q, r) at e in
+      subst (TablesOf (modelOf file n)) (sym f) (tables-of (modelOf file n) (fine .sound))
+
+  -- the words of the links, of the parts as they were cut
+  pub linked-parts : (cs ks : Bytes) (targets t : List ℕ) → cs ≡ componentsPart file n → ks ≡ couplingsPart file n → Linked file n targets t
+      → Begun (componentsIn cs) (couplingsIn ks) targets t
+  linked-parts cs ks targets t p r l = rw (p, r) l

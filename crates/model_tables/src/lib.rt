@@ -1,22 +1,44 @@
-// The tables of an accepted model, filled for a call from the sections of its file.
+// A model file opened for a call: the whole check, and where it is accepted the tables of its model.
 ghost use mathlib.Core.Path.{_≡_};
-ghost use lib.ListN.{length};
 ghost use Rattle.definition.specs.Bytes.{ok};
 ghost use Rattle.definition.specs.Routes.{accepted};
-ghost use Rattle.model.specs.Checked.{modelOf};
-ghost use Rattle.pull_laws.specs.Tables.{tableSize};
+ghost use Rattle.model.specs.Checked.{modelOf, checkedAs};
+ghost use Rattle.coupling_tables.specs.Links.{zeros};
+ghost use Rattle.route_count.specs.Routed.{Routed, Linked};
 ghost use Rattle.pull_laws.specs.TablesOf.{TablesOf};
+ghost use Rattle.model_tables.specs.Opened.{Opened};
+use model::Checked;
 use model::Counts;
+use route_count::Counted;
+use table_words::LINKS;
 use table_words::TABLE_SIZE;
 
-pub fn fill(file: &[u8], n: Counts, tables: &mut [u16; TABLE_SIZE])
-    requires { ⌜ (ok (modelOf (now file) n) ≡ accepted (now file)) × (length (now tables) ≡ tableSize) ⌝ }
+// The other tables, where the words of the links stand.
+fn fill(file: &[u8], n: Counts, targets: &[u16; LINKS], tables: &mut [u16; TABLE_SIZE])
+    requires { ⌜ (ok (modelOf (now file) n) ≡ accepted (now file)) × Linked (now file) n (now targets) (now tables) ⌝ }
     ensures { λ _. ⌜ TablesOf (modelOf (now (file .entry)) n) (now (tables .exit)) ⌝ }
 {
     tables::fill_tables(
         model::components_of(file, n),
         model::rules_of(file, n),
         model::couplings_of(file, n),
+        targets,
         tables,
     );
+}
+
+// The tables are lent as zeros.
+pub fn open_model(file: &[u8], tables: &mut [u16; TABLE_SIZE]) -> Counted
+    requires { ⌜ now tables ≡ zeros ⌝ }
+    ensures { λ r. ⌜ (checkedAs (now (file .entry)) (r .checked) ≡ accepted (now (file .entry))) × Routed (now (file .entry)) (r .checked) (r .routes)
+        × Opened (now (file .entry)) (r .checked) (now (tables .exit)) ⌝ }
+{
+    let mut targets = [0u16; LINKS];
+    let counted = route_count::check_routes(file, tables, &mut targets);
+    let checked = counted.checked;
+    let Checked::Accepted(n) = checked else {
+        return counted;
+    };
+    fill(file, n, &targets, tables);
+    counted
 }

@@ -8,6 +8,7 @@ ghost use Rattle.definition.specs.Routes.{accepted};
 ghost use Rattle.definition.specs.SavedRun.{runOf, nextDue, fits};
 ghost use Rattle.definition.specs.Engine.{dueNumber, reading};
 ghost use Rattle.model.specs.Checked.{modelOf};
+ghost use Rattle.pull_laws.specs.TablesOf.{TablesOf};
 ghost use Rattle.reading.specs.Answers.{readOf};
 use limits::MAX_COMPONENTS;
 use model::Checked;
@@ -47,31 +48,35 @@ fn refused(number: u64) -> Reading
 }
 
 // The next due moment of the whole model as a number, for a run of `count` atomics that fits.
-fn whole_due(file: &[u8], n: Counts, run: &[u8], count: usize) -> u64
-    requires { ⌜ (ok (modelOf (now file) n) ≡ accepted (now file)) × (fits (modelOf (now file) n) (now run) ≡ true)
+fn whole_due(file: &[u8], n: Counts, tables: &[u16; TABLE_SIZE], run: &[u8], count: usize) -> u64
+    requires { ⌜ (ok (modelOf (now file) n) ≡ accepted (now file)) × TablesOf (modelOf (now file) n) (now tables) × (fits (modelOf (now file) n) (now run) ≡ true)
         × (count ≡ length (atomics (modelOf (now file) n .components))) ⌝ }
     ensures { λ r. ⌜ r ≡ dueNumber (nextDue (modelOf (now (file .entry)) n) (runOf (modelOf (now (file .entry)) n) (now (run .entry)) .entries)) ⌝ }
 {
-    let mut tables = [0u16; TABLE_SIZE];
-    model_tables::fill(file, n, &mut tables);
     let mut phase = [0u8; MAX_COMPONENTS];
     let mut last = [0u64; MAX_COMPONENTS];
     saved_run::load(run, count, &mut phase, &mut last);
     let mut ends = [0u64; MAX_COMPONENTS];
     dues::put_ends(
         model::phases_of(file, n),
-        &tables,
+        tables,
         count as u8,
         &phase,
         &last,
         &mut ends,
     );
-    dues::next_end(&tables, &ends)
+    dues::next_end(tables, &ends)
 }
 
 // The checks of run and position, and the answer, for an accepted model.
-fn read_accepted(file: &[u8], n: Counts, run: &[u8], position: u64) -> Reading
-    requires { ⌜ ok (modelOf (now file) n) ≡ accepted (now file) ⌝ }
+fn read_accepted(
+    file: &[u8],
+    n: Counts,
+    tables: &[u16; TABLE_SIZE],
+    run: &[u8],
+    position: u64,
+) -> Reading
+    requires { ⌜ (ok (modelOf (now file) n) ≡ accepted (now file)) × TablesOf (modelOf (now file) n) (now tables) ⌝ }
     ensures { λ r. ⌜ readOf r ≡ reading (now (file .entry)) (now (run .entry)) position ⌝ }
 {
     let components = model::components_of(file, n);
@@ -88,16 +93,18 @@ fn read_accepted(file: &[u8], n: Counts, run: &[u8], position: u64) -> Reading
         number: 0,
         phase: wide(entry.phase),
         last: last.0,
-        next_due: whole_due(file, n, run, count),
+        next_due: whole_due(file, n, tables, run, count),
     }
 }
 
 pub fn read(file: &[u8], run: &[u8], position: u64) -> Reading
     ensures { λ r. ⌜ readOf r ≡ reading (now (file .entry)) (now (run .entry)) position ⌝ }
 {
-    let checked = route_count::check(file);
+    let mut tables = [0u16; TABLE_SIZE];
+    let counted = model_tables::open_model(file, &mut tables);
+    let checked = counted.checked;
     let Checked::Accepted(n) = checked else {
         return refused(wide16(model::checked_number(checked)));
     };
-    read_accepted(file, n, run, position)
+    read_accepted(file, n, &tables, run, position)
 }

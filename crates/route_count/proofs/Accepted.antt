@@ -1,16 +1,17 @@
 -- What a decoded model has as far as ways go, and the check's last line. Assumes nothing.
 use mathlib.Core.Path.{_≡_, refl, ap, _∙_}
 use mathlib.Core.List.{List}
-use mathlib.Core.Bool.{Bool, true}
+use mathlib.Core.Bool.{Bool, true, false}
 use Prim.Native.Nat.{ℕ, _≤_, _<_, min}
 use native.Mathlib.Omega.{arith}
 use lib.Dec.{ltb}
 use lib.ListN.{length}
+use borrow.Author.Tests.{ltb-false}
 use Rattle.definition.specs.Bytes.{Bytes, Result, ok, refused, _>>=_, refuseIf, numberOf}
 use Rattle.definition.specs.Limits.{maxComponents, maxCouplings, maxRoutes}
 use Rattle.definition.specs.Model.{Model}
 use Rattle.definition.specs.Records.{toComponent, componentFits, toCoupling, couplingFits}
-use Rattle.definition.specs.File.{Section, componentCount, atMost, componentSection, phaseSection, ruleSection, couplingSection, endOfFile, decode}
+use Rattle.definition.specs.File.{Section, orElse, componentCount, atMost, componentSection, phaseSection, ruleSection, couplingSection, endOfFile, decode}
 use Rattle.definition.specs.Routes.{routes, accepted}
 use Rattle.byte_laws.proofs.Alls.{each}
 use Rattle.byte_laws.proofs.Sections.{Gives, section-gives}
@@ -20,6 +21,10 @@ use Rattle.model.specs.declared.Checked as C
 use Rattle.model.specs.declared.Checked.the-variants as CV
 use Rattle.model.specs.Checked.{componentsPart, couplingsPart, modelOf, checkedAs, checkedNumber}
 use Rattle.model.proofs.Chain.{component-limit}
+use Rattle.coupling_tables.specs.declared.End.the-variants.{Target}
+use Rattle.coupling_tables.specs.Links.{linkEnd, Held, begun, zeros}
+use Rattle.coupling_tables.proofs.Nodes.{on-nodes}
+use Rattle.route_count.specs.Routed.{Linked}
 use Rattle.route_laws.specs.Ways.{waysCap, Counted, Placed, tableRoutes}
 use Rattle.route_laws.proofs.Placed.{rising, coupled-parents}
 use Rattle.route_laws.proofs.Total.{routes-counted, over-limit}
@@ -38,7 +43,17 @@ kept-all size w to fits s x g =
     let e = g .is in
     rw e (λ i l. each (fits _) 0 _ (g .each) i (omega arith) (omega (arith, g .count)))
 
-pub decode-placed : (s : Bytes) (m : Model) → decode s ≡ ok m → Placed (m .components) (m .couplings) × (length (m .components) ≤ maxComponents)
+-- A right count of couplings.
+coupling-count : (n : ℕ) → atMost maxCouplings n ≡ 0 → n ≤ maxCouplings
+unfolding atMost
+coupling-count n e = go (ltb maxCouplings n) refl e
+  where
+    go : (b : Bool) → ltb maxCouplings n ≡ b → orElse b 3 0 ≡ 0 → n ≤ maxCouplings
+    go true f e = absurd (omega arith)
+    go false f e = ltb-false maxCouplings n f
+
+pub decode-placed : (s : Bytes) (m : Model) → decode s ≡ ok m
+    → Placed (m .components) (m .couplings) × (length (m .components) ≤ maxComponents) × (length (m .couplings) ≤ maxCouplings)
 unfolding decode componentSection couplingSection
 decode-placed s m e =
     let a = bind-ok (componentSection s) _ m e in
@@ -57,6 +72,7 @@ decode-placed s m e =
         couplings = kept-all 4 (atMost maxCouplings) toCoupling (couplingFits (a .0 .records)) (c .0 .rest) (d .0) v;
       },
       h .1,
+      rw (ap (λ y. length (y .records)) (v .is) ∙ v .count) (coupling-count _ (v .right)),
     )
 
 -- The table tells whether there are too many routes.
@@ -70,8 +86,17 @@ routes-told m table total p h e =
 
 module _ (file : Bytes) (n : N.Counts) (e : decode file ≡ ok (modelOf file n)) where
   pub parts-placed : Placed (componentsIn (componentsPart file n)) (couplingsIn (couplingsPart file n)) × (length (componentsIn (componentsPart file n)) ≤ maxComponents)
+      × (length (couplingsIn (couplingsPart file n)) ≤ maxCouplings)
   unfolding modelOf modelIn
   parts-placed = decode-placed file (modelOf file n) e
+
+  -- The words that were put are those of the file's links.
+  pub ends-linked : (targets s t : List ℕ) {a b : Bytes} → a ≡ componentsPart file n → b ≡ couplingsPart file n → s ≡ zeros
+      → Held (linkEnd Target (componentsIn a) (couplingsIn b)) (length (couplingsIn b)) targets × (t ≡ begun (componentsIn a) (couplingsIn b) s) → Linked file n targets t
+  ends-linked targets s t p q z h =
+      let w = parts-placed in
+      let k = rw (p, q) at h in
+      record { ends = k .0; begins = k .1 ∙ ap (begun (componentsIn (componentsPart file n)) (couplingsIn (couplingsPart file n))) z; nodes = on-nodes (componentsIn (componentsPart file n)) (couplingsIn (couplingsPart file n)) (w .0 .couplings) (w .1) }
 
   -- The check's last line, by the table.
   pub parts-told : (table : List ℕ) (total : ℕ) (b : Bool) → Counted (componentsIn (componentsPart file n)) (couplingsIn (couplingsPart file n)) table

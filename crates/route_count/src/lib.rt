@@ -1,41 +1,40 @@
 // Number 9, more than 1,024 routes, and with it the whole check of a model file.
 ghost use mathlib.Core.Path.{_≡_};
-ghost use Prim.Native.Nat.{_+_, _*_, _≤_, min};
+ghost use Prim.Native.Nat.{_+_, _*_, _<_, _≤_, min};
 ghost use mathlib.Core.Bool.{cond};
 ghost use lib.ListN.{length};
-ghost use Rattle.definition.specs.Limits.{portCount};
+ghost use Rattle.definition.specs.Limits.{maxComponents, maxCouplings, portCount};
 ghost use Rattle.definition.specs.Model.{isAtomic};
 ghost use Rattle.definition.specs.Routes.{accepted, checkModel};
 ghost use Rattle.model_records.specs.Values.{componentsIn};
 ghost use Rattle.model.specs.Checked.{checkedAs};
 ghost use Rattle.route_laws.specs.Nodes.{portNodes};
 ghost use Rattle.route_laws.specs.Ways.{waysCap, four, tableRoutes};
-ghost use Rattle.route_count.specs.Routed.{Routed};
+ghost use Rattle.coupling_tables.specs.Links.{zeros};
+ghost use Rattle.route_count.specs.Routed.{Routed, LinkedBy};
 use limits::MAX_NODES;
 use limits::MAX_ROUTES;
 use limits::PORT_COUNT;
 use limits::PORT_NODES;
 use model::Checked;
+use table_words::LINKS;
+use table_words::TABLE_SIZE;
 use way_counts::capped;
-use way_counts::word_at;
 
 // The sum of four entries.
-fn four_ways(ways: &[u16], at: usize) -> u16
-    requires { ⌜ at + portCount ≤ length (now ways) ⌝ }
+fn four_ways(ways: &[u16; MAX_NODES], at: usize) -> u16
+    requires { ⌜ at + portCount ≤ portNodes * maxComponents ⌝ }
     ensures { λ r. ⌜ r ≡ min waysCap (four (now (ways .entry)) at) ⌝ }
 {
     capped(
-        word_at(ways, at),
-        capped(
-            word_at(ways, at + 1),
-            capped(word_at(ways, at + 2), word_at(ways, at + 3)),
-        ),
+        ways[at],
+        capped(ways[at + 1], capped(ways[at + 2], ways[at + 3])),
     )
 }
 
 // The ways from an atomic's outputs.
-fn own_ways(components: &[u8], ways: &[u16], c: usize) -> u16
-    requires { ⌜ portNodes * c + portNodes ≤ length (now ways) ⌝ }
+fn own_ways(components: &[u8], ways: &[u16; MAX_NODES], c: usize) -> u16
+    requires { ⌜ c < maxComponents ⌝ }
     ensures { λ r. ⌜ r ≡ min waysCap (cond (isAtomic (componentsIn (now (components .entry))) c) (four (now (ways .entry)) (portNodes * c + portCount)) 0) ⌝ }
 {
     if model_records::is_atomic(components, c) {
@@ -46,8 +45,8 @@ fn own_ways(components: &[u8], ways: &[u16], c: usize) -> u16
 }
 
 // The routes by the table of ways, up to the cap.
-fn route_total(components: &[u8], ways: &[u16]) -> u16
-    requires { ⌜ (portNodes * length (componentsIn (now components)) ≤ length (now ways)) × (portNodes ≤ length (now ways)) ⌝ }
+fn route_total(components: &[u8], ways: &[u16; MAX_NODES]) -> u16
+    requires { ⌜ length (componentsIn (now components)) ≤ maxComponents ⌝ }
     ensures { λ r. ⌜ r ≡ min waysCap (tableRoutes (componentsIn (now (components .entry))) (now (ways .entry))) ⌝ }
 {
     let n = model_records::component_count(components);
@@ -66,8 +65,15 @@ pub struct Counted {
     pub routes: u16,
 }
 
-pub fn check_routes(file: &[u8]) -> Counted
-    ensures { λ r. ⌜ (checkedAs (now (file .entry)) (r .checked) ≡ accepted (now (file .entry))) × Routed (now (file .entry)) (r .checked) (r .routes) ⌝ }
+// The tables are lent as zeros; where the file is accepted, the words of its links stand in them.
+pub fn check_routes(
+    file: &[u8],
+    tables: &mut [u16; TABLE_SIZE],
+    targets: &mut [u16; LINKS],
+) -> Counted
+    requires { ⌜ (now tables ≡ zeros) × (length (now targets) ≡ maxCouplings + 1) ⌝ }
+    ensures { λ r. ⌜ (checkedAs (now (file .entry)) (r .checked) ≡ accepted (now (file .entry))) × Routed (now (file .entry)) (r .checked) (r .routes)
+        × LinkedBy (now (file .entry)) (r .checked) (now (targets .exit)) (now (tables .exit)) ⌝ }
 {
     let read = model::decode_model(file);
     let Checked::Accepted(n) = read else {
@@ -77,8 +83,10 @@ pub fn check_routes(file: &[u8]) -> Counted
         };
     };
     let components = model::components_of(file, n);
+    let couplings = model::couplings_of(file, n);
+    coupling_tables::put_ends(components, couplings, targets, tables);
     let mut ways = [0u16; MAX_NODES];
-    way_counts::count_ways(components, model::couplings_of(file, n), &mut ways);
+    way_counts::count_ways(components, couplings, tables, targets, &mut ways);
     let routes = route_total(components, &ways);
     if MAX_ROUTES < routes {
         return Counted {
@@ -92,11 +100,26 @@ pub fn check_routes(file: &[u8]) -> Counted
     }
 }
 
+// The same without the number of routes.
+pub fn check_linked(
+    file: &[u8],
+    tables: &mut [u16; TABLE_SIZE],
+    targets: &mut [u16; LINKS],
+) -> Checked
+    requires { ⌜ (now tables ≡ zeros) × (length (now targets) ≡ maxCouplings + 1) ⌝ }
+    ensures { λ r. ⌜ (checkedAs (now (file .entry)) r ≡ accepted (now (file .entry))) × LinkedBy (now (file .entry)) r (now (targets .exit)) (now (tables .exit)) ⌝ }
+{
+    let counted = check_routes(file, tables, targets);
+    counted.checked
+}
+
+// The same for a call that fills no tables.
 pub fn check(file: &[u8]) -> Checked
     ensures { λ r. ⌜ checkedAs (now (file .entry)) r ≡ accepted (now (file .entry)) ⌝ }
 {
-    let counted = check_routes(file);
-    counted.checked
+    let mut tables = [0u16; TABLE_SIZE];
+    let mut targets = [0u16; LINKS];
+    check_linked(file, &mut tables, &mut targets)
 }
 
 // The number by which a model file is refused, or 0.

@@ -17,21 +17,22 @@ use Rattle.model_laws.proofs.Sound.{Sound}
 use Rattle.nest_laws.proofs.Places.{place-below}
 use Rattle.nest_laws.proofs.Components.{atomic-once}
 use Rattle.route_laws.specs.Nodes.{portNodes}
-use Rattle.route_laws.proofs.Placed.{parents, rising}
-use Rattle.pull_laws.specs.Tables.{numbersAt, positionsAt, kindsAt, ordersAt, phasesAt, parentsAt, rulesFromAt, rulesToAt, childAt, siblingAt, firstAt, liveAt, nextAt, sourceAt, countAt, tableSize, atomicAt}
+use Rattle.route_laws.proofs.Placed.{parents}
+use Rattle.pull_laws.specs.Tables.{numbersAt, positionsAt, kindsAt, ordersAt, phasesAt, parentsAt, rulesFromAt, rulesToAt, childAt, siblingAt, firstAt, liveAt, nextAt, sourceAt, countAt, atomicAt}
 use Rattle.pull_laws.specs.Ranges.{maxNodes, InRange, Seated}
 use Rattle.pull_laws.specs.Tabled.{Tabled, isLive}
 use Rattle.pull_laws.specs.TablesOf.{TablesOf}
-use Rattle.table_words.specs.Writes.{column, cleared, putIn, linked}
+use Rattle.table_words.specs.Writes.{column, putIn, linked}
 use Rattle.table_words.proofs.Words as W
 use Rattle.component_tables.specs.declared.Field.the-variants.{Kind, Parent, Order, Phases, Atomic}
 use Rattle.component_tables.specs.Columns.{fieldAt, fieldsBefore, numberAt, numbered, ruleNames, ruleStarts, ruleEnds, byComponent, byRule, byParent}
 use Rattle.component_tables.proofs.Loops.{fields-more, fields-none}
 use Rattle.coupling_tables.specs.declared.End.the-variants.{Source, Target}
-use Rattle.coupling_tables.specs.Links.{linkEnd, sourceFlag, spread, spreadUp, spreadDown, byLink, byCoupling}
+use Rattle.coupling_tables.proofs.Begun.{zeros-at}
+use Rattle.coupling_tables.proofs.Nodes.{src-in}
+use Rattle.coupling_tables.specs.Links.{zeros, begun, linkEnd, sourceFlag, spread, spreadUp, spreadDown, byLink, byCoupling}
 use Rattle.tables.specs.Filled.{filled}
 use Rattle.tables.proofs.Rows.{atomics-few}
-use Rattle.tables.proofs.Kin.{src-in}
 use Rattle.tables.proofs.Holding as H
 use Rattle.tables.proofs.Tables.{tables-hold}
 
@@ -291,31 +292,28 @@ module _ (cs : List Component) (few : length cs ≤ maxComponents) where
 
 -- ---- the filled tables of a sound model
 
-module _ (m : Model) (w : Sound m) (t : List ℕ) (long : length t ≡ tableSize) where
-  end : List ℕ
-  end = filled (m .components) (m .rules) (m .couplings) t
-
-  words-filled : Words (m .components) (w .components .few) (filled (m .components) (m .rules) (m .couplings) t)
-  unfolding filled byCoupling byLink
+module _ (m : Model) (w : Sound m) where
+  words-filled : Words (m .components) (w .components .few) (filled (m .components) (m .rules) (m .couplings))
+  unfolding filled begun byCoupling byLink
   words-filled =
       let cs = m .components in
       let ks = m .couplings in
       let few = w .components .few in
       let src = linkEnd Source cs ks in
       let tgt = linkEnd Target cs ks in
-      let zero = H.zero2 cs (m .rules) ks t long (w .some-component) few (w .couplings .few) in
-      let zero-links = H.zero3 cs (m .rules) ks t long (w .some-component) few (w .couplings .few) in
+      let most = w .couplings .few in
       let above : (c : ℕ) → 0 < c → c < length cs → componentAt cs c .parent < c = λ c p l. parents cs (w .components .fit) c p l .0 in
-      let begins : (j : ℕ) → 0 < j → j ≤ length ks → src j < maxNodes = λ j p l. omega (arith, src-in cs ks (rising cs (w .components .fit)) (w .couplings .fit) j p l, few) in
-      let t1 = byComponent cs (cleared t) in
+      let begins : (j : ℕ) → 0 < j → j ≤ length ks → src j < maxNodes = λ j p l. omega (arith, src-in cs ks (w .couplings .fit) j p l, few) in
+      let t0 = begun cs ks zeros in
+      let t1 = byComponent cs t0 in
       let t2 = byRule (m .rules) t1 in
       let t3 = byParent cs t2 in
-      let chains = linked firstAt maxNodes nextAt tgt (length ks) t3 in
-      let sources = column (sourceAt + 1) (λ i. src (1 + i)) (length ks) 0 chains in
-      let w3 : Words cs few t3 = words-kin cs few above t2 (λ x a b. zero x a) (words-rules cs few (m .rules) t1 (words-columns cs few parent-small (cleared t) (W.words-cleared (Allowed (length cs)) (none (length cs)) t))) in
+      let w0 : Words cs few t0 = words-sources cs few src tgt (length ks) most begins zeros (λ x. subst (Allowed (length cs) x) (sym (zeros-at x)) (none (length cs) x)) in
+      let w2 : Words cs few t2 = words-rules cs few (m .rules) t1 (words-columns cs few parent-small t0 w0) in
+      let w3 : Words cs few t3 = words-kin cs few above t2 (λ x a b. H.zero2 cs (m .rules) ks few most x a (omega arith)) w2 in
       W.words-set (Allowed (length cs)) (none (length cs)) (byCoupling cs ks t3) countAt (length cs)
-      (words-live cs few src tgt (length ks) (w .couplings .few) begins sources
-      (words-sources cs few src tgt (length ks) (w .couplings .few) begins chains (words-chains cs few src tgt (length ks) (w .couplings .few) begins t3 (λ x a b. zero-links x a) w3)))
+      (words-live cs few src tgt (length ks) most begins (linked firstAt maxNodes nextAt tgt (length ks) t3)
+      (words-chains cs few src tgt (length ks) most begins t3 (λ x a b. H.zero3 cs (m .rules) ks few most x a (omega arith)) w3))
       (total (length cs) (length cs) few)
     where
       parent-small : (c : ℕ) → c < length (m .components) → componentAt (m .components) c .parent < maxComponents
@@ -323,15 +321,15 @@ module _ (m : Model) (w : Sound m) (t : List ℕ) (long : length t ≡ tableSize
       parent-small (suc c) l = omega (arith, parents (m .components) (w .components .fit) (suc c) (omega arith) l .0, w .components .few)
 
   -- the positions are those of its atomics
-  seated : Seated (length (atomics (m .components))) (filled (m .components) (m .rules) (m .couplings) t)
+  seated : Seated (length (atomics (m .components))) (filled (m .components) (m .rules) (m .couplings))
   unfolding atomicAt
   seated c l e = go (ltb c (length (m .components))) refl
     where
       s : List ℕ
-      s = filled (m .components) (m .rules) (m .couplings) t
+      s = filled (m .components) (m .rules) (m .couplings)
 
       h : Tabled m s
-      h = tables-hold m w t long
+      h = tables-hold m w
 
       known : getD s (kindsAt + c) 0 ≡ componentAt (m .components) c .kind → isAtomic (m .components) c ≡ true
       known q = unfold isAtomic in (ap (λ k. eqb k 1) (sym q) ∙ e)
@@ -345,10 +343,10 @@ module _ (m : Model) (w : Sound m) (t : List ℕ) (long : length t ≡ tableSize
           absurd (omega (arith, eqb-true (getD s (kindsAt + c) 0) 1 e, words-filled (kindsAt + c) .kinds (omega (arith, ltb-false c (length (m .components)) b)) (omega arith)))
 
   -- what a call takes of them
-  pub tables-of : TablesOf m (filled (m .components) (m .rules) (m .couplings) t)
+  pub tables-of : TablesOf m (filled (m .components) (m .rules) (m .couplings))
   tables-of = record {
-    tabled = tables-hold m w t long;
+    tabled = tables-hold m w;
     few = omega (arith, atomics-few (m .components), w .components .few);
-    in-range = ranged (m .components) (w .components .few) (filled (m .components) (m .rules) (m .couplings) t) words-filled;
+    in-range = ranged (m .components) (w .components .few) (filled (m .components) (m .rules) (m .couplings)) words-filled;
     seated = seated;
   }

@@ -14,17 +14,18 @@ use Rattle.definition.specs.Records.{couplingFits}
 use Rattle.laws.proofs.Sorting.{clash}
 use Rattle.route_laws.specs.Nodes.{portNodes, inputNode, sourceNumber, targetNumber}
 use Rattle.route_laws.specs.Ways.{Rising}
-use Rattle.pull_laws.specs.Tables.{nodeComponent, isOutput, isRootNode, kindsAt, liveAt, tableSize, chainRows, atomicAt, atomicNode}
+use Rattle.pull_laws.specs.Tables.{nodeComponent, isOutput, isRootNode, kindsAt, liveAt, chainRows, atomicAt, atomicNode}
 use Rattle.pull_laws.specs.TableStep.{anyOf}
 use Rattle.pull_laws.specs.Tabled.{isLive, mayLead}
 use Rattle.table_words.proofs.Columns.{column-at}
 use Rattle.coupling_tables.specs.declared.End.the-variants.{Source, Target}
 use Rattle.coupling_tables.proofs.Order.{up-within}
+use Rattle.coupling_tables.proofs.Nodes.{src-in, tgt-in}
 use Rattle.coupling_tables.specs.Links.{linkEnd, isSource, sourceFlag}
 use Rattle.tables.proofs.Rows.{kinds-hold}
 use Rattle.tables.proofs.Live.{up-keeps, down-keeps, spread-closed}
-use Rattle.tables.proofs.Kin.{src-in, tgt-in, up-order, down-order, down-input}
-use Rattle.tables.proofs.Holding.{t0, t5, sources, marked, up, l0, lm, ls, live-kept, kept1, rows-hold}
+use Rattle.tables.proofs.Kin.{up-order, down-order, down-input}
+use Rattle.tables.proofs.Holding.{t0, t5, chains, marked, up, l0, lm, lc, live-kept, kept1, rows-hold}
 
 any-none : (p : ℕ → Bool) (S T : Coupling → ℕ) (x : ℕ) (ks : List Coupling)
     → ((i : ℕ) → i < length ks → T (getD ks i noCoupling) ≡ x → p (S (getD ks i noCoupling)) ≡ false) → anyOf p (map S (keep (λ k. eqb (T k) x) ks)) ≡ false
@@ -36,25 +37,24 @@ any-none p S T x (k ∷ ks) h = go (eqb (T k) x) refl (any-none p S T x ks (λ i
     go true e ih = rw (h 0 (omega arith) (eqb-true (T k) x e), ih)
     go false e ih = ih
 
-module _ (cs : List Component) (rs : List Rule) (ks : List Coupling) (t : List ℕ) (long : length t ≡ tableSize) (some : 0 < length cs) (few : length cs ≤ maxComponents)
-    (short : length ks ≤ maxCouplings) where
+module _ (cs : List Component) (rs : List Rule) (ks : List Coupling) (some : 0 < length cs) (few : length cs ≤ maxComponents) (short : length ks ≤ maxCouplings) where
   abbrev end : List ℕ
-  end = t5 cs rs ks t long some few short
+  end = t5 cs rs ks few short
 
   -- every source is live
   source-live : (x : ℕ) → x < portNodes * length cs → isSource cs x ≡ true → isLive end x ≡ true
   source-live x h e =
-      let m = marked cs rs ks t long some few short in
+      let m = marked cs rs ks few short in
       let a : isLive m x ≡ true = begun in
-      live-kept cs rs ks t long some few short x (omega arith)
-      ∙ down-keeps (linkEnd Source cs ks) (linkEnd Target cs ks) (length ks) 1 x (up cs rs ks t long some few short) (omega arith)
-      (omega (arith, up-within (linkEnd Source cs ks) (linkEnd Target cs ks) (length ks) m .long, lm cs rs ks t long some few short))
-      (up-keeps (linkEnd Source cs ks) (linkEnd Target cs ks) (length ks) x m (omega arith) (omega (arith, lm cs rs ks t long some few short)) a)
+      live-kept cs rs ks few short x (omega arith)
+      ∙ down-keeps (linkEnd Source cs ks) (linkEnd Target cs ks) (length ks) 1 x (up cs rs ks few short) (omega arith)
+      (omega (arith, up-within (linkEnd Source cs ks) (linkEnd Target cs ks) (length ks) m .long, lm cs rs ks few short))
+      (up-keeps (linkEnd Source cs ks) (linkEnd Target cs ks) (length ks) x m (omega arith) (omega (arith, lm cs rs ks few short)) a)
     where
-      begun : isLive (marked cs rs ks t long some few short) x ≡ true
+      begun : isLive (marked cs rs ks few short) x ≡ true
       begun = unfold isLive sourceFlag in
           (ap (λ v. not (eqb v 0))
-          (column-at liveAt (sourceFlag cs) (portNodes * length cs) (sources cs rs ks t long some few short) x (omega (arith, ls cs rs ks t long some few short)) h
+          (column-at liveAt (sourceFlag cs) (portNodes * length cs) (chains cs rs ks few short) x (omega (arith, lc cs rs ks few short)) h
           ∙ ap (λ b. cond {A = ℕ} b 1 0) e))
 
   pub given-holds : (q : ℕ) → q < portCount → isLive end (inputNode 0 q) ≡ true
@@ -75,8 +75,8 @@ module _ (cs : List Component) (rs : List Rule) (ks : List Coupling) (t : List �
 
       kind : getD end (kindsAt + nodeComponent y) 0 ≡ componentAt cs (nodeComponent y) .kind
       kind =
-          kept1 cs rs ks t long some few short (kindsAt + nodeComponent y) (omega (arith, inside))
-          ∙ kinds-hold cs (t0 cs rs ks t long some few short) (l0 cs rs ks t long some few short) few (nodeComponent y) inside
+          kept1 cs rs ks few short (kindsAt + nodeComponent y) (omega (arith, inside))
+          ∙ kinds-hold cs (t0 cs rs ks few short) (l0 cs rs ks few short) few (nodeComponent y) inside
 
       here : isSource cs y ≡ true
       here = unfold isSource atomicNode atomicAt isAtomic in (rw o (rw kind at e))
@@ -84,13 +84,13 @@ module _ (cs : List Component) (rs : List Rule) (ks : List Coupling) (t : List �
   module _ (rising : Rising cs) (fit : (i : ℕ) → i < length ks → couplingFits cs ks i ≡ true) where
     closed : (j : ℕ) → 0 < j → j ≤ length ks → isLive end (linkEnd Source cs ks j) ≡ true → isLive end (linkEnd Target cs ks j) ≡ true
     closed j a b v =
-        let s = src-in cs ks rising fit in
-        let g = tgt-in cs ks rising fit in
-        live-kept cs rs ks t long some few short (linkEnd Target cs ks j) (omega (arith, g j a b))
+        let s = src-in cs ks fit in
+        let g = tgt-in cs ks fit in
+        live-kept cs rs ks few short (linkEnd Target cs ks j) (omega (arith, g j a b))
         ∙ spread-closed (linkEnd Source cs ks) (linkEnd Target cs ks) (length ks) (λ j a b. omega (arith, s j a b)) (λ j a b. omega (arith, g j a b))
-        (up-order cs ks rising fit) (down-order cs ks rising fit) (down-input cs ks rising fit) (marked cs rs ks t long some few short)
-        (omega (arith, lm cs rs ks t long some few short)) j a b
-        (sym (live-kept cs rs ks t long some few short (linkEnd Source cs ks j) (omega (arith, s j a b))) ∙ v)
+        (up-order cs ks rising fit) (down-order cs ks rising fit) (down-input cs ks rising fit) (marked cs rs ks few short)
+        (omega (arith, lm cs rs ks few short)) j a b
+        (sym (live-kept cs rs ks few short (linkEnd Source cs ks j) (omega (arith, s j a b))) ∙ v)
 
     lead-none : (y : ℕ) → y < portNodes * length cs → isLive end y ≡ false → mayLead end y ≡ false
     unfolding mayLead
@@ -103,7 +103,7 @@ module _ (cs : List Component) (rs : List Rule) (ks : List Coupling) (t : List �
 
     pub live-holds : (x : ℕ) → x < portNodes * length cs → isLive end x ≡ false → anyOf (mayLead end) (chainRows end x) ≡ false
     live-holds x h e =
-        ap (anyOf (mayLead end)) (rows-hold cs rs ks t long some few short x h)
+        ap (anyOf (mayLead end)) (rows-hold cs rs ks few short x h)
         ∙ any-none (mayLead end) (sourceNumber cs) (targetNumber cs) x ks from
       where
         from : (i : ℕ) → i < length ks → targetNumber cs (getD ks i noCoupling) ≡ x → mayLead end (sourceNumber cs (getD ks i noCoupling)) ≡ false
@@ -119,7 +119,7 @@ module _ (cs : List Component) (rs : List Rule) (ks : List Coupling) (t : List �
             finish = unfold linkEnd in (ap (λ j. targetNumber cs (getD ks j noCoupling)) z ∙ q)
 
             inside : sourceNumber cs (getD ks i noCoupling) < portNodes * length cs
-            inside = rw (sym begin) (src-in cs ks rising fit (1 + i) (omega arith) (omega arith))
+            inside = rw (sym begin) (src-in cs ks fit (1 + i) (omega arith) (omega arith))
 
             none : (b : Bool) → isLive end (sourceNumber cs (getD ks i noCoupling)) ≡ b → isLive end (sourceNumber cs (getD ks i noCoupling)) ≡ false
             none true v = absurd (clash (sym (ap (isLive end) finish) ∙ closed (1 + i) (omega arith) (omega arith) (ap (isLive end) begin ∙ v)) e)

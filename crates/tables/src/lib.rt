@@ -4,18 +4,27 @@ ghost use Prim.Native.Nat.{_≤_};
 ghost use lib.ListN.{length};
 ghost use Rattle.definition.specs.Limits.{maxComponents, maxRules, maxCouplings};
 ghost use Rattle.model_records.specs.Values.{componentsIn, rulesIn, couplingsIn};
-ghost use Rattle.pull_laws.specs.Tables.{tableSize};
+ghost use Rattle.coupling_tables.specs.Links.{Begun};
 ghost use Rattle.tables.specs.Filled.{filled};
 use table_words::COUNT_AT;
+use table_words::LINKS;
+use table_words::TABLE_SIZE;
 
-pub fn fill_tables(components: &[u8], rules: &[u8], couplings: &[u8], tables: &mut [u16])
-    requires { ⌜ (length (componentsIn (now components)) ≤ maxComponents) × (length (rulesIn (now rules)) ≤ maxRules) × (length (couplingsIn (now couplings)) ≤ maxCouplings) × (length (now tables) ≡ tableSize) ⌝ }
-    ensures { λ _. ⌜ now (tables .exit) ≡ filled (componentsIn (now (components .entry))) (rulesIn (now (rules .entry))) (couplingsIn (now (couplings .entry))) (now (tables .entry)) ⌝ }
+// The words of the links stand, as the check of the model leaves them; everything else is zero.
+pub fn fill_tables(
+    components: &[u8],
+    rules: &[u8],
+    couplings: &[u8],
+    targets: &[u16; LINKS],
+    tables: &mut [u16; TABLE_SIZE],
+)
+    requires { ⌜ (length (componentsIn (now components)) ≤ maxComponents) × (length (rulesIn (now rules)) ≤ maxRules) × (length (couplingsIn (now couplings)) ≤ maxCouplings)
+        × Begun (componentsIn (now components)) (couplingsIn (now couplings)) (now targets) (now tables) ⌝ }
+    ensures { λ _. ⌜ now (tables .exit) ≡ filled (componentsIn (now (components .entry))) (rulesIn (now (rules .entry))) (couplingsIn (now (couplings .entry))) ⌝ }
 {
-    table_words::clear(tables);
     component_tables::fill_components(components, tables);
     component_tables::fill_rules(rules, tables);
     component_tables::fill_children(components, tables);
-    coupling_tables::fill_couplings(components, couplings, tables);
+    coupling_tables::fill_linked(components, couplings, targets, tables);
     tables[COUNT_AT] = component_tables::count_word(components);
 }

@@ -1,1 +1,3 @@
-pub mod Stores
+-- Laws of ways counted on words.
+pub mod Loops
+pub mod Words

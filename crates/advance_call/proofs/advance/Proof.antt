@@ -3,14 +3,16 @@ use borrow.Author.Needs.{needs}
 use mathlib.Core.Path.{_∙_, ap, sym, subst}
 use Rattle.model.specs.Checked.{checkedAs}
 use Rattle.model.specs.declared.Checked.{Checked}
+use Rattle.coupling_tables.proofs.Begun.{zeros-made}
 use Rattle.route_count.specs.Routed.{Routed}
+use Rattle.model_tables.specs.Opened.{Opened}
 use Rattle.advance_call.proofs.Checks.{model-refused}
 use Rattle.advance_call.proofs.advance.Statement.{statement}
 use Rattle.advance_call.proofs.advance.Tie as tie
 
 -- src/lib.rt:138:9
-check-routes-requires : tie.Need-check-routes-requires
-check-routes-requires c κs = search needs
+open-model-requires : tie.Need-open-model-requires
+open-model-requires c κs = zeros-made
 
 -- src/lib.rt:139:27
 enum-known-checked : tie.Need-enum-known-checked
@@ -35,17 +37,17 @@ refused-requires c κs = search needs
 -- src/lib.rt:140:9
 returns : tie.Need-returns
 returns c =
-    let a = c .before .before .before .before .before .before .before .before .before .before .args in
-    let told = sym (ap (checkedAs (a .file .now)) (c .before .before .before .enum-told .given .1)) ∙ c .before .before .before .before .before .check-routes .ensures .0 in
+    let a = c .before .before .before .before .before .before .before .before .before .before .before .args in
+    let told = sym (ap (checkedAs (a .file .now)) (c .before .before .before .enum-told .given .1)) ∙ c .before .before .before .before .before .open-model .ensures .0 in
     rw (c .refused .ensures, c .before .wide16 .ensures, c .before .before .checked-number .ensures, c .before .before .before .enum-told .given .1) (model-refused (a .file .now) (a .run .now) (a .t) (a .bag .now) (a .trace .now) _ told)
 
 -- src/lib.rt:142:5
 advance-accepted-requires : tie.Need-advance-accepted-requires
 advance-accepted-requires c κs =
-    let file = c .before .before .before .before .before .before .before .before .before .before .args .file .now in
-    let n = c .before .before .before .checked .given .0 .0 in
-    let is = c .before .before .before .checked .given .1 in
-    (sym (ap (checkedAs file) is) ∙ c .before .before .before .before .before .check-routes .ensures .0, subst (λ (k : Checked). Routed file k (c .before .before .before .before .before .check-routes .result .routes)) is (c .before .before .before .before .before .check-routes .ensures .1))
+    let file = c .before .before .before .before .before .before .before .before .before .before .before .before .args .file .now in
+    let r = c .before .before .before .before .before .before .open-model in
+    let is = c .before .before .before .before .checked .given .1 in
+    (sym (ap (checkedAs file) is) ∙ r .ensures .0, subst (λ (k : Checked). Opened file k (r .last .1 .0)) is (r .ensures .2), subst (λ (k : Checked). Routed file k (r .result .routes)) is (r .ensures .1))
 
 -- src/lib.rt:135:1
 same-length : tie.Need-same-length
@@ -63,7 +65,7 @@ pub advance-spec : {M : Type 1} → statement M
 advance-spec =
     tie.close
     (tie.spec
-    check-routes-requires
+    open-model-requires
     enum-known-checked
     enum-told
     checked-number-requires

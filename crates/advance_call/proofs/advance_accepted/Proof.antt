@@ -120,9 +120,10 @@ advance-few-requires c κs =
     let g = sym f ∙ not-false (c .before .before .before .before .before .before .before .before .before .before .before .before .fits2 .result) (c .before .before .before .before .before .before .before .before .before .before .before .if1 .left) in
     let o = opens-by (a .file .now) (a .n) (a .run .now) (a .t) _ (c .before .before .before .before .before .before .before .before .before .opening-of .ensures) (c .before .before .before .before .before .before .before .if2 .left) in (
       c .before .before .before .before .before .before .before .before .before .before .before .before .before .before .before .before .before .before .before .before .pre .0,
+      c .before .before .before .before .before .before .before .before .before .before .before .before .before .before .before .before .before .before .before .before .pre .1,
       let-in (a .file .now) (a .run .now) (a .t) (a .bag .now) (a .trace .now) m (c .before .before .before .before .before .before .before .before .before .before .before .before .before .before .before .before .before .before .before .before .pre .0) g o (c .before .before .before .before .before .before .if3 .left) (sym (c .before .before .before .before .before .bag-fits .ensures) ∙ not-false (c .before .before .before .before .before .bag-fits .result) (c .before .before .before .before .if4 .left)),
       c .before .before .before .atomic-count .ensures ∙ ap (λ (s : Bytes). length (atomics (componentsIn s))) (c .before .before .before .before .before .before .before .before .before .before .before .before .before .before .before .components-of .ensures) ∙ count-file (a .file .now) (a .n),
-      omega (arith, c .before .before .before .before .before .before .before .before .before .before .before .before .before .before .before .before .before .before .before .before .pre .1, c .before .before .if5 .taken),
+      omega (arith, c .before .before .before .before .before .before .before .before .before .before .before .before .before .before .before .before .before .before .before .before .pre .2, c .before .before .if5 .taken),
     )
 
 advance-many-requires : tie.Need-advance-many-requires
@@ -133,6 +134,7 @@ advance-many-requires c κs =
     let g = sym f ∙ not-false (c .before .before .before .before .before .before .before .before .before .before .before .before .fits2 .result) (c .before .before .before .before .before .before .before .before .before .before .before .if1 .left) in
     let o = opens-by (a .file .now) (a .n) (a .run .now) (a .t) _ (c .before .before .before .before .before .before .before .before .before .opening-of .ensures) (c .before .before .before .before .before .before .before .if2 .left) in (
       c .before .before .before .before .before .before .before .before .before .before .before .before .before .before .before .before .before .before .before .before .pre .0,
+      c .before .before .before .before .before .before .before .before .before .before .before .before .before .before .before .before .before .before .before .before .pre .1,
       let-in (a .file .now) (a .run .now) (a .t) (a .bag .now) (a .trace .now) m (c .before .before .before .before .before .before .before .before .before .before .before .before .before .before .before .before .before .before .before .before .pre .0) g o (c .before .before .before .before .before .before .if3 .left) (sym (c .before .before .before .before .before .bag-fits .ensures) ∙ not-false (c .before .before .before .before .before .bag-fits .result) (c .before .before .before .before .if4 .left)),
       c .before .before .before .atomic-count .ensures ∙ ap (λ (s : Bytes). length (atomics (componentsIn s))) (c .before .before .before .before .before .before .before .before .before .before .before .before .before .before .before .components-of .ensures) ∙ count-file (a .file .now) (a .n),
     )

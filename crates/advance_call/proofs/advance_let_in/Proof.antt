@@ -1,4 +1,4 @@
--- The tables that are filled are the model's, the buffers lent have room for every bag, and the instants on the tables are the definition's
+-- The tables are the model's, the buffers lent have room for every bag, and the instants on the tables are the definition's
 -- (`call-parts`). What is known once the run is loaded is said of that place.
 use borrow.Author.Needs.{needs}
 use denote.Ref.{now}
@@ -14,20 +14,16 @@ use Rattle.advance_call.proofs.advance_let_in.Statement.{statement}
 use Rattle.advance_call.proofs.advance_let_in.Tie as tie
 
 abbrev file : tie.After-load → Bytes
-file f = f .before .before .before .before .before .before .before .before .before .before .before .before .before .before .args .file .now
+file f = f .before .before .before .before .before .before .before .before .before .before .before .before .args .file .now
 
 abbrev counts : tie.After-load → Counts
-counts f = f .before .before .before .before .before .before .before .before .before .before .before .before .before .before .args .n
+counts f = f .before .before .before .before .before .before .before .before .before .before .before .before .args .n
 
 bytes : (f : tie.After-load) (i : ℕ) → getD (file f) i 0 < 256
-bytes f i = f .before .before .before .before .before .before .before .before .before .before .before .before .before .shared-slice-known .given i .fits
+bytes f i = f .before .before .before .before .before .before .before .before .before .before .before .shared-slice-known .given i .fits
 
 told : (f : tie.After-load) → ok (modelOf (file f) (counts f)) ≡ accepted (file f)
-told f = f .before .before .before .before .before .before .before .before .before .before .before .before .before .before .pre .0
-
--- src/lib.rt:83:5
-fill-requires : tie.Need-fill-requires
-fill-requires c κs = search needs
+told f = f .before .before .before .before .before .before .before .before .before .before .before .before .pre .0
 
 -- src/lib.rt:84:9
 opening-of-requires : tie.Need-opening-of-requires
@@ -56,9 +52,10 @@ slice-aggregate-advance-from c = search needs
 -- src/lib.rt:89:9
 advance-from-requires : tie.Need-advance-from-requires
 advance-from-requires c κs =
-    let f = c .before .before .before .before .before .before .before .before .before .before in
-    let r = checked-room (file f) (counts f) (bytes f) (told f) (f .before .before .before .before .before .before .before .before .before .before .before .before .before .before .args .run .now) (f .before .before .before .before .before .before .before .before .before .before .before .before .before .before .args .t .0) (f .before .before .before .before .before .before .before .before .before .before .before .before .before .before .args .bag .now) (f .before .before .before .before .before .before .before .before .before .before .before .before .before .before .args .count) (f .before .before .before .before .before .before .before .before .before .before .before .before .before .before .pre .1) (f .before .before .before .before .before .before .before .before .before .before .before .before .before .before .pre .2) _ (f .before .before .before .before .before .before .fill .ensures) in
-    (f .before .before .before .before .before .before .before .before .before .before .before .before .before .before .pre .3, r .0, r .1, r .2)
+    let f = c .before .before .before .before .before .before .before .before .before in
+    let given = f .before .before .before .before .before .before .before .before .before .before .before .before in
+    let r = checked-room (file f) (counts f) (bytes f) (told f) (given .args .run .now) (given .args .t .0) (given .args .bag .now) (given .args .count) (given .pre .2) (given .pre .3) _ (given .pre .1) in
+    (given .pre .4, r .0, r .1, r .2)
 
 -- src/lib.rt:66:1
 same-length : tie.Need-same-length
@@ -79,17 +76,17 @@ same-length-4 c = search needs
 -- src/lib.rt:66:1
 returns : tie.Need-returns
 returns c =
-    let f = c .before .before .before .before .before .before .before .before .before .before .before .before .before .before .before .before .before .before .before .before in
+    let f = c .before .before .before .before .before .before .before .before .before .before .before .before .before .before .before .before .before .before .before in
+    let given = f .before .before .before .before .before .before .before .before .before .before .before .before in
     c .before .before .before .before .before .before .before .before .before .advance-from .ensures
-    ∙ call-parts (file f) (counts f) (bytes f) (told f) (f .before .before .before .before .before .before .before .before .before .before .before .before .before .before .args .run .now) (f .before .before .before .before .before .before .before .before .before .before .before .before .before .before .args .t .0) (f .before .before .before .before .before .before .before .before .before .before .before .before .before .before .args .bag .now) (f .before .before .before .before .before .before .before .before .before .before .before .before .before .before .args .trace .now) (λ i. f .before .before .before .before .before .before .before .before .before .before .before .shared-slice-known2 .given i .fits) (f .before .before .before .before .before .before .before .before .before .before .before .before .before .before .pre .1)
-    (f .before .before .before .before .before .before .before .before .before .before .before .before .before .before .args .count) (f .before .before .before .before .before .before .before .before .before .before .before .before .before .before .pre .2) _ (f .load .ensures .0) (f .load .ensures .1) (f .load .ensures .2) _ (f .before .before .before .before .before .before .fill .ensures) (length (now (f .before .before .before .before .before .before .before .before .before .before .before .before .before .before .args .work))) (f .before .before .before .before .before .before .before .before .before .before .before .before .before .before .pre .4)
-    _ _ _ (c .before .before .before .before .before .before .before .before .before .before .before .before .before .before .before .before .before .before .before .phases-of .ensures) (c .before .before .before .before .before .before .before .before .before .before .before .before .before .before .before .before .before .before .rules-of .ensures) (f .before .before .before .before .opening-of .ensures)
+    ∙ call-parts (file f) (counts f) (bytes f) (told f) (given .args .run .now) (given .args .t .0) (given .args .bag .now) (given .args .trace .now) (λ i. f .before .before .before .before .before .before .before .before .before .shared-slice-known2 .given i .fits) (given .pre .2)
+    (given .args .count) (given .pre .3) _ (f .load .ensures .0) (f .load .ensures .1) (f .load .ensures .2) _ (given .pre .1) (length (now (given .args .work))) (given .pre .5)
+    _ _ _ (c .before .before .before .before .before .before .before .before .before .before .before .before .before .before .before .before .before .before .phases-of .ensures) (c .before .before .before .before .before .before .before .before .before .before .before .before .before .before .before .before .before .rules-of .ensures) (f .before .before .before .before .opening-of .ensures)
 
 pub advance-let-in-spec : {M : Type 1} → statement M
 advance-let-in-spec =
     tie.close
     (tie.spec
-    fill-requires
     opening-of-requires
     load-requires
     phases-of-requires

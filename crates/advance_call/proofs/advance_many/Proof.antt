@@ -16,9 +16,9 @@ slice-aggregate-advance-let-in-2 c = search needs
 -- src/lib.rt:148:5
 advance-let-in-requires : tie.Need-advance-let-in-requires
 advance-let-in-requires c κs =
-    let a = c .before .before .before .before .before .before .before .before .args in
-    let most = most-routes (a .file .now) (a .n) (λ i. c .before .before .before .before .before .before .before .shared-slice-known .given i .fits) (c .before .before .before .before .before .before .before .before .pre .0) in
-    (c .before .before .before .before .before .before .before .before .pre .0, c .before .before .before .before .before .before .before .before .pre .1, c .before .before .before .before .before .before .before .before .pre .2, (omega arith, omega arith), omega (arith, most))
+    let given = c .before .before .before .before .before .before .before .before in
+    let most = most-routes (given .args .file .now) (given .args .n) (λ i. c .before .before .before .before .before .before .before .shared-slice-known .given i .fits) (given .pre .0) in
+    (given .pre .0, given .pre .1, given .pre .2, given .pre .3, (omega arith, omega arith), omega (arith, most))
 
 -- src/lib.rt:133:1
 same-length : tie.Need-same-length

@@ -13,12 +13,12 @@ use Rattle.table_words.proofs.Loops.{column-more, column-end}
 use Rattle.table_words.specs.Writes.{column}
 use Rattle.coupling_tables.proofs.Loops.{held-more, end-next}
 use Rattle.coupling_tables.specs.declared.End.the-variants.{Source, Target}
-use Rattle.coupling_tables.specs.Links.{Held, linkEnd}
+use Rattle.coupling_tables.specs.Links.{Held, linkEnd, begun}
 use Rattle.coupling_tables.proofs.put_ends.Statement.{statement}
 use Rattle.coupling_tables.proofs.put_ends.Tie as tie
 
 abbrev Inv-loop : tie.InvT-loop
-Inv-loop components couplings targets₀ t₀ n i₀ targets t i = (i ≤ n) × (length targets ≡ length targets₀) × (length t ≡ length t₀) × Held (linkEnd Target (componentsIn components) (couplingsIn couplings)) i targets × (column (sourceAt + 1) (λ i. linkEnd Source (componentsIn components) (couplingsIn couplings) (1 + i)) (n - i) i t ≡ column (sourceAt + 1) (λ i. linkEnd Source (componentsIn components) (couplingsIn couplings) (1 + i)) n 0 t₀)
+Inv-loop components couplings targets₀ t₀ n i₀ targets t i = (i ≤ n) × (length targets ≡ length targets₀) × Held (linkEnd Target (componentsIn components) (couplingsIn couplings)) i targets × (column (sourceAt + 1) (λ i. linkEnd Source (componentsIn components) (couplingsIn couplings) (1 + i)) (n - i) i t ≡ column (sourceAt + 1) (λ i. linkEnd Source (componentsIn components) (couplingsIn couplings) (1 + i)) n 0 t₀)
 
 abbrev μ-loop : tie.MeasureT-loop
 μ-loop components couplings targets₀ t₀ n i₀ targets t i = n - i
@@ -28,7 +28,7 @@ coupling-count-requires c κs = search needs
 
 loop-holds : tie.Need-loop-holds Inv-loop μ-loop
 loop-holds c =
-    (omega arith, refl, refl, λ j p q. absurd (omega arith), rw sub-zero)
+    (omega arith, refl, λ j p q. absurd (omega arith), rw sub-zero)
 
 coupling-at-requires : tie.Need-coupling-at-requires Inv-loop μ-loop
 coupling-at-requires c κs = search needs
@@ -45,8 +45,8 @@ add-t-2 c = search needs
 mul-t : tie.Need-mul-t Inv-loop μ-loop
 mul-t c = search needs
 
-slice-write-t : tie.Need-slice-write-t Inv-loop μ-loop
-slice-write-t c = search needs
+element-write-t : tie.Need-element-write-t Inv-loop μ-loop
+element-write-t c = search needs
 
 add-i : tie.Need-add-i Inv-loop μ-loop
 add-i c = search needs
@@ -57,15 +57,15 @@ target-node-requires c κs = search needs
 mul-targets : tie.Need-mul-targets Inv-loop μ-loop
 mul-targets c = search needs
 
-slice-write-targets : tie.Need-slice-write-targets Inv-loop μ-loop
-slice-write-targets c = search needs
+element-write-targets : tie.Need-element-write-targets Inv-loop μ-loop
+element-write-targets c = search needs
 
 loop-less : tie.Need-loop-less Inv-loop μ-loop
 loop-less c = search needs
 
 loop-again : tie.Need-loop-again Inv-loop μ-loop
 loop-again c =
-    let a = c .before .before .before .before .before .before .before .before .before .before .args in
+    let a = c .before .before .before .before .before .before .before .before .args in
     let l = c .before .before .before .before .loop in
     let n = c .before .before .before .before .before .coupling-count .result in
     let cs = componentsIn (now (a .components)) in
@@ -74,25 +74,18 @@ loop-again c =
     let e : l .i + 1 ≡ 1 + l .i = omega arith in
     let x : c .before .source-node .result ≡ src (l .i) = c .before .source-node .ensures ∙ ap (sourceNumber cs) (c .before .before .coupling-at .ensures) ∙ end-next Source cs ks (l .i) ∙ ap (linkEnd Source cs ks) e in
     let y : c .target-node .result ≡ linkEnd Target cs ks (l .i + 1) = c .target-node .ensures ∙ ap (targetNumber cs) (c .before .before .coupling-at .ensures) ∙ end-next Target cs ks (l .i) in
-    (omega arith, simp length-set (l .inv .1), simp length-set (l .inv .2), held-more (linkEnd Target cs ks) (l .i) (c .target-node .result) (l .targets) (omega (arith, c .before .before .before .before .before .coupling-count .ensures)) y (l .inv .3), ap (λ v. column (sourceAt + 1) src (n - (l .i + 1)) (l .i + 1) (set (l .t) (sourceAt + 1 + l .i) v)) x ∙ column-more (sourceAt + 1) src n (l .i) (l .t) (omega arith) ∙ l .inv .4)
-
-same-length : tie.Need-same-length Inv-loop μ-loop
-same-length c =
-    c .before .loop .inv .1
-
-same-length-2 : tie.Need-same-length-2 Inv-loop μ-loop
-same-length-2 c =
-    c .before .loop .inv .2
+    (omega arith, simp length-set (l .inv .1), held-more (linkEnd Target cs ks) (l .i) (c .target-node .result) (l .targets) (omega (arith, c .before .before .before .before .before .coupling-count .ensures)) y (l .inv .2), ap (λ v. column (sourceAt + 1) src (n - (l .i + 1)) (l .i + 1) (set (l .t) (sourceAt + 1 + l .i) v)) x ∙ column-more (sourceAt + 1) src n (l .i) (l .t) (omega arith) ∙ l .inv .3)
 
 returns : tie.Need-returns Inv-loop μ-loop
+unfolding begun
 returns c =
-    let a = c .before .before .before .before .before .before .before .args in
+    let a = c .before .before .before .before .before .args in
     let l = c .before .loop in
     let cs = componentsIn (now (a .components)) in
     let ks = couplingsIn (now (a .couplings)) in
     let src : ℕ → ℕ = λ i. linkEnd Source cs ks (1 + i) in
     let n = c .before .before .coupling-count .result in
-    (λ j p q. l .inv .3 j p (omega (arith, c .before .before .coupling-count .ensures)), sym (column-end (sourceAt + 1) src n (l .i) (l .t) (omega arith)) ∙ l .inv .4 ∙ ap (λ m. column (sourceAt + 1) src m 0 (now (a .t))) (c .before .before .coupling-count .ensures))
+    (λ j p q. l .inv .2 j p (omega (arith, c .before .before .coupling-count .ensures)), sym (column-end (sourceAt + 1) src n (l .i) (l .t) (omega arith)) ∙ l .inv .3 ∙ ap (λ m. column (sourceAt + 1) src m 0 (now (a .t))) (c .before .before .coupling-count .ensures))
 
 pub put-ends-spec : {M : Type 1} → statement M
 put-ends-spec =
@@ -107,13 +100,11 @@ put-ends-spec =
     add-t
     add-t-2
     mul-t
-    slice-write-t
+    element-write-t
     add-i
     target-node-requires
     mul-targets
-    slice-write-targets
+    element-write-targets
     loop-less
     loop-again
-    same-length
-    same-length-2
     returns)

@@ -23,7 +23,7 @@ abbrev μ-loop : tie.MeasureT-loop
 
 loop-holds : tie.Need-loop-holds Inv-loop μ-loop
 loop-holds c =
-    let a = c .before .before .args in
+    let a = c .args in
     let z : a .n + 1 - 1 ≡ a .n = omega arith in
     (omega arith, omega arith, within-none liveAt (liveAt + portNodes * maxComponents) _, rw z)
 
@@ -31,7 +31,10 @@ add-loop : tie.Need-add-loop Inv-loop μ-loop
 add-loop c = search needs
 
 spread-link-requires : tie.Need-spread-link-requires Inv-loop μ-loop
-spread-link-requires c κs = search needs
+spread-link-requires c κs =
+    let l = c .before .before .loop in
+    let w = c .before .before .before .pre .1 (l .j) (omega arith) (omega arith) in
+    (omega arith, rw (l .inv .2 .above (sourceAt + l .j) (omega arith)) (w .0), w .1)
 
 add-j : tie.Need-add-j Inv-loop μ-loop
 add-j c = search needs
@@ -41,21 +44,17 @@ loop-less c = search needs
 
 loop-again : tie.Need-loop-again Inv-loop μ-loop
 loop-again c =
-    let a = c .before .before .before .before .before .before .before .before .args in
-    let l = c .before .before .before .before .before .loop in
+    let a = c .before .before .before .before .args in
+    let l = c .before .before .before .loop in
     let src = sourceIn (now (a .t)) in
     let tgt : ℕ → ℕ = λ j. getD (now (a .targets)) j 0 in
-    let s = c .before .before .spread-link .ensures ∙ ap (λ x. spread x (tgt (l .j)) (l .t)) (l .inv .2 .above (sourceAt + l .j) (omega arith)) in
+    let s = c .spread-link .ensures ∙ ap (λ x. spread x (tgt (l .j)) (l .t)) (l .inv .2 .above (sourceAt + l .j) (omega arith)) in
     let z : a .n + 1 - (l .j + 1) ≡ a .n - l .j = omega arith in
     (omega arith, omega arith, subst (λ u. Within liveAt (liveAt + portNodes * maxComponents) (now (a .t)) u) (sym s) (within-both (omega arith) (omega arith) (omega arith) (omega arith) (l .inv .2) (spread-within (src (l .j)) (tgt (l .j)) (l .t))), rw z (ap (spreadDown src tgt (a .n - l .j) (l .j + 1)) s ∙ down-more src tgt (a .n) (l .j) (l .t) (omega arith) ∙ l .inv .3))
 
-same-length : tie.Need-same-length Inv-loop μ-loop
-same-length c =
-    c .before .loop .inv .2 .long
-
 returns : tie.Need-returns Inv-loop μ-loop
 returns c =
-    let a = c .before .before .before .before .args in
+    let a = c .before .before .args in
     let l = c .before .loop in
     sym (down-end (sourceIn (now (a .t))) (λ j. getD (now (a .targets)) j 0) (a .n) (l .j) (l .t) (omega arith)) ∙ l .inv .3
 
@@ -71,5 +70,4 @@ spread-down-spec =
     add-j
     loop-less
     loop-again
-    same-length
     returns)

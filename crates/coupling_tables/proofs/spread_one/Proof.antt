@@ -1,50 +1,67 @@
--- The flag read is the definition's test, and the store its one side. Assumes nothing.
+-- The flag read is the definition's test, and the store its one side: the tables have such a row. Assumes nothing.
 use borrow.Author.Needs.{needs}
-use Rattle.coupling_tables.specs.Links.{spread}
-use Rattle.pull_laws.specs.Tabled.{isLive}
-use denote.Ref.{now}
+use Prim.Native.Nat.{_*_}
 use mathlib.Core.Bool.{true, false}
 use mathlib.Core.Path.{_≡_}
+use denote.Ref.{now}
+use borrow.Author.Tests.{lt-ltb}
+use Rattle.definition.specs.Limits.{maxComponents}
+use Rattle.pull_laws.specs.Tables.{portNodes}
+use Rattle.pull_laws.specs.Tabled.{isLive}
+use Rattle.table_words.specs.Writes.{putIn}
+use Rattle.coupling_tables.specs.Links.{spread}
 use Rattle.coupling_tables.proofs.spread_one.Statement.{statement}
 use Rattle.coupling_tables.proofs.spread_one.Tie as tie
 
-add-word-at : tie.Need-add-word-at
-add-word-at c = search needs
+size16-requires : tie.Need-size16-requires
+size16-requires c κs = search needs
 
-word-at-requires : tie.Need-word-at-requires
-word-at-requires c κs = search needs
+add-if1 : tie.Need-add-if1
+add-if1 c = search needs
 
-put-in-requires : tie.Need-put-in-requires
-put-in-requires c κs = search needs
+mul-if1 : tie.Need-mul-if1
+mul-if1 c = search needs
 
-same-length : tie.Need-same-length
-same-length c = search needs
+element-copy-out-if1 : tie.Need-element-copy-out-if1
+element-copy-out-if1 c = search needs
+
+size16-requires-2 : tie.Need-size16-requires-2
+size16-requires-2 c κs = search needs
+
+add-t : tie.Need-add-t
+add-t c = search needs
+
+mul-t : tie.Need-mul-t
+mul-t c = search needs
+
+element-write-t : tie.Need-element-write-t
+element-write-t c = search needs
 
 returns : tie.Need-returns
-unfolding spread
+unfolding spread putIn
 returns c =
-    let a = c .before .before .before .before .before .before .before .before .args in
-    let e : isLive (now (a .t)) (a .x) ≡ true = unfold isLive in rw (c .before .before .before .before .before .word-at .ensures) at (c .before .before .before .before .if1 .taken) in
-    rw e (c .before .before .put-in .ensures)
-
-same-length-2 : tie.Need-same-length-2
-same-length-2 c = search needs
+    let a = c .before .before .before .before .args in
+    let e : isLive (now (a .t)) (a .x) ≡ true = unfold isLive in rw (c .before .before .before .size16 .ensures) at (c .before .if1 .taken) in
+    rw (e, c .size162 .ensures, lt-ltb (a .y) (portNodes * maxComponents) (c .before .before .before .before .pre .1))
 
 returns-2 : tie.Need-returns-2
 unfolding spread
 returns-2 c =
-    let a = c .before .before .before .before .args in
-    let e : isLive (now (a .t)) (a .x) ≡ false = unfold isLive in rw (c .before .word-at .ensures) at (c .if1 .left) in
+    let a = c .before .before .before .args in
+    let e : isLive (now (a .t)) (a .x) ≡ false = unfold isLive in rw (c .before .before .size16 .ensures) at (c .if1 .left) in
     rw e
 
 pub spread-one-spec : {M : Type 1} → statement M
 spread-one-spec =
     tie.close
     (tie.spec
-    add-word-at
-    word-at-requires
-    put-in-requires
-    same-length
+    size16-requires
+    add-if1
+    mul-if1
+    element-copy-out-if1
+    size16-requires-2
+    add-t
+    mul-t
+    element-write-t
     returns
-    same-length-2
     returns-2)

@@ -27,7 +27,10 @@ loop-holds c =
     (omega arith, within-none liveAt (liveAt + portNodes * maxComponents) _, refl)
 
 spread-link-requires : tie.Need-spread-link-requires Inv-loop μ-loop
-spread-link-requires c κs = search needs
+spread-link-requires c κs =
+    let l = c .before .before .loop in
+    let w = c .before .before .before .pre .1 (l .j) (omega arith) (omega arith) in
+    (omega arith, rw (l .inv .1 .above (sourceAt + l .j) (omega arith)) (w .0), w .1)
 
 sub-j : tie.Need-sub-j Inv-loop μ-loop
 sub-j c = search needs
@@ -37,20 +40,16 @@ loop-less c = search needs
 
 loop-again : tie.Need-loop-again Inv-loop μ-loop
 loop-again c =
-    let a = c .before .before .before .before .before .before .before .before .args in
-    let l = c .before .before .before .before .before .loop in
+    let a = c .before .before .before .before .args in
+    let l = c .before .before .before .loop in
     let src = sourceIn (now (a .t)) in
     let tgt : ℕ → ℕ = λ j. getD (now (a .targets)) j 0 in
-    let s = c .before .before .spread-link .ensures ∙ ap (λ x. spread x (tgt (l .j)) (l .t)) (l .inv .1 .above (sourceAt + l .j) (omega arith)) in
+    let s = c .spread-link .ensures ∙ ap (λ x. spread x (tgt (l .j)) (l .t)) (l .inv .1 .above (sourceAt + l .j) (omega arith)) in
     (omega arith, subst (λ u. Within liveAt (liveAt + portNodes * maxComponents) (now (a .t)) u) (sym s) (within-both (omega arith) (omega arith) (omega arith) (omega arith) (l .inv .1) (spread-within (src (l .j)) (tgt (l .j)) (l .t))), ap (spreadUp src tgt (l .j - 1)) s ∙ up-more src tgt (l .j) (l .t) (omega arith) ∙ l .inv .2)
-
-same-length : tie.Need-same-length Inv-loop μ-loop
-same-length c =
-    c .before .loop .inv .1 .long
 
 returns : tie.Need-returns Inv-loop μ-loop
 returns c =
-    let a = c .before .before .before .before .args in
+    let a = c .before .before .args in
     let l = c .before .loop in
     sym (up-end (sourceIn (now (a .t))) (λ j. getD (now (a .targets)) j 0) (l .j) (l .t) (omega arith)) ∙ l .inv .2
 
@@ -65,5 +64,4 @@ spread-up-spec =
     sub-j
     loop-less
     loop-again
-    same-length
     returns)

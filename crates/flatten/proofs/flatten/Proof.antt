@@ -2,18 +2,20 @@
 use borrow.Author.Needs.{needs}
 use Rattle.flatten.proofs.Flattened.{flatten-refused}
 use Rattle.model.specs.Checked.{checkedAs}
+use Rattle.model.specs.declared.Checked.{Checked}
+use Rattle.coupling_tables.proofs.Begun.{zeros-made}
+use Rattle.model_tables.specs.Opened.{Opened}
 use lib.ListN.{length-replicate}
-use mathlib.Core.Path.{sym, ap, _∙_}
+use mathlib.Core.Path.{sym, ap, _∙_, subst}
 use denote.Ref.{now}
 use Rattle.definition.specs.Limits.{maxRoutes}
-use Rattle.pull_laws.specs.Tables.{tableSize}
 use Prim.Native.Nat.{ℕ}
 use Rattle.flatten.proofs.flatten.Statement.{statement}
 use Rattle.flatten.proofs.flatten.Tie as tie
 
 -- src/lib.rt:75:9
-check-requires : tie.Need-check-requires
-check-requires c κs = search needs
+open-model-requires : tie.Need-open-model-requires
+open-model-requires c κs = zeros-made
 
 -- src/lib.rt:76:27
 enum-known-checked : tie.Need-enum-known-checked
@@ -34,7 +36,9 @@ wide16-requires c κs = search needs
 -- src/lib.rt:77:9
 returns : tie.Need-returns
 returns c =
-    let a = c .before .before .before .before .before .before .before .args in let told = sym (ap (checkedAs (now (a .file))) (c .before .before .enum-told .given .1)) ∙ c .before .before .before .before .check .ensures in rw (c .wide16 .ensures, c .before .checked-number .ensures, c .before .before .enum-told .given .1) (flatten-refused (now (a .file)) (now (a .out)) _ told)
+    let a = c .before .before .before .before .before .before .before .before .args in
+    let told = sym (ap (checkedAs (now (a .file))) (c .before .before .enum-told .given .1)) ∙ c .before .before .before .before .open-model .ensures .0 in
+    rw (c .wide16 .ensures, c .before .checked-number .ensures, c .before .before .enum-told .given .1) (flatten-refused (now (a .file)) (now (a .out)) _ told)
 
 -- src/lib.rt:85:31
 slice-aggregate-flatten-accepted : tie.Need-slice-aggregate-flatten-accepted
@@ -47,7 +51,10 @@ slice-aggregate-flatten-accepted-2 c = search needs
 -- src/lib.rt:85:5
 flatten-accepted-requires : tie.Need-flatten-accepted-requires
 flatten-accepted-requires c κs =
-    let a = c .before .before .before .before .before .before .before .before .before .before .args in (sym (ap (checkedAs (now (a .file))) (c .before .before .before .before .before .checked .given .1)) ∙ c .before .before .before .before .before .before .before .check .ensures, length-replicate {A = ℕ} tableSize 0, length-replicate {A = ℕ} maxRoutes 0, length-replicate {A = ℕ} maxRoutes 0)
+    let file = c .before .before .before .before .before .before .before .before .before .before .before .args .file .now in
+    let r = c .before .before .before .before .before .before .before .open-model in
+    let is = c .before .before .before .before .before .checked .given .1 in
+    (sym (ap (checkedAs file) is) ∙ r .ensures .0, subst (λ (k : Checked). Opened file k (r .last .1 .0)) is (r .ensures .2), length-replicate {A = ℕ} maxRoutes 0, length-replicate {A = ℕ} maxRoutes 0)
 
 -- src/lib.rt:72:1
 same-length : tie.Need-same-length
@@ -61,7 +68,7 @@ pub flatten-spec : {M : Type 1} → statement M
 flatten-spec =
     tie.close
     (tie.spec
-    check-requires
+    open-model-requires
     enum-known-checked
     enum-told
     checked-number-requires

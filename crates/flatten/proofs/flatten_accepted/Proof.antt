@@ -11,6 +11,7 @@ use Rattle.definition.specs.Routes.{accepted}
 use Rattle.model_records.specs.Values.{componentsIn}
 use Rattle.model.specs.Checked.{componentsPart, modelOf}
 use Rattle.model.specs.declared.Counts.{Counts}
+use Rattle.pull_laws.specs.TablesOf.{TablesOf}
 use Rattle.flat_rows.proofs.Collected.{fits}
 use Rattle.flatten.proofs.Flattened.{at-most, few-phases, few-rules, few-own, rows-fit, probing, flatten-short, flatten-whole}
 use Rattle.flatten.proofs.flatten_accepted.Statement.{statement}
@@ -30,6 +31,9 @@ told f = f .before .before .before .before .before .before .before .before .befo
 
 own : (f : tie.After-small) → f .small .result ≡ length (atomics (componentsIn (componentsPart (file f) (counts f))))
 own f = f .small .ensures ∙ f .before .atomic-count .ensures ∙ ap (λ (s : Bytes). length (atomics (componentsIn s))) (f .before .before .before .before .components-of .ensures)
+
+own-tables : (f : tie.After-small) → TablesOf (modelOf (file f) (counts f)) (f .before .before .before .before .before .before .before .before .before .args .tables .now)
+own-tables f = f .before .before .before .before .before .before .before .before .before .pre .1
 
 -- src/lib.rt:51:9
 components-of-requires : tie.Need-components-of-requires
@@ -53,21 +57,17 @@ small-requires c κs =
     let given = c .before .before .before .before .before .before .before .before in
     rw (c .atomic-count .ensures, c .before .before .before .components-of .ensures) (few-own (given .args .file .now) (given .args .n) (λ i. c .before .before .before .before .before .before .before .shared-slice-known .given i .fits) (given .pre .0))
 
--- src/lib.rt:55:5
-fill-requires : tie.Need-fill-requires
-fill-requires c κs = search needs
-
 -- src/lib.rt:56:17
 flat-rows-requires : tie.Need-flat-rows-requires
 flat-rows-requires c κs =
-    let f = c .before .before .before .before .before in
-    probing (file f) (counts f) (bytes f) (told f) _ (c .before .before .before .fill .ensures) (f .small .result) (own f) _ _ (f .before .before .before .before .before .before .before .before .before .pre .2) (f .before .before .before .before .before .before .before .before .before .pre .3)
+    let f = c .before .before in
+    probing (file f) (counts f) (bytes f) (told f) _ (own-tables f) (f .small .result) (own f) _ _ (f .before .before .before .before .before .before .before .before .before .pre .2) (f .before .before .before .before .before .before .before .before .before .pre .3)
 
 -- src/lib.rt:57:16
 flat-size-requires : tie.Need-flat-size-requires
 flat-size-requires c κs =
-    let f = c .before .before .before .before .before .before .before .before .before .before in
-    (rw (f .before .before .before .phases-of .ensures) (few-phases (file f) (counts f) (bytes f) (told f)), rw (f .before .before .rules-of .ensures) (few-rules (file f) (counts f) (bytes f) (told f)), rw (c .before .before .before .before .flat-rows .ensures .0) (rows-fit (file f) (counts f) (bytes f) (told f) _ (c .before .before .before .before .before .before .before .before .fill .ensures) (f .small .result) (own f)))
+    let f = c .before .before .before .before .before .before .before in
+    (rw (f .before .before .before .phases-of .ensures) (few-phases (file f) (counts f) (bytes f) (told f)), rw (f .before .before .rules-of .ensures) (few-rules (file f) (counts f) (bytes f) (told f)), rw (c .before .before .before .before .flat-rows .ensures .0) (rows-fit (file f) (counts f) (bytes f) (told f) _ (own-tables f) (f .small .result) (own f)))
 
 -- src/lib.rt:59:16
 same-length : tie.Need-same-length
@@ -80,16 +80,16 @@ same-length-2 c = search needs
 -- src/lib.rt:59:16
 returns : tie.Need-returns
 returns c =
-    let f = c .before .before .before .before .before .before .before .before .before .before .before .before in
-    flatten-short (file f) (counts f) (bytes f) (told f) _ (c .before .before .before .before .before .before .before .before .before .before .fill .ensures) (f .small .result) (own f) (c .before .before .before .before .before .before .flat-rows .result) (c .before .flat-size .result) (c .before .before .before .before .before .before .flat-rows .ensures .0)
+    let f = c .before .before .before .before .before .before .before .before .before in
+    flatten-short (file f) (counts f) (bytes f) (told f) _ (own-tables f) (f .small .result) (own f) (c .before .before .before .before .before .before .flat-rows .result) (c .before .flat-size .result) (c .before .before .before .before .before .before .flat-rows .ensures .0)
     (rw (f .before .before .before .phases-of .ensures, f .before .before .rules-of .ensures) at (c .before .flat-size .ensures)) (now (f .before .before .before .before .before .before .before .before .before .args .out)) (c .if1 .taken)
 
 -- src/lib.rt:64:5
 put-flat-requires : tie.Need-put-flat-requires
 put-flat-requires c κs =
-    let f = c .before .before .before .before .before .before .before .before .before .before .before .before .before .before .before .before in
-    let q = rows-fit (file f) (counts f) (bytes f) (told f) _ (c .before .before .before .before .before .before .before .before .before .before .before .before .before .before .fill .ensures) (f .small .result) (own f) in
-    (fits (c .before .before .before .before .before .before .before .before .before .before .flat-rows .ensures .0) (c .before .before .before .before .before .before .before .before .before .before .flat-rows .kept .1 .1 .0) (at-most q (f .before .before .before .before .before .before .before .before .before .pre .2)), subst (λ z. z ≤ length (now (f .before .before .before .before .before .before .before .before .before .args .out))) (c .before .before .before .before .before .flat-size .ensures) (c .before .before .before .before .if1 .left))
+    let f = c .before .before .before .before .before .before .before .before .before .before .before .before in
+    let q = rows-fit (file f) (counts f) (bytes f) (told f) _ (own-tables f) (f .small .result) (own f) in
+    (fits (c .before .before .before .before .before .before .before .before .before .flat-rows .ensures .0) (c .before .before .before .before .before .before .before .before .before .flat-rows .kept .1 .1 .0) (at-most q (f .before .before .before .before .before .before .before .before .before .pre .2)), subst (λ z. z ≤ length (now (f .before .before .before .before .before .before .before .before .before .args .out))) (c .before .before .before .before .flat-size .ensures) (c .before .before .before .if1 .left))
 
 -- src/lib.rt:67:16
 wide-requires : tie.Need-wide-requires
@@ -110,10 +110,10 @@ same-length-5 c = search needs
 -- src/lib.rt:40:1
 returns-2 : tie.Need-returns-2
 returns-2 c =
-    let f = c .before .before .before .before .before .before .before .before .before .before .before .before .before .before .before .before .before .before .before .before in
+    let f = c .before .before .before .before .before .before .before .before .before .before .before .before .before .before .before .before in
     rw (c .wide .ensures)
-    (flatten-whole (file f) (counts f) (bytes f) (told f) _ (c .before .before .before .before .before .before .before .before .before .before .before .before .before .before .before .before .before .before .fill .ensures) (f .small .result) (own f) (c .before .before .before .before .before .before .before .before .before .before .before .before .before .before .flat-rows .result) (c .before .before .before .before .before .before .before .before .before .flat-size .result) (c .before .before .before .before .before .before .before .before .before .before .before .before .before .before .flat-rows .ensures .0)
-    (rw (f .before .before .before .phases-of .ensures, f .before .before .rules-of .ensures) at (c .before .before .before .before .before .before .before .before .before .flat-size .ensures)) (now (f .before .before .before .before .before .before .before .before .before .args .out)) _ _ (c .before .before .before .before .before .before .before .before .if1 .left) (c .before .before .before .before .before .before .before .before .before .before .before .before .before .before .flat-rows .ensures .1)
+    (flatten-whole (file f) (counts f) (bytes f) (told f) _ (own-tables f) (f .small .result) (own f) (c .before .before .before .before .before .before .before .before .before .before .before .before .before .flat-rows .result) (c .before .before .before .before .before .before .before .before .flat-size .result) (c .before .before .before .before .before .before .before .before .before .before .before .before .before .flat-rows .ensures .0)
+    (rw (f .before .before .before .phases-of .ensures, f .before .before .rules-of .ensures) at (c .before .before .before .before .before .before .before .before .flat-size .ensures)) (now (f .before .before .before .before .before .before .before .before .before .args .out)) _ _ (c .before .before .before .before .before .before .before .if1 .left) (c .before .before .before .before .before .before .before .before .before .before .before .before .before .flat-rows .ensures .1)
     (rw (f .before .before .before .before .components-of .ensures, f .before .before .before .phases-of .ensures, f .before .before .rules-of .ensures) at (c .before .before .before .put-flat .ensures)))
 
 pub flatten-accepted-spec : {M : Type 1} → statement M
@@ -125,7 +125,6 @@ flatten-accepted-spec =
     rules-of-requires
     atomic-count-requires
     small-requires
-    fill-requires
     flat-rows-requires
     flat-size-requires
     same-length

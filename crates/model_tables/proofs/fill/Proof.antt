@@ -1,34 +1,38 @@
 -- The sections of an accepted model are short enough, and what is filled from them are its tables.
 use borrow.Author.Needs.{needs}
-use Rattle.model_tables.proofs.Accepted.{few-records, tables-filled}
+use Prim.Native.Nat.{ℕ, _<_}
+use lib.ListN.{getD}
+use Rattle.model_tables.proofs.Accepted.{few-records, tables-filled, linked-parts}
 use Rattle.model_tables.proofs.fill.Statement.{statement}
 use Rattle.model_tables.proofs.fill.Tie as tie
 
--- src/lib.rt:17:9
+-- src/lib.rt:22:9
 components-of-requires : tie.Need-components-of-requires
 components-of-requires c κs = search needs
 
--- src/lib.rt:18:9
+-- src/lib.rt:23:9
 rules-of-requires : tie.Need-rules-of-requires
 rules-of-requires c κs = search needs
 
--- src/lib.rt:19:9
+-- src/lib.rt:24:9
 couplings-of-requires : tie.Need-couplings-of-requires
 couplings-of-requires c κs = search needs
 
--- src/lib.rt:16:5
+-- src/lib.rt:21:5
 fill-tables-requires : tie.Need-fill-tables-requires
 fill-tables-requires c κs =
     let given = c .before .before .before .before .before in
-    let few = few-records (given .args .file .now) (given .args .n) (λ i. c .before .before .before .before .shared-slice-known .given i .fits) (given .pre .0) in
-    (rw (c .before .before .before .components-of .ensures) (few .0), rw (c .before .before .rules-of .ensures) (few .1), rw (c .before .couplings-of .ensures) (few .2), given .pre .1)
+    let bytes : (i : ℕ) → getD (given .args .file .now) i 0 < 256 = λ i. c .before .before .before .before .shared-slice-known .given i .fits in
+    let few = few-records (given .args .file .now) (given .args .n) bytes (given .pre .0) in
+    let linked = linked-parts (given .args .file .now) (given .args .n) bytes (given .pre .0) _ _ _ _ (c .before .before .before .components-of .ensures) (c .before .couplings-of .ensures) (given .pre .1) in
+    (rw (c .before .before .before .components-of .ensures) (few .0), rw (c .before .before .rules-of .ensures) (few .1), rw (c .before .couplings-of .ensures) (few .2), linked)
 
--- src/lib.rt:12:1
+-- src/lib.rt:17:1
 returns : tie.Need-returns
 returns c =
     let given = c .before .before .before .before .before .before in
-    tables-filled (given .args .file .now) (given .args .n) (λ i. c .before .before .before .before .before .shared-slice-known .given i .fits) (given .pre .0) _ _ _ (given .args .tables .now) _
-    (c .before .before .before .before .components-of .ensures) (c .before .before .before .rules-of .ensures) (c .before .before .couplings-of .ensures) (given .pre .1) (c .fill-tables .ensures)
+    tables-filled (given .args .file .now) (given .args .n) (λ i. c .before .before .before .before .before .shared-slice-known .given i .fits) (given .pre .0) _ _ _ _
+    (c .before .before .before .before .components-of .ensures) (c .before .before .before .rules-of .ensures) (c .before .before .couplings-of .ensures) (c .fill-tables .ensures)
 
 pub fill-spec : {M : Type 1} → statement M
 fill-spec =

@@ -2,13 +2,16 @@
 use borrow.Author.Needs.{needs}
 use Rattle.reading.proofs.Answering.{read-refused}
 use Rattle.model.specs.Checked.{checkedAs}
-use mathlib.Core.Path.{_∙_, ap, sym}
+use Rattle.model.specs.declared.Checked.{Checked}
+use Rattle.coupling_tables.proofs.Begun.{zeros-made}
+use Rattle.model_tables.specs.Opened.{Opened}
+use mathlib.Core.Path.{_∙_, ap, sym, subst}
 use Rattle.reading.proofs.read.Statement.{statement}
 use Rattle.reading.proofs.read.Tie as tie
 
 -- src/lib.rt:99:9
-check-requires : tie.Need-check-requires
-check-requires c κs = search needs
+open-model-requires : tie.Need-open-model-requires
+open-model-requires c κs = zeros-made
 
 -- src/lib.rt:100:27
 enum-known-checked : tie.Need-enum-known-checked
@@ -33,14 +36,17 @@ refused-requires c κs = search needs
 -- src/lib.rt:101:9
 returns : tie.Need-returns
 returns c =
-    let a = c .before .before .before .before .before .before .before .before .args in
-    let told = sym (ap (checkedAs (a .file .now)) (c .before .before .before .enum-told .given .1)) ∙ c .before .before .before .before .before .check .ensures in
+    let a = c .before .before .before .before .before .before .before .before .before .args in
+    let told = sym (ap (checkedAs (a .file .now)) (c .before .before .before .enum-told .given .1)) ∙ c .before .before .before .before .before .open-model .ensures .0 in
     c .refused .ensures ∙ rw (c .before .wide16 .ensures, c .before .before .checked-number .ensures, c .before .before .before .enum-told .given .1) (read-refused (a .file .now) (a .run .now) (a .position) _ told)
 
 -- src/lib.rt:103:5
 read-accepted-requires : tie.Need-read-accepted-requires
 read-accepted-requires c κs =
-    sym (ap (checkedAs (c .before .before .before .before .before .before .args .file .now)) (c .before .checked .given .1)) ∙ c .before .before .before .check .ensures
+    let file = c .before .before .before .before .before .before .before .before .args .file .now in
+    let r = c .before .before .before .before .open-model in
+    let is = c .before .before .checked .given .1 in
+    (sym (ap (checkedAs file) is) ∙ r .ensures .0, subst (λ (k : Checked). Opened file k (r .last .1 .0)) is (r .ensures .2))
 
 -- src/lib.rt:96:1
 returns-2 : tie.Need-returns-2
@@ -51,7 +57,7 @@ pub read-spec : {M : Type 1} → statement M
 read-spec =
     tie.close
     (tie.spec
-    check-requires
+    open-model-requires
     enum-known-checked
     enum-told
     checked-number-requires

@@ -30,7 +30,7 @@ phases-of-requires c κs = search needs
 fits-requires : tie.Need-fits-requires
 fits-requires c κs =
     let a = c .before .before .before .before .args in
-    rw (c .before .components-of .ensures) (few-components (a .file .now) (a .n) (λ i. c .before .before .before .shared-slice-known .given i .fits) (c .before .before .before .before .pre))
+    rw (c .before .components-of .ensures) (few-components (a .file .now) (a .n) (λ i. c .before .before .before .shared-slice-known .given i .fits) (c .before .before .before .before .pre .0))
 
 -- src/lib.rt:80:9
 refused-requires : tie.Need-refused-requires
@@ -41,7 +41,7 @@ returns : tie.Need-returns
 returns c =
     let a = c .before .before .before .before .before .before .before .args in
     let f = c .before .before .fits2 .ensures ∙ ap₂ (λ (x y : Bytes). fits (bare x y) (a .run .now)) (c .before .before .before .before .components-of .ensures) (c .before .before .before .phases-of .ensures) ∙ fits-file (a .file .now) (a .run .now) (a .n) in
-    c .refused .ensures ∙ read-unfit (a .file .now) (a .run .now) (a .position) (modelOf (a .file .now) (a .n)) (c .before .before .before .before .before .before .before .pre) (sym f ∙ not-true (c .before .before .fits2 .result) (c .before .if1 .taken))
+    c .refused .ensures ∙ read-unfit (a .file .now) (a .run .now) (a .position) (modelOf (a .file .now) (a .n)) (c .before .before .before .before .before .before .before .pre .0) (sym f ∙ not-true (c .before .before .fits2 .result) (c .before .if1 .taken))
 
 -- src/lib.rt:82:9
 atomic-count-requires : tie.Need-atomic-count-requires
@@ -57,14 +57,14 @@ returns-2 c =
     let a = c .before .before .before .before .before .before .before .before .before .args in
     let f = c .before .before .before .before .fits2 .ensures ∙ ap₂ (λ (x y : Bytes). fits (bare x y) (a .run .now)) (c .before .before .before .before .before .before .components-of .ensures) (c .before .before .before .before .before .phases-of .ensures) ∙ fits-file (a .file .now) (a .run .now) (a .n) in
     let ce = c .before .before .atomic-count .ensures ∙ ap (λ (s : Bytes). length (atomics (componentsIn s))) (c .before .before .before .before .before .before .components-of .ensures) ∙ count-file (a .file .now) (a .n) in
-    c .refused2 .ensures ∙ read-past (a .file .now) (a .run .now) (a .position) (modelOf (a .file .now) (a .n)) (c .before .before .before .before .before .before .before .before .before .pre) (sym f ∙ not-false (c .before .before .before .before .fits2 .result) (c .before .before .before .if1 .left)) (omega (arith, ce, c .before .if2 .taken))
+    c .refused2 .ensures ∙ read-past (a .file .now) (a .run .now) (a .position) (modelOf (a .file .now) (a .n)) (c .before .before .before .before .before .before .before .before .before .pre .0) (sym f ∙ not-false (c .before .before .before .before .fits2 .result) (c .before .before .before .if1 .left)) (omega (arith, ce, c .before .if2 .taken))
 
 -- src/lib.rt:86:9
 entry-at-requires : tie.Need-entry-at-requires
 entry-at-requires c κs =
     let a = c .before .before .before .before .before .before .before .before .args in
     let ce = c .before .atomic-count .ensures ∙ ap (λ (s : Bytes). length (atomics (componentsIn s))) (c .before .before .before .before .before .components-of .ensures) ∙ count-file (a .file .now) (a .n) in
-    omega (arith, ce, few-atomics (a .file .now) (a .n) (λ i. c .before .before .before .before .before .before .before .shared-slice-known .given i .fits) (c .before .before .before .before .before .before .before .before .pre), c .if2 .left)
+    omega (arith, ce, few-atomics (a .file .now) (a .n) (λ i. c .before .before .before .before .before .before .before .shared-slice-known .given i .fits) (c .before .before .before .before .before .before .before .before .pre .0), c .if2 .left)
 
 -- src/lib.rt:90:16
 wide-requires : tie.Need-wide-requires
@@ -76,7 +76,8 @@ whole-due-requires c κs =
     let a = c .before .before .before .before .before .before .before .before .before .before .before .args in
     let f = c .before .before .before .before .before .before .fits2 .ensures ∙ ap₂ (λ (x y : Bytes). fits (bare x y) (a .run .now)) (c .before .before .before .before .before .before .before .before .components-of .ensures) (c .before .before .before .before .before .before .before .phases-of .ensures) ∙ fits-file (a .file .now) (a .run .now) (a .n) in
     let ce = c .before .before .before .before .atomic-count .ensures ∙ ap (λ (s : Bytes). length (atomics (componentsIn s))) (c .before .before .before .before .before .before .before .before .components-of .ensures) ∙ count-file (a .file .now) (a .n) in
-    (c .before .before .before .before .before .before .before .before .before .before .before .pre, sym f ∙ not-false (c .before .before .before .before .before .before .fits2 .result) (c .before .before .before .before .before .if1 .left), ce)
+    let given = c .before .before .before .before .before .before .before .before .before .before .before .pre in
+    (given .0, given .1, sym f ∙ not-false (c .before .before .before .before .before .before .fits2 .result) (c .before .before .before .before .before .if1 .left), ce)
 
 -- src/lib.rt:74:1
 returns-3 : tie.Need-returns-3
@@ -88,7 +89,7 @@ returns-3 c =
     let l : a .position < length (atomics (m .components)) = omega (arith, ce, c .before .before .before .before .if2 .left) in
     rw (c .before .wide .ensures)
     (answered m (a .run .now) (a .position) (entryOf (c .before .before .before .entry-at .result)) (c .whole-due .result) l (c .before .before .before .entry-at .ensures) (c .whole-due .ensures)
-    ∙ read-done (a .file .now) (a .run .now) (a .position) m (c .before .before .before .before .before .before .before .before .before .before .before .before .pre) (sym f ∙ not-false (c .before .before .before .before .before .before .before .fits2 .result) (c .before .before .before .before .before .before .if1 .left)) l)
+    ∙ read-done (a .file .now) (a .run .now) (a .position) m (c .before .before .before .before .before .before .before .before .before .before .before .before .pre .0) (sym f ∙ not-false (c .before .before .before .before .before .before .before .fits2 .result) (c .before .before .before .before .before .before .if1 .left)) l)
 
 pub read-accepted-spec : {M : Type 1} → statement M
 read-accepted-spec =

@@ -1,14 +1,10 @@
--- The tables that are filled are the model's, and the due moments carried those of the state that holds the run's entries, so that the least
+-- The tables are the model's, and the due moments carried those of the state that holds the run's entries, so that the least
 -- of them is the definition's (`due-whole`).
 use borrow.Author.Needs.{needs}
 use mathlib.Core.Path.{_∙_}
 use Rattle.reading.proofs.Whole.{due-whole}
 use Rattle.reading.proofs.whole_due.Statement.{statement}
 use Rattle.reading.proofs.whole_due.Tie as tie
-
--- src/lib.rt:56:5
-fill-requires : tie.Need-fill-requires
-fill-requires c κs = search needs
 
 -- src/lib.rt:59:5
 load-requires : tie.Need-load-requires
@@ -33,17 +29,16 @@ next-end-requires c κs = search needs
 -- src/lib.rt:50:1
 returns : tie.Need-returns
 returns c =
-    let given = c .before .before .before .before .before .before .before .before .before .before .before .before .before .before .before .before in
-    let loaded = c .before .before .before .before .before .before .before .before .before .load .ensures in
+    let given = c .before .before .before .before .before .before .before .before .before .before .before .before in
+    let loaded = c .before .before .before .before .before .before .before .load .ensures in
     c .next-end .ensures
-    ∙ due-whole (given .args .file .now) (given .args .n) (λ i. c .before .before .before .before .before .before .before .before .before .before .before .before .before .before .before .shared-slice-known .given i .fits) (given .pre .0) (given .args .run .now) _ (c .before .before .before .before .before .before .before .before .before .before .before .before .fill .ensures) _ (given .args .count)
-    (given .pre .1) (given .pre .2) (loaded .0) (loaded .1) (loaded .2) _ _ (c .before .before .before .before .before .before .before .before .phases-of .ensures) (c .before .before .before .put-ends .ensures)
+    ∙ due-whole (given .args .file .now) (given .args .n) (λ i. c .before .before .before .before .before .before .before .before .before .before .before .shared-slice-known .given i .fits) (given .pre .0) (given .args .run .now) _ (given .pre .1) _ (given .args .count)
+    (given .pre .2) (given .pre .3) (loaded .0) (loaded .1) (loaded .2) _ _ (c .before .before .before .before .before .before .phases-of .ensures) (c .before .before .put-ends .ensures)
 
 pub whole-due-spec : {M : Type 1} → statement M
 whole-due-spec =
     tie.close
     (tie.spec
-    fill-requires
     load-requires
     phases-of-requires
     cast-put-ends

@@ -1,4 +1,4 @@
--- `route_count::four_ways` meets its contract. Capping each sum of four entries caps the whole. Assumes nothing.
+-- Capping each sum of four entries caps the whole. Assumes nothing.
 use borrow.Author.Needs.{needs}
 use native.Mathlib.Omega.{arith}
 use native.Mathlib.Nat.{add-zero}
@@ -6,26 +6,38 @@ use Rattle.route_laws.specs.Ways.{four}
 use Rattle.route_count.proofs.four_ways.Statement.{statement}
 use Rattle.route_count.proofs.four_ways.Tie as tie
 
-word-at-requires : tie.Need-word-at-requires
-word-at-requires c κs = search needs
+mul-capped : tie.Need-mul-capped
+mul-capped c = search needs
 
-add-word-at : tie.Need-add-word-at
-add-word-at c = search needs
+element-copy-out-capped : tie.Need-element-copy-out-capped
+element-copy-out-capped c = search needs
 
-word-at-requires-2 : tie.Need-word-at-requires-2
-word-at-requires-2 c κs = search needs
+add-capped : tie.Need-add-capped
+add-capped c = search needs
 
-add-word-at-2 : tie.Need-add-word-at-2
-add-word-at-2 c = search needs
+mul-capped-2 : tie.Need-mul-capped-2
+mul-capped-2 c = search needs
 
-word-at-requires-3 : tie.Need-word-at-requires-3
-word-at-requires-3 c κs = search needs
+element-copy-out-capped-2 : tie.Need-element-copy-out-capped-2
+element-copy-out-capped-2 c = search needs
 
-add-word-at-3 : tie.Need-add-word-at-3
-add-word-at-3 c = search needs
+add-capped-2 : tie.Need-add-capped-2
+add-capped-2 c = search needs
 
-word-at-requires-4 : tie.Need-word-at-requires-4
-word-at-requires-4 c κs = search needs
+mul-capped-3 : tie.Need-mul-capped-3
+mul-capped-3 c = search needs
+
+element-copy-out-capped-3 : tie.Need-element-copy-out-capped-3
+element-copy-out-capped-3 c = search needs
+
+add-capped-3 : tie.Need-add-capped-3
+add-capped-3 c = search needs
+
+mul-capped-4 : tie.Need-mul-capped-4
+mul-capped-4 c = search needs
+
+element-copy-out-capped-4 : tie.Need-element-copy-out-capped-4
+element-copy-out-capped-4 c = search needs
 
 capped-requires : tie.Need-capped-requires
 capped-requires c κs = search needs
@@ -39,19 +51,23 @@ capped-requires-3 c κs = search needs
 returns : tie.Need-returns
 unfolding four
 returns c =
-    rw add-zero (omega (arith, c .capped3 .ensures, c .before .capped2 .ensures, c .before .before .capped .ensures, c .before .before .before .word-at4 .ensures, c .before .before .before .before .word-at3 .ensures, c .before .before .before .before .before .word-at2 .ensures, c .before .before .before .before .before .before .word-at .ensures))
+    rw add-zero (omega (arith, c .capped3 .ensures, c .before .capped2 .ensures, c .before .before .capped .ensures))
 
 pub four-ways-spec : {M : Type 1} → statement M
 four-ways-spec =
     tie.close
     (tie.spec
-    word-at-requires
-    add-word-at
-    word-at-requires-2
-    add-word-at-2
-    word-at-requires-3
-    add-word-at-3
-    word-at-requires-4
+    mul-capped
+    element-copy-out-capped
+    add-capped
+    mul-capped-2
+    element-copy-out-capped-2
+    add-capped-2
+    mul-capped-3
+    element-copy-out-capped-3
+    add-capped-3
+    mul-capped-4
+    element-copy-out-capped-4
     capped-requires
     capped-requires-2
     capped-requires-3

@@ -38,14 +38,14 @@ four-ways-requires c κs = search needs
 loop-holds : tie.Need-loop-holds Inv-loop μ-loop
 unfolding tableRoutes
 loop-holds c =
-    let a = c .before .before .before .before .args in
+    let a = c .before .before .before .args in
     let f = own (componentsIn (now (a .components))) (now (a .ways)) in
     let e : sumOf f (upFrom 0 (c .before .component-count .result - 0)) ≡ sumOf f (upFrom 0 (length (componentsIn (now (a .components))))) = over-start f (c .before .component-count .result) ∙ ap (λ n. sumOf f (upFrom 0 n)) (c .before .component-count .ensures) in
     (omega arith, omega arith, omega (arith, e, c .four-ways .ensures))
 
 own-ways-requires : tie.Need-own-ways-requires Inv-loop μ-loop
 own-ways-requires c κs =
-    omega (arith, c .before .before .before .before .before .before .pre .0, c .before .before .before .component-count .ensures)
+    omega (arith, c .before .before .before .before .before .pre, c .before .before .before .component-count .ensures)
 
 capped-requires : tie.Need-capped-requires Inv-loop μ-loop
 capped-requires c κs = search needs
@@ -58,13 +58,13 @@ loop-less c = search needs
 
 loop-again : tie.Need-loop-again Inv-loop μ-loop
 loop-again c =
-    let a = c .before .before .before .before .before .before .before .before .args in
+    let a = c .before .before .before .before .before .before .before .args in
     let f = own (componentsIn (now (a .components))) (now (a .ways)) in
     (omega arith, omega arith, omega (arith, over-more f (c .before .before .before .loop .c) (c .before .before .before .before .before .component-count .result) (omega arith)))
 
 returns : tie.Need-returns Inv-loop μ-loop
 returns c =
-    let a = c .before .before .before .before .before .before .args in
+    let a = c .before .before .before .before .before .args in
     let f = own (componentsIn (now (a .components))) (now (a .ways)) in
     omega (arith, over-end f (c .before .loop .c) (c .before .before .before .component-count .result) (omega arith))
 

@@ -1,19 +1,19 @@
--- Five parts, one after the other, each over the table that the one before it left, and then the count. Assumes nothing.
+-- Four parts, one after the other, each over the table that the one before it left, and then the count. None before the last moves a word of
+-- the links (above3). Assumes nothing.
 use borrow.Author.Needs.{needs}
-use Rattle.tables.specs.Filled.{filled}
-use Rattle.coupling_tables.specs.Links.{byCoupling}
-use Rattle.component_tables.specs.Columns.{byComponent, byRule, byParent}
-use Rattle.table_words.specs.Writes.{cleared}
-use Rattle.pull_laws.specs.Tables.{countAt}
-use Rattle.model_records.specs.Values.{componentsIn, rulesIn, couplingsIn}
-use lib.ListN.{set, length-set}
+use native.Mathlib.Omega.{arith}
+use mathlib.Core.Path.{sym, ap, _∙_}
 use denote.Ref.{now}
-use mathlib.Core.Path.{ap, _∙_}
+use lib.ListN.{getD, set}
+use Rattle.model_records.specs.Values.{componentsIn, rulesIn, couplingsIn}
+use Rattle.pull_laws.specs.Tables.{countAt}
+use Rattle.component_tables.specs.Columns.{byComponent, byRule, byParent}
+use Rattle.coupling_tables.specs.Links.{zeros, begun, byCoupling}
+use Rattle.coupling_tables.proofs.Begun.{joined-kept}
+use Rattle.tables.specs.Filled.{filled}
+use Rattle.tables.proofs.Holding.{above3}
 use Rattle.tables.proofs.fill_tables.Statement.{statement}
 use Rattle.tables.proofs.fill_tables.Tie as tie
-
-clear-requires : tie.Need-clear-requires
-clear-requires c κs = search needs
 
 fill-components-requires : tie.Need-fill-components-requires
 fill-components-requires c κs = search needs
@@ -24,43 +24,41 @@ fill-rules-requires c κs = search needs
 fill-children-requires : tie.Need-fill-children-requires
 fill-children-requires c κs = search needs
 
-fill-couplings-requires : tie.Need-fill-couplings-requires
-fill-couplings-requires c κs = search needs
+fill-linked-requires : tie.Need-fill-linked-requires
+fill-linked-requires c κs =
+    let a = c .before .before .before .before .before .before .before .before .before .before .args in
+    let p = c .before .before .before .before .before .before .before .before .before .before .pre in
+    let cs = componentsIn (now (a .components)) in
+    let rs = rulesIn (now (a .rules)) in
+    let ks = couplingsIn (now (a .couplings)) in
+    let e = c .before .fill-children .ensures ∙ ap (byParent cs) (c .before .before .before .fill-rules .ensures ∙ ap (byRule rs) (c .before .before .before .before .before .fill-components .ensures ∙ ap (byComponent cs) (p .3 .begins))) in
+    (p .0, p .2, joined-kept cs ks (now (a .targets)) (now (a .tables)) (p .2) (p .3) (c .before .fill-children .last .1 .0) (λ x h. ap (λ s. getD s x 0) e ∙ above3 cs rs ks (p .0) (p .2) x (omega arith) ∙ sym (ap (λ s. getD s x 0) (p .3 .begins))))
 
 count-word-requires : tie.Need-count-word-requires
 count-word-requires c κs = search needs
 
-slice-write-tables : tie.Need-slice-write-tables
-slice-write-tables c = search needs
-
-same-length : tie.Need-same-length
-same-length c =
-    simp length-set (c .before .before .before .fill-couplings .kept .1 .1 .0 ∙ c .before .before .before .before .before .before .before .fill-children .kept .1 .0 ∙ c .before .before .before .before .before .before .before .before .before .before .before .fill-rules .kept .1 .0 ∙ c .before .before .before .before .before .before .before .before .before .before .before .before .before .before .before .fill-components .kept .1 .0 ∙ c .before .before .before .before .before .before .before .before .before .before .before .before .before .before .before .before .before .before .before .clear .kept .0)
+element-write-tables : tie.Need-element-write-tables
+element-write-tables c = search needs
 
 returns : tie.Need-returns
 unfolding filled
 returns c =
-    let a = c .before .before .before .before .before .before .before .before .before .before .before .before .before .before .before .before .before .before .before .before .before .before .before .before .before .args in
+    let a = c .before .before .before .before .before .before .before .before .before .before .before .before .args in
     let cs = componentsIn (now (a .components)) in
     let rs = rulesIn (now (a .rules)) in
     let ks = couplingsIn (now (a .couplings)) in
-    let e = c .before .before .before .fill-couplings .ensures ∙ ap (byCoupling cs ks)
-    (c .before .before .before .before .before .before .before .fill-children .ensures ∙ ap (byParent cs)
-    (c .before .before .before .before .before .before .before .before .before .before .before .fill-rules .ensures ∙ ap (byRule rs)
-    (c .before .before .before .before .before .before .before .before .before .before .before .before .before .before .before .fill-components .ensures ∙ ap (byComponent cs) (c .before .before .before .before .before .before .before .before .before .before .before .before .before .before .before .before .before .before .before .clear .ensures)))) in
+    let e = c .before .fill-linked .ensures ∙ ap (byCoupling cs ks) (c .before .before .before .fill-children .ensures ∙ ap (byParent cs) (c .before .before .before .before .before .fill-rules .ensures ∙ ap (byRule rs) (c .before .before .before .before .before .before .before .fill-components .ensures ∙ ap (byComponent cs) (c .before .before .before .before .before .before .before .before .before .before .before .before .pre .3 .begins)))) in
     ap (λ s. set s countAt (c .count-word .result)) e
-    ∙ ap (set (byCoupling cs ks (byParent cs (byRule rs (byComponent cs (cleared (now (a .tables))))))) countAt) (c .count-word .ensures)
+    ∙ ap (set (byCoupling cs ks (byParent cs (byRule rs (byComponent cs (begun cs ks zeros))))) countAt) (c .count-word .ensures)
 
 pub fill-tables-spec : {M : Type 1} → statement M
 fill-tables-spec =
     tie.close
     (tie.spec
-    clear-requires
     fill-components-requires
     fill-rules-requires
     fill-children-requires
-    fill-couplings-requires
+    fill-linked-requires
     count-word-requires
-    slice-write-tables
-    same-length
+    element-write-tables
     returns)

@@ -1,0 +1,80 @@
+-- Four parts, one after the other, each over the table that the one before it left: together the definition's tables (links-whole).
+-- None moves where a link begins (marked-nodes, spread-nodes). Assumes nothing.
+use borrow.Author.Needs.{needs}
+use native.Mathlib.Omega.{arith}
+use Prim.Native.Nat.{ℕ, _*_}
+use mathlib.Core.Path.{ap, _∙_}
+use denote.Ref.{now}
+use lib.ListN.{length, getD}
+use mathlib.Core.List.{List}
+use Rattle.model_records.specs.Values.{componentsIn, couplingsIn}
+use Rattle.definition.specs.Limits.{maxComponents}
+use Rattle.pull_laws.specs.Tables.{portNodes, firstAt, liveAt, nextAt}
+use Rattle.table_words.specs.Writes.{column, linked}
+use Rattle.coupling_tables.specs.declared.End.the-variants.{Source, Target}
+use Rattle.coupling_tables.specs.Links.{sourceIn, sourceFlag, linkEnd, spreadUp, spreadDown, byCoupling}
+use Rattle.coupling_tables.proofs.Order.{marked-nodes, spread-nodes, links-whole}
+use Rattle.coupling_tables.proofs.fill_linked.Statement.{statement}
+use Rattle.coupling_tables.proofs.fill_linked.Tie as tie
+
+link-count-requires : tie.Need-link-count-requires
+link-count-requires c κs = search needs
+
+link-all-requires : tie.Need-link-all-requires
+link-all-requires c κs = search needs
+
+mark-sources-requires : tie.Need-mark-sources-requires
+mark-sources-requires c κs = search needs
+
+spread-up-requires : tie.Need-spread-up-requires
+spread-up-requires c κs =
+    let a = c .before .before .before .before .before .before .before .before .before .args in
+    let p = c .before .before .before .before .before .before .before .before .before .pre in
+    let k = c .before .before .before .before .before .before .link-count .ensures in
+    let cs = componentsIn (now (a .components)) in
+    let ks = couplingsIn (now (a .couplings)) in (
+      omega (arith, k, p .1),
+      marked-nodes (linkEnd Source cs ks) (linkEnd Target cs ks) (λ j. getD (now (a .targets)) j 0) cs (c .before .before .before .before .before .before .link-count .result) (now (a .t)) (p .0) (omega (arith, k, p .1)) (λ j l h. p .2 .ends j l (omega (arith, k))) (λ j l h. p .2 .begins j l (omega (arith, k))) (λ j l h. p .2 .nodes j l (omega (arith, k)))
+          (c .before .mark-sources .last .1 .0) (c .before .mark-sources .ensures ∙ ap (column liveAt (sourceFlag cs) (portNodes * length cs) 0) (c .before .before .before .link-all .ensures)),
+    )
+
+spread-down-requires : tie.Need-spread-down-requires
+spread-down-requires c κs =
+    let a = c .before .before .before .before .before .before .before .before .before .before .before .args in
+    let p = c .before .before .before .before .before .before .before .before .before .before .before .pre in
+    let k = c .before .before .before .before .before .before .before .before .link-count .ensures in
+    let cs = componentsIn (now (a .components)) in
+    let ks = couplingsIn (now (a .couplings)) in (
+      omega (arith, k, p .1),
+      spread-nodes (linkEnd Source cs ks) (linkEnd Target cs ks) (λ j. getD (now (a .targets)) j 0) cs (c .before .before .before .before .before .before .before .before .link-count .result) (now (a .t)) (p .0) (omega (arith, k, p .1)) (λ j l h. p .2 .ends j l (omega (arith, k))) (λ j l h. p .2 .begins j l (omega (arith, k))) (λ j l h. p .2 .nodes j l (omega (arith, k)))
+          (c .before .before .before .mark-sources .last .1 .0) (c .before .before .before .mark-sources .ensures ∙ ap (column liveAt (sourceFlag cs) (portNodes * length cs) 0) (c .before .before .before .before .before .link-all .ensures)) (c .before .spread-up .last .1 .1 .0) (c .before .spread-up .ensures),
+    )
+
+returns : tie.Need-returns
+unfolding byCoupling
+returns c =
+    let a = c .before .before .before .before .before .before .before .before .before .before .before .before .args in
+    let p = c .before .before .before .before .before .before .before .before .before .before .before .before .pre in
+    let cs = componentsIn (now (a .components)) in
+    let ks = couplingsIn (now (a .couplings)) in
+    let t = now (a .t) in
+    let n = c .before .before .before .before .before .before .before .before .before .link-count .result in
+    let held : ℕ → ℕ = λ j. getD (now (a .targets)) j 0 in
+    let chained : ℕ → List ℕ = λ m. linked firstAt (portNodes * maxComponents) nextAt held m t in
+    let marked : List ℕ → List ℕ = λ s. column liveAt (sourceFlag cs) (portNodes * length cs) 0 s in
+    let upward : ℕ → List ℕ → List ℕ = λ m s. spreadUp (sourceIn s) held m s in
+    let downward : ℕ → List ℕ → List ℕ = λ m s. spreadDown (sourceIn s) held m 1 s in
+    c .spread-down .ensures ∙ ap (downward n) (c .before .before .spread-up .ensures ∙ ap (upward n) (c .before .before .before .before .mark-sources .ensures ∙ ap marked (c .before .before .before .before .before .before .link-all .ensures)))
+    ∙ ap (λ m. downward m (upward m (marked (chained m)))) (c .before .before .before .before .before .before .before .before .before .link-count .ensures)
+    ∙ links-whole (linkEnd Source cs ks) (linkEnd Target cs ks) held cs (length ks) t (p .0) (p .1) (p .2 .ends) (p .2 .begins)
+
+pub fill-linked-spec : {M : Type 1} → statement M
+fill-linked-spec =
+    tie.close
+    (tie.spec
+    link-count-requires
+    link-all-requires
+    mark-sources-requires
+    spread-up-requires
+    spread-down-requires
+    returns)
