@@ -2,7 +2,7 @@
 // moments are never added." Every function is total.
 ghost use mathlib.Core.Path.{_≡_};
 ghost use Prim.Native.Nat.{_+_, _-_, min};
-ghost use lib.Dec.{ltb, eqb};
+ghost use lib.Dec.{ltb};
 ghost use Rattle.clock.specs.Times.{latest};
 
 // A number of ticks from the start.
@@ -47,11 +47,5 @@ impl Moment {
         ensures { λ r. ⌜ r ≡ ltb (self .0) (other .0) ⌝ }
     {
         self.0 < other.0
-    }
-
-    pub fn is_same(self, other: Moment) -> bool
-        ensures { λ r. ⌜ r ≡ eqb (self .0) (other .0) ⌝ }
-    {
-        self.0 == other.0
     }
 }

@@ -118,15 +118,6 @@ module _ (ps : List Phase) (t es fs : List ℕ) where
     input-shut zero x r o = rw r
     input-shut (suc d) x r o = rw (r, sym (open-any x) ∙ o)
 
-    -- an input node of a component other than the root that is seen to be closed
-    pub input-closed : (d x : ℕ) → (leb portNodes x && not (isOpen [] t es fs x)) ≡ true → pulledInto ps t es fs b d x ≡ []
-    input-closed d x h = go (leb portNodes x) refl (isOpen [] t es fs x) refl h
-      where
-        go : (u : Bool) → leb portNodes x ≡ u → (v : Bool) → isOpen [] t es fs x ≡ v → (u && not v) ≡ true → pulledInto ps t es fs b d x ≡ []
-        go true e false f k = input-shut d x (not-root x (leb-true portNodes x e)) f
-        go true e true f k = absurd (true≢false (sym k))
-        go false e v f k = absurd (true≢false (sym k))
-
     port-unreached : (d c q : ℕ) → 0 < c → q < portCount → eqb (getD fs c 0) 0 ≡ true → pulledInto ps t es fs b d (inputNode c q) ≡ []
     port-unreached d c q h k e = input-shut d (inputNode c q) (not-root (inputNode c q) away) (node-unreached c q k e)
       where

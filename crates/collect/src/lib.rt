@@ -3,6 +3,7 @@
 // entered: those that a source can reach at all, and that something may reach in this step.
 ghost use mathlib.Core.Path.{_≡_};
 ghost use mathlib.Core.List.{[]};
+ghost use mathlib.Core.Bool.{true};
 ghost use Prim.Native.Nat.{_+_, _*_, _%_, _/_, _<_, _≤_};
 ghost use Rattle.definition.specs.Limits.{maxAncestors, maxComponents, maxCouplings, portCount};
 ghost use Rattle.pull_laws.specs.Ranges.{maxNodes, InRange};
@@ -11,7 +12,7 @@ ghost use Rattle.model_records.specs.Values.{phasesIn};
 ghost use Rattle.pull_laws.specs.Put.{puts, putPorts};
 ghost use lib.ListN.{getD};
 ghost use Rattle.route_laws.specs.Nodes.{inputNode, outputNode};
-ghost use Rattle.pull_laws.specs.Tables.{firstAt, nextAt, sourceAt, nodePort};
+ghost use Rattle.pull_laws.specs.Tables.{portNodes, firstAt, nextAt, sourceAt, nodePort};
 ghost use Rattle.pull_laws.specs.TableStep.{mayCome, isOpen, pulledBelow, pulledInto};
 ghost use Rattle.collect.specs.Turns.{pulledFrom};
 
@@ -103,7 +104,8 @@ fn is_open(
     (word_in(tables, LIVE_AT + size(x)) != 0) & may_come(marks, reached, x)
 }
 
-// What arrives at input node x, at most `depth` levels up.
+// What arrives at input node x, at most `depth` levels up. It is an open node of a component other than the root: the callers have seen that,
+// since a call costs more than the test.
 fn collect_input(
     phases: &[u8],
     tables: &[u16; TABLE_SIZE],
@@ -116,16 +118,10 @@ fn collect_input(
     buf: &mut [u32],
     at: usize,
 ) -> usize
-    requires { ⌜ (x < maxNodes) × InRange (now tables) ⌝ }
+    requires { ⌜ (x < maxNodes) × InRange (now tables) × (portNodes ≤ x) × (isOpen [] (now tables) (now marks) (now reached) x ≡ true) ⌝ }
     ensures { λ r. ⌜ (now (buf .exit), r) ≡ puts own (pulledInto (phasesIn (now (phases .entry))) (now (tables .entry)) (now (marks .entry)) (now (reached .entry)) (toBag (now (given .entry))) depth x) (now (buf .entry), at) ⌝ }
 {
-    if x < PORT_NODES {
-        return put_given(given, port_of(x), own, buf, at);
-    }
     if depth == 0 {
-        return at;
-    }
-    if !is_open(tables, marks, reached, x) {
         return at;
     }
     let mut next = at;
@@ -151,8 +147,8 @@ fn collect_input(
     next
 }
 
-// What comes from node y, which leads to an input node: a sibling's output, or the parent's input. A slice is passed through memory, so
-// that a call costs more than the test for an atomic: it stands here too, and only a coupled sibling is a call.
+// What comes from node y, which leads to an input node: a sibling's output, or the parent's input. What is given at the root, an atomic
+// sibling's output and a node that is closed in this step are no calls.
 fn collect_source(
     phases: &[u8],
     tables: &[u16; TABLE_SIZE],
@@ -169,6 +165,12 @@ fn collect_source(
     ensures { λ r. ⌜ (now (buf .exit), r) ≡ puts own (pulledFrom (phasesIn (now (phases .entry))) (now (tables .entry)) (now (marks .entry)) (now (reached .entry)) (toBag (now (given .entry))) depth y) (now (buf .entry), at) ⌝ }
 {
     if y % PORT_NODES < PORTS {
+        if y < PORT_NODES {
+            return put_given(given, port_of(y), own, buf, at);
+        }
+        if !is_open(tables, marks, reached, y) {
+            return at;
+        }
         return collect_input(
             phases,
             tables,
@@ -184,6 +186,9 @@ fn collect_source(
     }
     if is_atomic(tables, y) {
         return put_output(phases, marks, own, y, buf, at);
+    }
+    if !is_open(tables, marks, reached, y) {
+        return at;
     }
     collect_coupled(
         phases,
@@ -225,7 +230,10 @@ fn collect_arriving(
     requires { ⌜ (x < maxNodes) × InRange (now tables) ⌝ }
     ensures { λ r. ⌜ (now (buf .exit), r) ≡ puts own (pulledInto (phasesIn (now (phases .entry))) (now (tables .entry)) (now (marks .entry)) (now (reached .entry)) (toBag (now (given .entry))) maxAncestors x) (now (buf .entry), at) ⌝ }
 {
-    if (PORT_NODES <= x) & !is_open(tables, marks, reached, x) {
+    if x < PORT_NODES {
+        return put_given(given, port_of(x), own, buf, at);
+    }
+    if !is_open(tables, marks, reached, x) {
         return at;
     }
     collect_input(

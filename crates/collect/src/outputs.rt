@@ -1,12 +1,14 @@
 // Output collection, by turns: a coupled component asks its children, and a child that is coupled is asked in the same way.
 ghost use mathlib.Core.Path.{_≡_};
+ghost use mathlib.Core.List.{[]};
+ghost use mathlib.Core.Bool.{true};
 ghost use Prim.Native.Nat.{_<_};
 ghost use lib.ListN.{getD};
 ghost use Rattle.pull_laws.specs.Ranges.{maxNodes, InRange};
 ghost use Rattle.model_records.specs.Values.{phasesIn};
 ghost use Rattle.pull_laws.specs.Put.{puts};
 ghost use Rattle.pull_laws.specs.Tables.{nodeComponent, nodePort, atomicNode};
-ghost use Rattle.pull_laws.specs.TableStep.{pulledBelow};
+ghost use Rattle.pull_laws.specs.TableStep.{isOpen, pulledBelow};
 ghost use Rattle.bag_keys.specs.Sent.{sentOn};
 ghost use Rattle.collect.specs.Turns.{pulledChild};
 use super::PORT_NODES;
@@ -48,7 +50,7 @@ pub fn put_output(
     put_sent(phases, mark, port_of(y), own, buf, at)
 }
 
-// What the coupled component of output node x puts out there, at most `depth` levels down.
+// What the coupled component of output node x, which is open, puts out there, at most `depth` levels down.
 pub fn collect_coupled(
     phases: &[u8],
     tables: &[u16; TABLE_SIZE],
@@ -60,13 +62,10 @@ pub fn collect_coupled(
     buf: &mut [u32],
     at: usize,
 ) -> usize
-    requires { ⌜ (x < maxNodes) × InRange (now tables) ⌝ }
+    requires { ⌜ (x < maxNodes) × InRange (now tables) × (isOpen [] (now tables) (now marks) (now reached) x ≡ true) ⌝ }
     ensures { λ r. ⌜ (now (buf .exit), r) ≡ puts own (pulledBelow (phasesIn (now (phases .entry))) (now (tables .entry)) (now (marks .entry)) (now (reached .entry)) depth x) (now (buf .entry), at) ⌝ }
 {
     if depth == 0 {
-        return at;
-    }
-    if !is_open(tables, marks, reached, x) {
         return at;
     }
     let mut next = at;
@@ -98,6 +97,9 @@ fn collect_child(
 {
     if is_atomic(tables, y) {
         return put_output(phases, marks, own, y, buf, at);
+    }
+    if !is_open(tables, marks, reached, y) {
+        return at;
     }
     collect_coupled(phases, tables, marks, reached, depth, own, y, buf, at)
 }

@@ -11,7 +11,8 @@ ghost use Rattle.run_state.specs.Held.{held};
 ghost use Rattle.pull_laws.specs.Tables.{positionsAt, atomicAt};
 ghost use Rattle.pull_laws.specs.Ranges.{InRange};
 ghost use Rattle.pull_laws.specs.Carried.{Carried, endBelow, nextEnd};
-ghost use Rattle.pull_laws.specs.TableStep.{recordOf, phaseIn, dueAtPosition};
+ghost use Rattle.pull_laws.specs.TableStep.{recordOf, phaseIn, dueIn};
+use clock::Moment;
 use limits::MAX_COMPONENTS;
 use little_endian::size;
 use little_endian::size16;
@@ -49,37 +50,31 @@ pub fn whole(ends: &[u64; MAX_COMPONENTS])
     let _all: &[u64] = ends;
 }
 
-// When the atomic at a position is due.
-fn end_at(
-    phases: &[u8],
-    tables: &[u16; TABLE_SIZE],
-    phase: &[u8; MAX_COMPONENTS],
-    last: &[u64; MAX_COMPONENTS],
-    i: u8,
-) -> u64
-    requires { ⌜ (i < maxComponents) × InRange (now tables) ⌝ }
-    ensures { λ r. ⌜ r ≡ dueNumber (dueAtPosition (phasesIn (now (phases .entry))) (now (tables .entry)) (held (now (phase .entry)) (now (last .entry))) i) ⌝ }
+// When the atomic c is due that is in phase p since a moment.
+fn end_since(phases: &[u8], tables: &[u16; TABLE_SIZE], c: u16, p: u8, since: Moment) -> u64
+    requires { ⌜ c < maxComponents ⌝ }
+    ensures { λ r. ⌜ r ≡ dueNumber (dueIn (phasesIn (now (phases .entry))) (now (tables .entry)) c p (since .0)) ⌝ }
 {
-    let at = size(i);
-    let c = row_in(tables, NUMBERS_AT, i as u16);
-    let own = phase_in(phases, tables, c, run_state::phase_at(phase, at));
-    due::due_number(due::due_after(run_state::last_at(last, at), own.advance))
+    let own = phase_in(phases, tables, c, p);
+    due::due_number(due::due_after(since, own.advance))
 }
 
-// The due moment of the atomic at a position is carried anew.
+// The due moment of the atomic c at a position, which is in phase p, is carried anew. Component and phase are handed in: they were known a
+// moment ago, and to load them again would wait for the store.
 pub fn put_end(
     phases: &[u8],
     tables: &[u16; TABLE_SIZE],
-    phase: &[u8; MAX_COMPONENTS],
+    c: u16,
+    p: u8,
     last: &[u64; MAX_COMPONENTS],
     i: u8,
     ends: &mut [u64; MAX_COMPONENTS],
 )
-    requires { ⌜ (i < maxComponents) × InRange (now tables) ⌝ }
-    ensures { λ _. ⌜ now (ends .exit) ≡ set (now (ends .entry)) i (dueNumber (dueAtPosition (phasesIn (now (phases .entry))) (now (tables .entry)) (held (now (phase .entry)) (now (last .entry))) i)) ⌝ }
+    requires { ⌜ (i < maxComponents) × (c < maxComponents) ⌝ }
+    ensures { λ _. ⌜ now (ends .exit) ≡ set (now (ends .entry)) i (dueNumber (dueIn (phasesIn (now (phases .entry))) (now (tables .entry)) c p (getD (now (last .entry)) i 0))) ⌝ }
 {
     let at = size(i);
-    ends[at] = end_at(phases, tables, phase, last, i);
+    ends[at] = end_since(phases, tables, c, p, run_state::last_at(last, at));
 }
 
 // The due moments of n atomics.
@@ -97,7 +92,9 @@ pub fn put_ends(
     whole(ends);
     let mut i: u8 = 0;
     while i < n {
-        put_end(phases, tables, phase, last, i, ends);
+        let c = row_in(tables, NUMBERS_AT, i as u16);
+        let p = run_state::phase_at(phase, size(i));
+        put_end(phases, tables, c, p, last, i, ends);
         i = i + 1;
     }
 }

@@ -1,22 +1,22 @@
 -- Decoding cut at each section: what is still to be read, given the records read so far. Assumes nothing.
-use mathlib.Core.Path.{_≡_, refl, sym, ap, _∙_}
+use mathlib.Core.Path.{_≡_, refl, sym, ap, subst, _∙_}
 use mathlib.Core.List.{List}
-use mathlib.Core.Bool.{Bool, true, false, _||_}
 use Prim.Native.Nat.{ℕ, _≤_, _<_}
 use native.Mathlib.Omega.{arith}
-use lib.Dec.{ltb, eqb}
 use lib.ListN.{length}
-use borrow.Author.Tests.{ltb-false, eqb-false}
 use Rattle.definition.specs.Bytes.{Bytes, Result, ok, refused, _>>=_}
-use Rattle.definition.specs.Limits.{maxComponents}
+use Rattle.definition.specs.Limits.{maxComponents, componentSize}
 use Rattle.definition.specs.Model.{Component, Phase, Rule, Coupling, Model}
 use Rattle.definition.specs.Records.{toComponent, componentFits}
-use Rattle.definition.specs.File.{Section, orElse, componentCount, componentSection, phaseSection, ruleSection, couplingSection, endOfFile, decode}
+use Rattle.definition.specs.File.{Section, componentCount, componentSection, phaseSection, ruleSection, couplingSection, endOfFile, decode}
 use Rattle.byte_laws.specs.Parts.{recordsIn, partOf, restAfter}
-use Rattle.byte_laws.proofs.Refusals.{then-ok, then-refused}
 use Rattle.byte_laws.proofs.Sections.{section-gives}
-use Rattle.model_sections.specs.Answers.{sectionRead, sectionNumber}
+use Rattle.byte_laws.proofs.Refusals.{then-ok, then-refused}
+use Rattle.model_records.specs.Values.{componentsIn}
+use Rattle.model_checks.specs.Known.{Counted, Placed}
+use Rattle.model_sections.specs.Answers.{sectionRead, sectionNumber, Learnt}
 use Rattle.model_sections.specs.declared.SectionRead as S
+use Rattle.model_sections.proofs.Bounds.{component-count}
 use Rattle.model_sections.specs.declared.SectionRead.the-variants as SV
 
 unfoldable pub fromEnd : List Component → List Phase → List Rule → List Coupling → Bytes → Result Model
@@ -35,16 +35,6 @@ pub decode-from : (s : Bytes) → decode s ≡ (componentSection s >>= λ a. fro
 unfolding decode fromPhases fromRules fromCouplings fromEnd
 decode-from s = refl
 
--- A right count of components.
-pub component-count : (n : ℕ) → componentCount n ≡ 0 → (0 < n) × (n ≤ maxComponents)
-unfolding componentCount
-component-count n e = go (ltb maxComponents n) refl (eqb n 0) refl e
-  where
-    go : (a : Bool) → ltb maxComponents n ≡ a → (b : Bool) → eqb n 0 ≡ b → orElse (a || b) 3 0 ≡ 0 → (0 < n) × (n ≤ maxComponents)
-    go true f b g e = absurd (omega arith)
-    go false f true g e = absurd (omega arith)
-    go false f false g e = let u = ltb-false maxComponents n f in let v = eqb-false n 0 g in (omega arith, omega arith)
-
 -- So many components an accepted section has.
 pub component-limit : (s : Bytes) {x : Section Component} → componentSection s ≡ ok x → (0 < length (x .records)) × (length (x .records) ≤ maxComponents)
 unfolding componentSection
@@ -52,6 +42,11 @@ component-limit s {x} e =
     let g = section-gives 5 componentCount toComponent componentFits 4 s (omega arith) e in
     let f : length (x .records) ≡ _ = ap (λ y. length (y .records)) (g .is) ∙ g .count in
     rw f (component-count _ (g .right))
+
+-- What is known of all components, as the sections after them ask for it.
+pub known : (s : Bytes) (n : ℕ) {read : S.SectionRead} (parents counts : List ℕ) → Learnt s read parents counts → read ≡ SV.Are n
+    → {records : Bytes} → records ≡ partOf componentSize n s → Placed (componentsIn records) parents × Counted (componentsIn records) counts
+known s n parents counts h e f = rw f (subst (λ r. Learnt s r parents counts) e h)
 
 -- ---- a section read: what follows its records, and what follows its refusal
 

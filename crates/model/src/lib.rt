@@ -5,6 +5,7 @@ ghost use Rattle.definition.specs.File.{decode};
 ghost use Rattle.model.specs.Checked.{componentsPart, phasesPart, rulesPart, couplingsPart, afterComponents, afterPhases, afterRules, checkedAs, checkedNumber};
 use limits::COMPONENT_SIZE;
 use limits::COUPLING_SIZE;
+use limits::MAX_COMPONENTS;
 use limits::PHASE_SIZE;
 use limits::RULE_SIZE;
 use model_sections::SectionRead;
@@ -38,23 +39,25 @@ pub fn checked_number(r: Checked) -> u16
 pub fn decode_model(file: &[u8]) -> Checked
     ensures { λ r. ⌜ checkedAs (now (file .entry)) r ≡ decode (now (file .entry)) ⌝ }
 {
-    let first = model_sections::read_components(file);
+    let mut parents = [0u8; MAX_COMPONENTS];
+    let mut phase_counts = [0u8; MAX_COMPONENTS];
+    let first = model_sections::read_components(file, &mut parents, &mut phase_counts);
     let SectionRead::Are(components) = first else {
         return Checked::Refused(section_refusal(first));
     };
     let owners = section_part(file, components, COMPONENT_SIZE);
     let after_components = section_rest(file, components, COMPONENT_SIZE);
-    let second = model_sections::read_phases(owners, after_components);
+    let second = model_sections::read_phases(owners, &phase_counts, after_components);
     let SectionRead::Are(phases) = second else {
         return Checked::Refused(section_refusal(second));
     };
     let after_phases = section_rest(after_components, phases, PHASE_SIZE);
-    let third = model_sections::read_rules(owners, after_phases);
+    let third = model_sections::read_rules(owners, &phase_counts, after_phases);
     let SectionRead::Are(rules) = third else {
         return Checked::Refused(section_refusal(third));
     };
     let after_rules = section_rest(after_phases, rules, RULE_SIZE);
-    let fourth = model_sections::read_couplings(owners, after_rules);
+    let fourth = model_sections::read_couplings(owners, &parents, after_rules);
     let SectionRead::Are(couplings) = fourth else {
         return Checked::Refused(section_refusal(fourth));
     };

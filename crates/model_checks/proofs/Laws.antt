@@ -1,15 +1,19 @@
 -- The definitions of the record tests in the order in which the code takes them. Assumes nothing.
-use mathlib.Core.Path.{_≡_, refl, sym}
+use mathlib.Core.Path.{_≡_, sym}
 use mathlib.Core.List.{List}
-use mathlib.Core.Bool.{Bool, true, false, not}
-use Prim.Native.Nat.{ℕ, zero, suc, _-_, _<_}
+use mathlib.Core.Bool.{Bool, true, false}
+use Prim.Native.Nat.{ℕ, zero, suc, _+_, _-_, _<_}
 use native.Mathlib.Omega.{arith}
+use native.Mathlib.Numerals.{add-one}
+use lib.Dec.{leb}
 use lib.ListN.{getD}
-use borrow.Author.Tests.{ne-eqb}
+use borrow.Author.Tests.{le-leb, ne-eqb}
 use Rattle.definition.specs.Bytes.{ok, refused}
-use Rattle.definition.specs.Model.{Component, Coupling, componentAt, noCoupling, couplingLe}
+use Rattle.definition.specs.Model.{Component, Coupling, componentAt, noCoupling}
 use Rattle.definition.specs.Records.{rootWithin, notFalling}
-use Rattle.model_checks.specs.Reads.{checked}
+use Rattle.sort.proofs.Keys.{coupling-key-order}
+use Rattle.model_checks.specs.Reads.{rowOf, checked}
+use Rattle.model_checks.specs.Known.{Behind}
 
 pub keeps : {A : Type 0} (b : Bool) (n : ℕ) (a : A) → b ≡ true → checked b n a ≡ ok a
 unfolding checked
@@ -19,13 +23,11 @@ pub breaks : {A : Type 0} (b : Bool) (n : ℕ) (a : A) → b ≡ false → check
 unfolding checked
 breaks b n a e = rw e
 
-pub not-yes : (b : Bool) → not b ≡ true → b ≡ false
-not-yes true e = sym e
-not-yes false e = refl
-
-pub not-no : (b : Bool) → not b ≡ false → b ≡ true
-not-no true e = refl
-not-no false e = sym e
+-- A record that is read is the one asked for.
+pub read-is : {A : Type 0} (b : Bool) (n : ℕ) (k : A) {a : A} → ok a ≡ checked b n k → a ≡ k
+unfolding checked
+read-is true n k e = cc
+read-is false n k e = let z : _≡_ {A = ℕ} 0 1 = cc in absurd (omega arith)
 
 -- ---- going up to the root
 
@@ -45,11 +47,10 @@ root-up (suc n) cs c l h = let e : suc n - 1 ≡ n = omega arith in rw (ne-eqb c
 
 -- ---- the row before
 
-pub first-row : (ks : List Coupling) (i : ℕ) → i ≡ 0 → notFalling ks i ≡ true
+pub behind-falls : (ks : List Coupling) (i before key : ℕ) → Behind ks i before → rowOf key ≡ getD ks i noCoupling → notFalling ks i ≡ leb before key
 unfolding notFalling
-first-row ks i e = rw e
+behind-falls ks zero before key h e = rw h (sym (le-leb 0 key (omega arith)))
+behind-falls ks (suc i) before key h e = rw (← h, ← e) (coupling-key-order before key)
 
-pub later-row : (ks : List Coupling) (i : ℕ) → (i ≡ 0 → ⊥) → notFalling ks i ≡ couplingLe (getD ks (i - 1) noCoupling) (getD ks i noCoupling)
-unfolding notFalling
-later-row ks zero h = absurd (h refl)
-later-row ks (suc i) h = let e : suc i - 1 ≡ i = omega arith in rw e
+pub behind-next : (ks : List Coupling) (i key : ℕ) → rowOf key ≡ getD ks i noCoupling → Behind ks (i + 1) key
+behind-next ks i key e = rw (add-one i) e

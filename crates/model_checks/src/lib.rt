@@ -1,15 +1,20 @@
 // Reading one record yields either the record or the number of its refusal: the lines that each kind of record must keep.
 ghost use mathlib.Core.Path.{_≡_};
 ghost use mathlib.Core.Bool.{_&&_};
-ghost use lib.ListN.{getD};
+ghost use Prim.Native.Nat.{_+_, _<_};
+ghost use lib.Dec.{ltb, leb};
+ghost use lib.ListN.{length, getD};
 ghost use Rattle.definition.specs.Bytes.{numberOf};
-ghost use Rattle.definition.specs.Model.{noPhase, noRule, noCoupling, componentAt, messageLe, couplingLe};
-ghost use Rattle.definition.specs.Records.{kindFields, rootWithin, componentFits, usedFit, unusedFit, phaseFields, ruleFields, related, couplingFields, notFalling, couplingFits};
+ghost use Rattle.definition.specs.Limits.{maxOutputs};
+ghost use Rattle.definition.specs.Model.{noPhase, noRule, noCoupling, componentAt};
+ghost use Rattle.definition.specs.Records.{kindFields, componentFits, advanceFits, usedFit, unusedFit, phaseFields, ruleFields, related, couplingFields, couplingFits};
 ghost use Rattle.model_records.specs.Values.{componentOf, phaseOf, ruleOf, couplingOf, componentsIn, phasesIn, rulesIn, couplingsIn};
 ghost use Rattle.laws.specs.Keys.{messageOf};
 ghost use Rattle.model_checks.specs.Reads.{rowOf, checked, componentRead, phaseRead, ruleRead, couplingRead};
+ghost use Rattle.model_checks.specs.Known.{Accepted, Parents, PhaseCounts, Depths, Counted, Placed, Behind};
 use limits::MAX_ADVANCE;
 use limits::MAX_ANCESTORS;
+use limits::MAX_COMPONENTS;
 use limits::MAX_OUTPUTS;
 use limits::MAX_OWN_PHASES;
 use limits::NEVER_FIELD;
@@ -20,27 +25,31 @@ use model_records::Component;
 use model_records::Coupling;
 use model_records::Phase;
 use model_records::Rule;
-use model_records::component_at;
-use model_records::coupling_at;
+use model_records::component_in;
+
+// Keys of messages with a port lie below this one.
+const KEYS_END: usize = 262144;
+
+// ---- the answers; a number is one byte, since one that is laid over two fields of a record makes the compiler join these
 
 pub enum ComponentRead {
     Is(Component),
-    Refused(u16),
+    Refused(u8),
 }
 
 pub enum PhaseRead {
     Is(Phase),
-    Refused(u16),
+    Refused(u8),
 }
 
 pub enum RuleRead {
     Is(Rule),
-    Refused(u16),
+    Refused(u8),
 }
 
 pub enum CouplingRead {
     Is(Coupling),
-    Refused(u16),
+    Refused(u8),
 }
 
 // ---- components
@@ -48,48 +57,72 @@ pub enum CouplingRead {
 fn kind_fields(k: Component) -> bool
     ensures { λ r. ⌜ r ≡ kindFields (componentOf k) ⌝ }
 {
-    let coupled = (k.phases == 0) & (k.initial == 0) & (k.order == 0);
-    let atomic = (1 <= k.phases)
-        & (k.phases <= MAX_OWN_PHASES)
-        & (k.initial < k.phases)
-        & (k.order <= 1);
-    ((k.kind == 0) & coupled) | ((k.kind == 1) & atomic)
+    if k.kind == 0 {
+        return (k.phases == 0) & (k.initial == 0) & (k.order == 0);
+    }
+    (k.kind == 1)
+        & ((1 <= k.phases) & (k.phases <= MAX_OWN_PHASES) & (k.initial < k.phases) & (k.order <= 1))
 }
 
-// Whether going up from c at most `most` times leads to the root.
-fn root_within(components: &[u8], most: usize, c: usize) -> bool
-    ensures { λ r. ⌜ r ≡ rootWithin most (componentsIn (now (components .entry))) c ⌝ }
-{
-    if c == 0 {
-        return true;
-    }
-    if most == 0 {
-        return false;
-    }
-    let k = component_at(components, c);
-    root_within(components, most - 1, size(k.parent))
-}
-
-fn component_fits(components: &[u8], i: usize) -> bool
+// Record i, given what is known of those before it. A parent without phases is coupled.
+fn component_fits(
+    components: &[u8],
+    i: usize,
+    phase_counts: &[u8; MAX_COMPONENTS],
+    depths: &[u8; MAX_COMPONENTS],
+) -> bool
+    requires { ⌜ (i < length (componentsIn (now components))) × Accepted (componentsIn (now components)) i × PhaseCounts (componentsIn (now components)) i (now «phase_counts») × Depths (componentsIn (now components)) i (now depths) ⌝ }
     ensures { λ r. ⌜ r ≡ componentFits (componentsIn (now (components .entry))) i ⌝ }
 {
-    let k = component_at(components, i);
+    let k = component_in(components, i);
     if i == 0 {
         return kind_fields(k) & ((k.kind == 0) & (k.parent == 0));
     }
     let parent = size(k.parent);
-    let over = component_at(components, parent);
-    kind_fields(k) & ((parent < i) & (over.kind == 0) & root_within(components, MAX_ANCESTORS, i))
+    if i <= parent {
+        return false;
+    }
+    if !((phase_counts[parent] == 0) & (size(depths[parent]) < MAX_ANCESTORS)) {
+        return false;
+    }
+    kind_fields(k)
 }
 
-pub fn read_component(components: &[u8], i: usize) -> ComponentRead
+pub fn read_component(
+    components: &[u8],
+    i: usize,
+    phase_counts: &[u8; MAX_COMPONENTS],
+    depths: &[u8; MAX_COMPONENTS],
+) -> ComponentRead
+    requires { ⌜ (i < length (componentsIn (now components))) × Accepted (componentsIn (now components)) i × PhaseCounts (componentsIn (now components)) i (now «phase_counts») × Depths (componentsIn (now components)) i (now depths) ⌝ }
     ensures { λ r. ⌜ componentRead r ≡ checked (componentFits (componentsIn (now (components .entry))) i) 4 (componentAt (componentsIn (now (components .entry))) i) ⌝ }
 {
-    if component_fits(components, i) {
-        ComponentRead::Is(component_at(components, i))
+    if component_fits(components, i, phase_counts, depths) {
+        ComponentRead::Is(component_in(components, i))
     } else {
         ComponentRead::Refused(4)
     }
+}
+
+// What is known of accepted component i is kept beside what is known of those before it.
+pub fn keep_component(
+    components: &[u8],
+    i: usize,
+    parents: &mut [u8; MAX_COMPONENTS],
+    phase_counts: &mut [u8; MAX_COMPONENTS],
+    depths: &mut [u8; MAX_COMPONENTS],
+)
+    requires { ⌜ (i < length (componentsIn (now components))) × Accepted (componentsIn (now components)) (i + 1) × Parents (componentsIn (now components)) i (now parents) × PhaseCounts (componentsIn (now components)) i (now «phase_counts») × Depths (componentsIn (now components)) i (now depths) ⌝ }
+    ensures { λ _. ⌜ Parents (componentsIn (now (components .entry))) (i + 1) (now (parents .exit)) × PhaseCounts (componentsIn (now (components .entry))) (i + 1) (now («phase_counts» .exit)) × Depths (componentsIn (now (components .entry))) (i + 1) (now (depths .exit)) ⌝ }
+{
+    let k = component_in(components, i);
+    parents[i] = k.parent;
+    phase_counts[i] = k.phases;
+    if i == 0 {
+        depths[i] = 0;
+        return;
+    }
+    depths[i] = depths[size(k.parent)] + 1;
 }
 
 pub fn component_refusal(r: ComponentRead) -> u16
@@ -97,7 +130,7 @@ pub fn component_refusal(r: ComponentRead) -> u16
 {
     match r {
         ComponentRead::Is(_) => 0,
-        ComponentRead::Refused(n) => n,
+        ComponentRead::Refused(n) => n as u16,
     }
 }
 
@@ -110,61 +143,61 @@ fn message_key(p: u8, v: u16) -> usize
     size(p) * 65536 + size16(v)
 }
 
-// Message (p, v) does not stand behind (q, w).
-fn message_le(p: u8, v: u16, q: u8, w: u16) -> bool
-    ensures { λ r. ⌜ r ≡ messageLe (record { port = p; value = v }) (record { port = q; value = w }) ⌝ }
-{
-    message_key(p, v) <= message_key(q, w)
-}
-
-// Used slots have ports, and never fall; unused slots are zero. A phase is tested by the lines of its own count alone.
+// Slots that are not used are zero, and used ones never fall; so they have ports if the last one has.
 fn slots_fit(k: Phase) -> bool
     ensures { λ r. ⌜ r ≡ (usedFit (phaseOf k) && unusedFit (phaseOf k)) ⌝ }
 {
     let n = k.count;
-    let unused3 = (k.port3 == 0) & (k.value3 == 0);
-    let unused2 = (k.port2 == 0) & (k.value2 == 0);
-    let unused1 = (k.port1 == 0) & (k.value1 == 0);
-    if n == 0 {
-        return (k.port0 == 0) & (k.value0 == 0) & unused1 & unused2 & unused3;
+    let a = message_key(k.port0, k.value0);
+    let b = message_key(k.port1, k.value1);
+    let c = message_key(k.port2, k.value2);
+    let d = message_key(k.port3, k.value3);
+    if 3 < n {
+        return (a <= b) & (b <= c) & (c <= d) & (d < KEYS_END);
     }
-    let port0 = k.port0 < PORT_COUNT;
-    if n == 1 {
-        return port0 & (unused1 & unused2 & unused3);
+    if 0 < d {
+        return false;
     }
-    let ports1 = port0 & (k.port1 < PORT_COUNT);
-    let rises1 = message_le(k.port0, k.value0, k.port1, k.value1);
-    if n == 2 {
-        return (ports1 & rises1) & (unused2 & unused3);
+    if 2 < n {
+        return (a <= b) & (b <= c) & (c < KEYS_END);
     }
-    let ports2 = ports1 & (k.port2 < PORT_COUNT);
-    let rises2 = rises1 & message_le(k.port1, k.value1, k.port2, k.value2);
-    if n == 3 {
-        return (ports2 & rises2) & unused3;
+    if 0 < c {
+        return false;
     }
-    let ports3 = ports2 & (k.port3 < PORT_COUNT);
-    ports3 & (rises2 & message_le(k.port2, k.value2, k.port3, k.value3))
+    if 1 < n {
+        return (a <= b) & (b < KEYS_END);
+    }
+    if 0 < b {
+        return false;
+    }
+    if 0 < n {
+        return a < KEYS_END;
+    }
+    a == 0
 }
 
-fn phase_fields(bound: u8, k: Phase) -> bool
-    ensures { λ r. ⌜ r ≡ phaseFields bound (phaseOf k) ⌝ }
+// The fields before the slots.
+fn phase_numbers(bound: u8, k: Phase) -> bool
+    ensures { λ r. ⌜ r ≡ (advanceFits (k .advance) && ltb (k .next) bound && leb (k .count) maxOutputs) ⌝ }
 {
     ((k.advance <= MAX_ADVANCE) | (k.advance == NEVER_FIELD))
         & (k.next < bound)
         & (k.count <= MAX_OUTPUTS)
-        & slots_fit(k)
 }
 
 // Phase record i, whose atomic has `bound` phases.
 pub fn read_phase(phases: &[u8], i: usize, bound: u8) -> PhaseRead
+    requires { ⌜ i < length (phasesIn (now phases)) ⌝ }
     ensures { λ r. ⌜ phaseRead r ≡ checked (phaseFields bound (getD (phasesIn (now (phases .entry))) i noPhase)) 6 (getD (phasesIn (now (phases .entry))) i noPhase) ⌝ }
 {
-    let k = model_records::phase_at(phases, i);
-    if phase_fields(bound, k) {
-        PhaseRead::Is(k)
-    } else {
-        PhaseRead::Refused(6)
+    let k = model_records::phase_in(phases, i);
+    if !phase_numbers(bound, k) {
+        return PhaseRead::Refused(6);
     }
+    if !slots_fit(k) {
+        return PhaseRead::Refused(6);
+    }
+    PhaseRead::Is(k)
 }
 
 pub fn phase_refusal(r: PhaseRead) -> u16
@@ -172,31 +205,40 @@ pub fn phase_refusal(r: PhaseRead) -> u16
 {
     match r {
         PhaseRead::Is(_) => 0,
-        PhaseRead::Refused(n) => n,
+        PhaseRead::Refused(n) => n as u16,
     }
 }
 
 // ---- rules
 
-fn rule_fields(components: &[u8], k: Rule) -> bool
+// A component with phases is atomic.
+fn rule_fields(components: &[u8], phase_counts: &[u8; MAX_COMPONENTS], k: Rule) -> bool
+    requires { ⌜ Counted (componentsIn (now components)) (now «phase_counts») ⌝ }
     ensures { λ r. ⌜ r ≡ ruleFields (componentsIn (now (components .entry))) (ruleOf k) ⌝ }
 {
     let own = size(k.component);
-    let c = component_at(components, own);
-    (own < model_records::component_count(components))
-        & (c.kind == 1)
-        & (k.phase < c.phases)
-        & (k.next < c.phases)
+    if model_records::component_count(components) <= own {
+        return false;
+    }
+    let phases = phase_counts[own];
+    (k.phase < phases)
+        & (k.next < phases)
         & (k.port < PORT_COUNT)
         & (k.low <= k.high)
         & (k.low_elapsed <= k.high_elapsed)
 }
 
-pub fn read_rule(components: &[u8], rules: &[u8], i: usize) -> RuleRead
+pub fn read_rule(
+    components: &[u8],
+    phase_counts: &[u8; MAX_COMPONENTS],
+    rules: &[u8],
+    i: usize,
+) -> RuleRead
+    requires { ⌜ (i < length (rulesIn (now rules))) × Counted (componentsIn (now components)) (now «phase_counts») ⌝ }
     ensures { λ r. ⌜ ruleRead r ≡ checked (ruleFields (componentsIn (now (components .entry))) (getD (rulesIn (now (rules .entry))) i noRule)) 7 (getD (rulesIn (now (rules .entry))) i noRule) ⌝ }
 {
-    let k = model_records::rule_at(rules, i);
-    if rule_fields(components, k) {
+    let k = model_records::rule_in(rules, i);
+    if rule_fields(components, phase_counts, k) {
         RuleRead::Is(k)
     } else {
         RuleRead::Refused(7)
@@ -208,55 +250,40 @@ pub fn rule_refusal(r: RuleRead) -> u16
 {
     match r {
         RuleRead::Is(_) => 0,
-        RuleRead::Refused(n) => n,
+        RuleRead::Refused(n) => n as u16,
     }
 }
 
 // ---- couplings
 
-// Source is the target's parent, its sibling, or its child. Branches, since a file that is kept takes the same ones again and again.
-fn are_related(components: &[u8], s: usize, t: usize) -> bool
+// Source is the target's parent, its sibling, or its child. The root, which stands as its own parent, has its children's parent.
+fn are_related(components: &[u8], parents: &[u8; MAX_COMPONENTS], s: usize, t: usize) -> bool
+    requires { ⌜ (s < length (componentsIn (now components))) × (t < length (componentsIn (now components))) × Placed (componentsIn (now components)) (now parents) ⌝ }
     ensures { λ r. ⌜ r ≡ related (componentsIn (now (components .entry))) s t ⌝ }
 {
-    let k = component_at(components, s);
-    let l = component_at(components, t);
-    let over_s = size(k.parent);
-    let over_t = size(l.parent);
-    if t == 0 {
-        return !(s == 0) & (over_s == 0);
-    }
-    if over_t == s {
-        return true;
-    }
-    if s == 0 {
+    let over_s = size(parents[s]);
+    let over_t = size(parents[t]);
+    if s == t {
         return false;
     }
-    if over_s == t {
-        return true;
-    }
-    !(s == t) & (over_t == over_s)
+    (over_t == s) | (over_s == t) | (over_s == over_t)
 }
 
-fn coupling_fields(components: &[u8], k: Coupling) -> bool
+fn coupling_fields(components: &[u8], parents: &[u8; MAX_COMPONENTS], k: Coupling) -> bool
+    requires { ⌜ Placed (componentsIn (now components)) (now parents) ⌝ }
     ensures { λ r. ⌜ r ≡ couplingFields (componentsIn (now (components .entry))) (couplingOf k) ⌝ }
 {
     let n = model_records::component_count(components);
     let s = size(k.source);
     let t = size(k.target);
-    if n <= s {
+    if !((s < n) & (t < n) & (k.source_port < PORT_COUNT) & (k.target_port < PORT_COUNT)) {
         return false;
     }
-    if n <= t {
-        return false;
-    }
-    if !((k.source_port < PORT_COUNT) & (k.target_port < PORT_COUNT)) {
-        return false;
-    }
-    are_related(components, s, t)
+    are_related(components, parents, s, t)
 }
 
-// A row of four bytes as one number.
-fn coupling_key(k: Coupling) -> usize
+// A row of four bytes as one number: rows stand in the order of their keys.
+pub fn coupling_key(k: Coupling) -> usize
     ensures { λ r. ⌜ rowOf r ≡ couplingOf k ⌝ }
 {
     size(k.source) * 16777216
@@ -265,33 +292,25 @@ fn coupling_key(k: Coupling) -> usize
         + size(k.target_port)
 }
 
-// The order of four-byte rows.
-fn coupling_le(k: Coupling, l: Coupling) -> bool
-    ensures { λ r. ⌜ r ≡ couplingLe (couplingOf k) (couplingOf l) ⌝ }
-{
-    coupling_key(k) <= coupling_key(l)
-}
-
-fn not_falling(couplings: &[u8], i: usize) -> bool
-    ensures { λ r. ⌜ r ≡ notFalling (couplingsIn (now (couplings .entry))) i ⌝ }
-{
-    if i == 0 {
-        return true;
-    }
-    let before = coupling_at(couplings, i - 1);
-    let k = coupling_at(couplings, i);
-    coupling_le(before, k)
-}
-
-pub fn read_coupling(components: &[u8], couplings: &[u8], i: usize) -> CouplingRead
+// Row i, behind a row whose key is `before`.
+pub fn read_coupling(
+    components: &[u8],
+    parents: &[u8; MAX_COMPONENTS],
+    couplings: &[u8],
+    i: usize,
+    before: usize,
+) -> CouplingRead
+    requires { ⌜ (i < length (couplingsIn (now couplings))) × Behind (couplingsIn (now couplings)) i before × Placed (componentsIn (now components)) (now parents) ⌝ }
     ensures { λ r. ⌜ couplingRead r ≡ checked (couplingFits (componentsIn (now (components .entry))) (couplingsIn (now (couplings .entry))) i) 8 (getD (couplingsIn (now (couplings .entry))) i noCoupling) ⌝ }
 {
-    let k = coupling_at(couplings, i);
-    if coupling_fields(components, k) & not_falling(couplings, i) {
-        CouplingRead::Is(k)
-    } else {
-        CouplingRead::Refused(8)
+    let k = model_records::coupling_in(couplings, i);
+    if !coupling_fields(components, parents, k) {
+        return CouplingRead::Refused(8);
     }
+    if coupling_key(k) < before {
+        return CouplingRead::Refused(8);
+    }
+    CouplingRead::Is(k)
 }
 
 pub fn coupling_refusal(r: CouplingRead) -> u16
@@ -299,6 +318,6 @@ pub fn coupling_refusal(r: CouplingRead) -> u16
 {
     match r {
         CouplingRead::Is(_) => 0,
-        CouplingRead::Refused(n) => n,
+        CouplingRead::Refused(n) => n as u16,
     }
 }

@@ -1,5 +1,7 @@
-// The records of a model, read from the slice that holds a section's records; past its end stand zeros, so that no reader asks anything.
+// The records of a model, read from the slice that holds a section's records. A reader `.._in` asks that there is such a record; past the
+// slice's end a reader `.._at` has zeros, so that it asks nothing.
 ghost use mathlib.Core.Path.{_≡_};
+ghost use Prim.Native.Nat.{_<_};
 ghost use lib.ListN.{length, getD};
 ghost use Rattle.definition.specs.Model.{noPhase, noRule, noCoupling, componentAt, isAtomic, isChild, isSibling, phasesBefore};
 ghost use Rattle.model_records.specs.Values.{componentOf, phaseOf, ruleOf, couplingOf, componentsIn, phasesIn, rulesIn, couplingsIn};
@@ -79,19 +81,26 @@ pub fn coupling_count(couplings: &[u8]) -> usize
 
 // ---- a record by its number
 
+pub fn component_in(components: &[u8], i: usize) -> Component
+    requires { ⌜ i < length (componentsIn (now components)) ⌝ }
+    ensures { λ r. ⌜ componentOf r ≡ componentAt (componentsIn (now (components .entry))) i ⌝ }
+{
+    let at = COMPONENT_SIZE * i;
+    let r = &components[at..at + COMPONENT_SIZE];
+    Component {
+        kind: little_endian::byte_at(r, 0),
+        parent: little_endian::byte_at(r, 1),
+        phases: little_endian::byte_at(r, 2),
+        initial: little_endian::byte_at(r, 3),
+        order: little_endian::byte_at(r, 4),
+    }
+}
+
 pub fn component_at(components: &[u8], i: usize) -> Component
     ensures { λ r. ⌜ componentOf r ≡ componentAt (componentsIn (now (components .entry))) i ⌝ }
 {
-    if i < components.len() / COMPONENT_SIZE {
-        let at = COMPONENT_SIZE * i;
-        let r = &components[at..at + COMPONENT_SIZE];
-        Component {
-            kind: little_endian::byte_at(r, 0),
-            parent: little_endian::byte_at(r, 1),
-            phases: little_endian::byte_at(r, 2),
-            initial: little_endian::byte_at(r, 3),
-            order: little_endian::byte_at(r, 4),
-        }
+    if i < component_count(components) {
+        component_in(components, i)
     } else {
         Component {
             kind: 0,
@@ -103,25 +112,32 @@ pub fn component_at(components: &[u8], i: usize) -> Component
     }
 }
 
+pub fn phase_in(phases: &[u8], i: usize) -> Phase
+    requires { ⌜ i < length (phasesIn (now phases)) ⌝ }
+    ensures { λ r. ⌜ phaseOf r ≡ getD (phasesIn (now (phases .entry))) i noPhase ⌝ }
+{
+    let at = PHASE_SIZE * i;
+    let r = &phases[at..at + PHASE_SIZE];
+    Phase {
+        advance: little_endian::u32_at(r, 0),
+        next: little_endian::byte_at(r, 4),
+        count: little_endian::byte_at(r, 5),
+        port0: little_endian::byte_at(r, 6),
+        value0: little_endian::u16_at(r, 7),
+        port1: little_endian::byte_at(r, 9),
+        value1: little_endian::u16_at(r, 10),
+        port2: little_endian::byte_at(r, 12),
+        value2: little_endian::u16_at(r, 13),
+        port3: little_endian::byte_at(r, 15),
+        value3: little_endian::u16_at(r, 16),
+    }
+}
+
 pub fn phase_at(phases: &[u8], i: usize) -> Phase
     ensures { λ r. ⌜ phaseOf r ≡ getD (phasesIn (now (phases .entry))) i noPhase ⌝ }
 {
-    if i < phases.len() / PHASE_SIZE {
-        let at = PHASE_SIZE * i;
-        let r = &phases[at..at + PHASE_SIZE];
-        Phase {
-            advance: little_endian::u32_at(r, 0),
-            next: little_endian::byte_at(r, 4),
-            count: little_endian::byte_at(r, 5),
-            port0: little_endian::byte_at(r, 6),
-            value0: little_endian::u16_at(r, 7),
-            port1: little_endian::byte_at(r, 9),
-            value1: little_endian::u16_at(r, 10),
-            port2: little_endian::byte_at(r, 12),
-            value2: little_endian::u16_at(r, 13),
-            port3: little_endian::byte_at(r, 15),
-            value3: little_endian::u16_at(r, 16),
-        }
+    if i < phase_count(phases) {
+        phase_in(phases, i)
     } else {
         Phase {
             advance: 0,
@@ -139,23 +155,30 @@ pub fn phase_at(phases: &[u8], i: usize) -> Phase
     }
 }
 
+pub fn rule_in(rules: &[u8], i: usize) -> Rule
+    requires { ⌜ i < length (rulesIn (now rules)) ⌝ }
+    ensures { λ r. ⌜ ruleOf r ≡ getD (rulesIn (now (rules .entry))) i noRule ⌝ }
+{
+    let at = RULE_SIZE * i;
+    let r = &rules[at..at + RULE_SIZE];
+    Rule {
+        component: little_endian::byte_at(r, 0),
+        phase: little_endian::byte_at(r, 1),
+        next: little_endian::byte_at(r, 2),
+        port: little_endian::byte_at(r, 3),
+        low: little_endian::u16_at(r, 4),
+        high: little_endian::u16_at(r, 6),
+        least: little_endian::u16_at(r, 8),
+        low_elapsed: little_endian::u32_at(r, 10),
+        high_elapsed: little_endian::u32_at(r, 14),
+    }
+}
+
 pub fn rule_at(rules: &[u8], i: usize) -> Rule
     ensures { λ r. ⌜ ruleOf r ≡ getD (rulesIn (now (rules .entry))) i noRule ⌝ }
 {
-    if i < rules.len() / RULE_SIZE {
-        let at = RULE_SIZE * i;
-        let r = &rules[at..at + RULE_SIZE];
-        Rule {
-            component: little_endian::byte_at(r, 0),
-            phase: little_endian::byte_at(r, 1),
-            next: little_endian::byte_at(r, 2),
-            port: little_endian::byte_at(r, 3),
-            low: little_endian::u16_at(r, 4),
-            high: little_endian::u16_at(r, 6),
-            least: little_endian::u16_at(r, 8),
-            low_elapsed: little_endian::u32_at(r, 10),
-            high_elapsed: little_endian::u32_at(r, 14),
-        }
+    if i < rule_count(rules) {
+        rule_in(rules, i)
     } else {
         Rule {
             component: 0,
@@ -171,18 +194,25 @@ pub fn rule_at(rules: &[u8], i: usize) -> Rule
     }
 }
 
+pub fn coupling_in(couplings: &[u8], i: usize) -> Coupling
+    requires { ⌜ i < length (couplingsIn (now couplings)) ⌝ }
+    ensures { λ r. ⌜ couplingOf r ≡ getD (couplingsIn (now (couplings .entry))) i noCoupling ⌝ }
+{
+    let at = COUPLING_SIZE * i;
+    let r = &couplings[at..at + COUPLING_SIZE];
+    Coupling {
+        source: little_endian::byte_at(r, 0),
+        source_port: little_endian::byte_at(r, 1),
+        target: little_endian::byte_at(r, 2),
+        target_port: little_endian::byte_at(r, 3),
+    }
+}
+
 pub fn coupling_at(couplings: &[u8], i: usize) -> Coupling
     ensures { λ r. ⌜ couplingOf r ≡ getD (couplingsIn (now (couplings .entry))) i noCoupling ⌝ }
 {
-    if i < couplings.len() / COUPLING_SIZE {
-        let at = COUPLING_SIZE * i;
-        let r = &couplings[at..at + COUPLING_SIZE];
-        Coupling {
-            source: little_endian::byte_at(r, 0),
-            source_port: little_endian::byte_at(r, 1),
-            target: little_endian::byte_at(r, 2),
-            target_port: little_endian::byte_at(r, 3),
-        }
+    if i < coupling_count(couplings) {
+        coupling_in(couplings, i)
     } else {
         Coupling {
             source: 0,

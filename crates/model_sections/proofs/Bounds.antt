@@ -1,19 +1,19 @@
 -- The phase records stand atomic by atomic: record `before c + p` is phase p of component c. Assumes nothing.
 use mathlib.Core.Path.{_≡_, refl, ap, _∙_}
 use mathlib.Core.List.{List, [], _∷_, _++_, map}
-use mathlib.Core.Bool.{Bool, true, false, not}
-use Prim.Native.Nat.{ℕ, zero, suc, _+_, _<_}
+use mathlib.Core.Bool.{Bool, true, false, _||_, not}
+use Prim.Native.Nat.{ℕ, zero, suc, _+_, _≤_, _<_}
 use native.Mathlib.Omega.{arith}
 use native.Mathlib.Nat.{zero-add}
 use lib.Dec.{ltb, eqb}
 use lib.ListN.{length, getD, replicate, length-replicate, getD-replicate, List·getD-append}
 use lib.Seq.{getD-append-add}
-use borrow.Author.Tests.{eqb-true}
+use borrow.Author.Tests.{ltb-false, eqb-true, eqb-false}
 use Rattle.definition.specs.Lists.{sum, concat}
-use Rattle.definition.specs.Limits.{maxPhases}
+use Rattle.definition.specs.Limits.{maxComponents, maxPhases}
 use Rattle.definition.specs.Model.{Component, Phase, componentAt, noPhase, phasesBefore}
 use Rattle.definition.specs.Records.{bounds, phaseFields, phaseFits}
-use Rattle.definition.specs.File.{orElse, phaseCount, phaseTotal}
+use Rattle.definition.specs.File.{orElse, componentCount, phaseCount, phaseTotal}
 use Rattle.model_records.proofs.Before.{before-more, before-total}
 
 -- The bound of phase p of component c is the component's phase count.
@@ -34,6 +34,16 @@ pub phase-fits-at : (cs : List Component) (ps : List Phase) (c p i : ℕ) → c 
     → phaseFits cs ps i ≡ phaseFields (componentAt cs c .phases) (getD ps i noPhase)
 unfolding phaseFits
 phase-fits-at cs ps c p i l h e = ap (λ b. phaseFields b (getD ps i noPhase)) (ap (λ i. getD (bounds cs) i 0) e ∙ bound-at cs c p l h)
+
+-- A right count of components.
+pub component-count : (n : ℕ) → componentCount n ≡ 0 → (0 < n) × (n ≤ maxComponents)
+unfolding componentCount
+component-count n e = go (ltb maxComponents n) refl (eqb n 0) refl e
+  where
+    go : (a : Bool) → ltb maxComponents n ≡ a → (b : Bool) → eqb n 0 ≡ b → orElse (a || b) 3 0 ≡ 0 → (0 < n) × (n ≤ maxComponents)
+    go true f b g e = absurd (omega arith)
+    go false f true g e = absurd (omega arith)
+    go false f false g e = let u = ltb-false maxComponents n f in let v = eqb-false n 0 g in (omega arith, omega arith)
 
 -- A right count is the sum.
 pub count-total : (total n : ℕ) → phaseCount total n ≡ 0 → n ≡ total

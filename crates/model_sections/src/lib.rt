@@ -4,12 +4,13 @@ ghost use mathlib.Core.Path.{_≡_};
 ghost use Prim.Native.Nat.{_*_, _≤_};
 ghost use lib.ListN.{length};
 ghost use Rattle.definition.specs.Bytes.{numberOf};
-ghost use Rattle.definition.specs.Limits.{componentSize, phaseSize, ruleSize, couplingSize};
+ghost use Rattle.definition.specs.Limits.{maxComponents, componentSize, phaseSize, ruleSize, couplingSize};
 ghost use Rattle.definition.specs.Records.{toComponent, toPhase, toRule, toCoupling};
-ghost use Rattle.definition.specs.File.{sectionCount, componentCount, phaseCount, atMost, componentSection, phaseSection, ruleSection, couplingSection};
+ghost use Rattle.definition.specs.File.{sectionCount, componentCount, phaseCount, phaseTotal, atMost, componentSection, phaseSection, ruleSection, couplingSection};
 ghost use Rattle.byte_laws.specs.Parts.{partOf, restAfter};
 ghost use Rattle.model_records.specs.Values.{componentsIn};
-ghost use Rattle.model_sections.specs.Answers.{sectionRead, sectionNumber};
+ghost use Rattle.model_checks.specs.Known.{Counted, Placed};
+ghost use Rattle.model_sections.specs.Answers.{sectionRead, sectionNumber, Learnt};
 use limits::COMPONENT_SIZE;
 use limits::COUNT_SIZE;
 use limits::COUPLING_SIZE;
@@ -118,8 +119,14 @@ fn over_wrong(limit: usize, n: usize) -> u16
 
 // ---- the sections
 
-pub fn read_components(s: &[u8]) -> SectionRead
-    ensures { λ r. ⌜ sectionRead componentSize toComponent (now (s .entry)) r ≡ componentSection (now (s .entry)) ⌝ }
+// What is known of the components is left in the two arrays, for the sections after this one.
+pub fn read_components(
+    s: &[u8],
+    parents: &mut [u8; MAX_COMPONENTS],
+    phase_counts: &mut [u8; MAX_COMPONENTS],
+) -> SectionRead
+    requires { ⌜ (length (now parents) ≡ maxComponents) × (length (now «phase_counts») ≡ maxComponents) ⌝ }
+    ensures { λ r. ⌜ (sectionRead componentSize toComponent (now (s .entry)) r ≡ componentSection (now (s .entry))) × Learnt (now (s .entry)) r (now (parents .exit)) (now («phase_counts» .exit)) ⌝ }
 {
     let count = u16_at(s, 0);
     let n = size16(count);
@@ -128,26 +135,43 @@ pub fn read_components(s: &[u8]) -> SectionRead
         return SectionRead::Refused(head);
     }
     let records = section_part(s, count, COMPONENT_SIZE);
+    let mut depths = [0u8; MAX_COMPONENTS];
     let mut i: usize = 0;
     while i < n {
-        let read = model_checks::read_component(records, i);
+        let read = model_checks::read_component(records, i, phase_counts, &depths);
         let ComponentRead::Is(_) = read else {
             return SectionRead::Refused(model_checks::component_refusal(read));
         };
+        model_checks::keep_component(records, i, parents, phase_counts, &mut depths);
         i = i + 1;
     }
     SectionRead::Are(count)
 }
 
+// The sum of the phase counts.
+fn phase_total(components: &[u8], phase_counts: &[u8; MAX_COMPONENTS]) -> usize
+    requires { ⌜ Counted (componentsIn (now components)) (now «phase_counts») ⌝ }
+    ensures { λ r. ⌜ r ≡ phaseTotal (componentsIn (now (components .entry))) ⌝ }
+{
+    let owners = model_records::component_count(components);
+    let mut total: usize = 0;
+    let mut c: usize = 0;
+    while c < owners {
+        total = total + little_endian::size(phase_counts[c]);
+        c = c + 1;
+    }
+    total
+}
+
 // The phases of the components, atomic by atomic.
-pub fn read_phases(components: &[u8], s: &[u8]) -> SectionRead
-    requires { ⌜ length (componentsIn (now components)) ≤ 255 ⌝ }
+pub fn read_phases(components: &[u8], phase_counts: &[u8; MAX_COMPONENTS], s: &[u8]) -> SectionRead
+    requires { ⌜ Counted (componentsIn (now components)) (now «phase_counts») ⌝ }
     ensures { λ r. ⌜ sectionRead phaseSize toPhase (now (s .entry)) r ≡ phaseSection (componentsIn (now (components .entry))) (now (s .entry)) ⌝ }
 {
     let count = u16_at(s, 0);
     let n = size16(count);
     let owners = model_records::component_count(components);
-    let total = model_records::phases_before(components, owners as u8);
+    let total = phase_total(components, phase_counts);
     let head = head_number(s, PHASE_SIZE, phase_wrong(total, n));
     if head != 0 {
         return SectionRead::Refused(head);
@@ -156,8 +180,7 @@ pub fn read_phases(components: &[u8], s: &[u8]) -> SectionRead
     let mut i: usize = 0;
     let mut c: usize = 0;
     while c < owners {
-        let over = model_records::component_at(components, c);
-        let bound = over.phases;
+        let bound = phase_counts[c];
         let mut p: u8 = 0;
         while p < bound {
             let read = model_checks::read_phase(records, i, bound);
@@ -172,7 +195,8 @@ pub fn read_phases(components: &[u8], s: &[u8]) -> SectionRead
     SectionRead::Are(count)
 }
 
-pub fn read_rules(components: &[u8], s: &[u8]) -> SectionRead
+pub fn read_rules(components: &[u8], phase_counts: &[u8; MAX_COMPONENTS], s: &[u8]) -> SectionRead
+    requires { ⌜ Counted (componentsIn (now components)) (now «phase_counts») ⌝ }
     ensures { λ r. ⌜ sectionRead ruleSize toRule (now (s .entry)) r ≡ ruleSection (componentsIn (now (components .entry))) (now (s .entry)) ⌝ }
 {
     let count = u16_at(s, 0);
@@ -184,7 +208,7 @@ pub fn read_rules(components: &[u8], s: &[u8]) -> SectionRead
     let records = section_part(s, count, RULE_SIZE);
     let mut i: usize = 0;
     while i < n {
-        let read = model_checks::read_rule(components, records, i);
+        let read = model_checks::read_rule(components, phase_counts, records, i);
         let RuleRead::Is(_) = read else {
             return SectionRead::Refused(model_checks::rule_refusal(read));
         };
@@ -193,7 +217,8 @@ pub fn read_rules(components: &[u8], s: &[u8]) -> SectionRead
     SectionRead::Are(count)
 }
 
-pub fn read_couplings(components: &[u8], s: &[u8]) -> SectionRead
+pub fn read_couplings(components: &[u8], parents: &[u8; MAX_COMPONENTS], s: &[u8]) -> SectionRead
+    requires { ⌜ Placed (componentsIn (now components)) (now parents) ⌝ }
     ensures { λ r. ⌜ sectionRead couplingSize toCoupling (now (s .entry)) r ≡ couplingSection (componentsIn (now (components .entry))) (now (s .entry)) ⌝ }
 {
     let count = u16_at(s, 0);
@@ -204,11 +229,13 @@ pub fn read_couplings(components: &[u8], s: &[u8]) -> SectionRead
     }
     let records = section_part(s, count, COUPLING_SIZE);
     let mut i: usize = 0;
+    let mut before: usize = 0;
     while i < n {
-        let read = model_checks::read_coupling(components, records, i);
-        let CouplingRead::Is(_) = read else {
+        let read = model_checks::read_coupling(components, parents, records, i, before);
+        let CouplingRead::Is(k) = read else {
             return SectionRead::Refused(model_checks::coupling_refusal(read));
         };
+        before = model_checks::coupling_key(k);
         i = i + 1;
     }
     SectionRead::Are(count)

@@ -4,7 +4,7 @@ ghost use mathlib.Core.Path.{_≡_};
 ghost use mathlib.Core.List.{map};
 ghost use mathlib.Core.Bool.{_&&_, not};
 ghost use lib.Dec.{eqb};
-ghost use Prim.Native.Nat.{_≤_, _<_, min};
+ghost use Prim.Native.Nat.{_+_, _≤_, _<_, min};
 ghost use lib.ListN.{getD, length, set, take};
 ghost use Rattle.definition.specs.Lists.{sortBy};
 ghost use Rattle.definition.specs.Model.{messageLe};
@@ -15,6 +15,7 @@ ghost use Rattle.model_records.specs.Values.{phasesIn, rulesIn};
 ghost use Rattle.run_state.specs.Held.{held};
 ghost use Rattle.laws.specs.Keys.{messageOf};
 ghost use Rattle.pull_laws.specs.TableStep.{isUp, dueAtPosition, keysInto, rootKeys, rootRoom, changedBy, changedFrom};
+ghost use Rattle.pull_laws.specs.Tables.{numbersAt};
 ghost use Rattle.pull_laws.specs.Ranges.{InRange};
 ghost use Rattle.pull_laws.specs.Carried.{Carried};
 ghost use Rattle.simulator.specs.Simulator.{tableStep};
@@ -53,7 +54,7 @@ fn change_one(
     c: u16,
     work: &mut [u32],
 )
-    requires { ⌜ (i < maxComponents) × (c < maxComponents) × InRange (now tables)
+    requires { ⌜ (i < maxComponents) × (c < maxComponents) × InRange (now tables) × (c ≡ getD (now tables) (numbersAt + i) 0)
         × (getD (now ends) i 0 ≡ dueNumber (dueAtPosition (phasesIn (now phases)) (now tables) (held (now phase) (now last)) i)) ⌝ }
     ensures { λ _. ⌜ (held (now (phase .exit)) (now (last .exit)) ≡ changedBy (phasesIn (now (phases .entry))) (now (tables .entry)) (rulesIn (now (rules .entry))) (at .0) (held (now (phase .entry)) (now (last .entry))) i c (isUp (now (marks .entry)) c) (map messageOf (take (length (now (work .entry))) (keysInto (phasesIn (now (phases .entry))) (now (tables .entry)) (now (marks .entry)) (now (reached .entry)) (toBag (now (given .entry))) c))))
         × (now (ends .exit) ≡ set (now (ends .entry)) i (dueNumber (dueAtPosition (phasesIn (now (phases .entry))) (now (tables .entry)) (held (now (phase .exit)) (now (last .exit))) i))) ⌝ }
@@ -64,8 +65,8 @@ fn change_one(
     let k = collect_bag(phases, tables, marks, reached, given, c, work);
     let due = mark_at(marks, size16(c)) != 0;
     let bag = &work[..k];
-    transitions::transition(phases, rules, tables, phase, last, at, i, c, due, bag);
-    dues::put_end(phases, tables, phase, last, i, ends);
+    let p = transitions::transition(phases, rules, tables, phase, last, at, i, c, due, bag);
+    dues::put_end(phases, tables, c, p, last, i, ends);
 }
 
 // All atomics, one after the other: marks and flags were read before, so the order does not matter.

@@ -4,11 +4,11 @@ use mathlib.Core.List.{List}
 use mathlib.Core.Bool.{Bool, true, false, cond}
 use Prim.Native.Nat.{ℕ, zero, suc, _+_, _<_, _≤_}
 use native.Mathlib.Omega.{arith}
-use lib.ListN.{getD, length, set, length-set, List·getD-eq-default}
+use lib.ListN.{getD, length, set, length-set}
 use lib.Seq.{getD-set-same, getD-set-other}
 use lib.Dec.{ltb}
 use borrow.Author.Tests.{ltb-true, ltb-false}
-use Rattle.table_words.specs.Writes.{column, cleared, putIn}
+use Rattle.table_words.specs.Writes.{column, putIn}
 
 -- Between two tables only places from a up to b differ, and they are equally long.
 pub record Within (a b : ℕ) (s t : List ℕ) : Type 0 where
@@ -75,18 +75,6 @@ module _ (at : ℕ) (f : ℕ → ℕ) where
   unfolding column
   column-cong g zero i t h = refl
   column-cong g (suc m) i t h = rw (h i (omega arith) (omega arith)) (column-cong g m (i + 1) (set t (at + i) (g i)) (λ k a b. h k (omega arith) (omega arith)))
-
-pub cleared-long : (t : List ℕ) → length (cleared t) ≡ length t
-unfolding cleared
-cleared-long t = column-within 0 (λ i. 0) (length t) t .long
-
-pub cleared-at : (t : List ℕ) (x : ℕ) → getD (cleared t) x 0 ≡ 0
-unfolding cleared
-cleared-at t x = go (ltb x (length t)) refl
-  where
-    go : (b : Bool) → ltb x (length t) ≡ b → getD (column 0 (λ i. 0) (length t) 0 t) x 0 ≡ 0
-    go true e = let q : 0 + x ≡ x = omega arith in rw q at (column-at 0 (λ i. 0) (length t) t x (omega arith) (ltb-true x (length t) e))
-    go false e = column-within 0 (λ i. 0) (length t) t .above x (omega (arith, ltb-false x (length t) e)) ∙ List·getD-eq-default t 0 (omega (arith, ltb-false x (length t) e))
 
 -- the rows of a column that begins its table
 pub column-rows : (f : ℕ → ℕ) (n : ℕ) (s t : List ℕ) → s ≡ column 0 f n 0 t → n ≤ length t → (k : ℕ) → k < n → getD s k 0 ≡ f k

@@ -8,8 +8,7 @@ use lib.ListN.{getD, length, set, length-set, List·getD-eq-default}
 use lib.Seq.{getD-set-same, getD-set-other}
 use lib.Dec.{eqb, ltb}
 use borrow.Author.Tests.{eqb-true, eqb-false, ltb-true, ltb-false}
-use Rattle.table_words.specs.Writes.{column, cleared, putIn, linkAt, linked}
-use Rattle.table_words.proofs.Columns.{cleared-at}
+use Rattle.table_words.specs.Writes.{column, putIn, linkAt, linked}
 
 -- Nothing stands for zeros.
 module _ (P : ℕ → ℕ → Type 0) (zeros : (x : ℕ) → P x 0) where
@@ -25,9 +24,6 @@ module _ (P : ℕ → ℕ → Type 0) (zeros : (x : ℕ) → P x 0) where
           subst (λ y. P y (getD (set t p v) y 0)) (eqb-true p x e)
           (subst (P p) (sym (List·getD-eq-default (set t p v) 0 (omega (arith, length-set t p v, ltb-false p (length t) b)))) (zeros p))
       go false e b d = subst (P x) (sym (getD-set-other t p x v 0 (λ q. eqb-false p x e (sym q)))) (w x)
-
-  pub words-cleared : (t : List ℕ) → Words (cleared t)
-  words-cleared t x = subst (P x) (sym (cleared-at t x)) (zeros x)
 
   pub words-column : (at : ℕ) (f : ℕ → ℕ) (m i : ℕ) (t : List ℕ) → Words t → ((k : ℕ) → i ≤ k → k < i + m → P (at + k) (f k)) → Words (column at f m i t)
   unfolding column

@@ -2,17 +2,13 @@
 use Prim.Native.Nat.{ℕ, zero, suc, _+_}
 use mathlib.Core.List.{List}
 use mathlib.Core.Bool.{cond}
-use lib.ListN.{length, getD, set}
+use lib.ListN.{getD, set}
 use lib.Dec.{ltb}
 
 -- m numbers of a column that begins at `at`, from row i on: row i holds f i.
 unfoldable pub column : ℕ → (ℕ → ℕ) → ℕ → ℕ → List ℕ → List ℕ
 column at f zero i t = t
 column at f (suc m) i t = column at f m (i + 1) (set t (at + i) (f i))
-
--- Zeros everywhere.
-unfoldable pub cleared : List ℕ → List ℕ
-cleared t = column 0 (λ i. 0) (length t) 0 t
 
 -- Row k of a region of `size` rows that begins at `at` holds v; where there is no such row, nothing changes.
 unfoldable pub putIn : ℕ → ℕ → ℕ → ℕ → List ℕ → List ℕ

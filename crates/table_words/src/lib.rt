@@ -4,7 +4,7 @@ ghost use Prim.Native.Nat.{_+_, _<_, _≤_};
 ghost use lib.ListN.{getD, length};
 ghost use Rattle.definition.specs.Limits.{maxComponents};
 ghost use Rattle.pull_laws.specs.Tables.{siblingAt, tableSize};
-ghost use Rattle.table_words.specs.Writes.{column, cleared, putIn, linkAt, linked};
+ghost use Rattle.table_words.specs.Writes.{column, putIn, linkAt, linked};
 use limits::MAX_COMPONENTS;
 use limits::MAX_COUPLINGS;
 use limits::MAX_NODES;
@@ -83,17 +83,6 @@ pub fn mark_at(marks: &[u32; MAX_COMPONENTS], c: usize) -> u32
     ensures { λ r. ⌜ r ≡ getD (now (marks .entry)) c 0 ⌝ }
 {
     marks[c]
-}
-
-// Zeros everywhere.
-pub fn clear(t: &mut [u16])
-    ensures { λ _. ⌜ now (t .exit) ≡ cleared (now (t .entry)) ⌝ }
-{
-    let mut i: usize = 0;
-    while i < t.len() {
-        t[i] = 0;
-        i = i + 1;
-    }
 }
 
 // Row k of a region holds v, where the region has such a row.

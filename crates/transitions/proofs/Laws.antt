@@ -1,10 +1,11 @@
 -- The four cases of a transition, by whether the atomic is due and whether its bag is empty. Assumes nothing.
-use mathlib.Core.Path.{_≡_, refl}
+use mathlib.Core.Path.{_≡_, refl, sym, ap, _∙_}
 use mathlib.Core.List.{List, [], _∷_, map}
 use mathlib.Core.Bool.{true, false}
-use Prim.Native.Nat.{ℕ, _-_}
+use Prim.Native.Nat.{ℕ, _-_, _<_}
 use native.Mathlib.Omega.{arith}
-use lib.ListN.{length, getD}
+use lib.ListN.{length, getD, set}
+use lib.Seq.{getD-set-same}
 use Rattle.definition.specs.Model.{Bag, Phase, Rule}
 use Rattle.run_state.specs.declared.State.{State}
 use Rattle.run_state.specs.Held.{changedAt}
@@ -40,3 +41,8 @@ module _ (ps : List Phase) (t : List ℕ) (rs : List Rule) (now : ℕ) (st : Sta
   unfolding changedBy
   external-case [] e = absurd (e refl)
   external-case (k ∷ l) e = refl
+
+-- The phase that was put stands at its position.
+pub phase-put : (st new : State) (k i p last : ℕ) → new ≡ changedAt st k p last → k ≡ i → i < length (st .phase) → p ≡ getD (new .phase) i 0
+unfolding changedAt
+phase-put st new k i p last e q l = sym (ap (λ (s : State). getD (s .phase) i 0) e ∙ ap (λ j. getD (set (st .phase) j p) i 0) q ∙ getD-set-same (st .phase) i p 0 l)

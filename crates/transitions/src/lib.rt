@@ -2,6 +2,7 @@
 ghost use mathlib.Core.Path.{_≡_};
 ghost use mathlib.Core.List.{[], map};
 ghost use Prim.Native.Nat.{_<_};
+ghost use lib.ListN.{length, getD};
 ghost use Rattle.definition.specs.Limits.{maxComponents};
 ghost use Rattle.definition.specs.Atomic.{ledTo};
 ghost use Rattle.model_records.specs.Values.{phasesIn, rulesIn};
@@ -99,7 +100,14 @@ fn confluent(
     next_of(phases, tables, c, led)
 }
 
-// The atomic c at position i, due or not, with its bag.
+// A lent array of phases has a place for every atomic; nothing is computed.
+fn whole(phase: &[u8; MAX_COMPONENTS])
+    ensures { λ _. ⌜ length (now (phase .entry)) ≡ maxComponents ⌝ }
+{
+    let _all: &[u8] = phase;
+}
+
+// The atomic c at position i, due or not, with its bag. Its phase afterwards is the answer.
 pub fn transition(
     phases: &[u8],
     rules: &[u8],
@@ -111,25 +119,29 @@ pub fn transition(
     c: u16,
     due: bool,
     bag: &[u32],
-)
+) -> u8
     requires { ⌜ (i < maxComponents) × (c < maxComponents) ⌝ }
-    ensures { λ _. ⌜ held (now (phase .exit)) (now (last .exit)) ≡ changedBy (phasesIn (now (phases .entry))) (now (tables .entry)) (rulesIn (now (rules .entry))) (at .0) (held (now (phase .entry)) (now (last .entry))) i c due (map messageOf (now (bag .entry))) ⌝ }
+    ensures { λ r. ⌜ (held (now (phase .exit)) (now (last .exit)) ≡ changedBy (phasesIn (now (phases .entry))) (now (tables .entry)) (rulesIn (now (rules .entry))) (at .0) (held (now (phase .entry)) (now (last .entry))) i c due (map messageOf (now (bag .entry))))
+        × (r ≡ getD (now (phase .exit)) i 0) ⌝ }
 {
+    whole(phase);
     let position = size(i);
     let p = run_state::phase_at(phase, position);
     if bag.len() == 0 {
         if due {
             let next = next_of(phases, tables, c, p);
             run_state::put_at(phase, last, position, next, at);
+            return next;
         }
-        return;
+        return p;
     }
     if due {
         let next = confluent(phases, rules, tables, c, p, bag);
         run_state::put_at(phase, last, position, next, at);
-        return;
+        return next;
     }
     let elapsed = at.since(run_state::last_at(last, position));
     let led = decided(rules, tables, c, p, elapsed, bag);
     run_state::put_at(phase, last, position, led, at);
+    led
 }

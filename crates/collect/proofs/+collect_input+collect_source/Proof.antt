@@ -17,7 +17,7 @@ use Rattle.model_records.specs.Values.{phasesIn}
 use Rattle.definition.specs.Limits.{maxCouplings}
 use Rattle.definition.specs.Engine.{toBag}
 use Rattle.collect.specs.Turns.{pulledFrom}
-use Rattle.collect.proofs.Laws.{rowsFrom, both-left, chain-more, chain-end, input-root, input-none, input-open, input-shut, sent-by}
+use Rattle.collect.proofs.Laws.{rowsFrom, both-left, chain-more, chain-end, input-root, input-none, input-open, input-shut, coupled-shut, sent-by}
 use borrow.Fn.Kinds.{In}
 use borrow.Fn.PlainCycle.{Measures, is, falls, and}
 use Rattle.collect.proofs.collect_input.Reads as collect-input
@@ -82,54 +82,27 @@ abbrev collect-input-μ-loop : collect-input-lts.MeasureT-loop
 collect-input-μ-loop phases tables marks reached given depth own x buf₀ at next₀ left₀ link₀ buf next left link = left
 
 abbrev collect-input-calls : ℕ → collect-input-lts.Claims
-collect-input-calls t = (port-of-reads.Asked, port-of-reads.Learnt, put-given-reads.Asked, put-given-reads.Learnt, is-open-reads.Asked, is-open-reads.Learnt, first-link-reads.Asked, first-link-reads.Learnt, source-of-reads.Asked, source-of-reads.Learnt, collect-source-below t, collect-source.Post, next-link-reads.Asked, next-link-reads.Learnt)
+collect-input-calls t = (first-link-reads.Asked, first-link-reads.Learnt, source-of-reads.Asked, source-of-reads.Learnt, collect-source-below t, collect-source.Post, next-link-reads.Asked, next-link-reads.Learnt)
 
 abbrev collect-source-calls : ℕ → collect-source-lts.Claims
-collect-source-calls t = (collect-input-below t, collect-input.Post, is-atomic-reads.Asked, is-atomic-reads.Learnt, put-output-reads.Asked, put-output-reads.Learnt, collect-coupled-reads.Asked, collect-coupled-reads.Learnt)
-
-collect-input-port-of-requires : (t : ℕ) → collect-input-lts.Need-port-of-requires (collect-input-calls t) (collect-input-at t) collect-input.Post collect-input-Inv-loop collect-input-μ-loop
-collect-input-port-of-requires t c κs = search needs
-
-collect-input-put-given-requires : (t : ℕ) → collect-input-lts.Need-put-given-requires (collect-input-calls t) (collect-input-at t) collect-input.Post collect-input-Inv-loop collect-input-μ-loop
-collect-input-put-given-requires t c κs = search needs
-
-collect-input-same-length : (t : ℕ) → collect-input-lts.Need-same-length (collect-input-calls t) (collect-input-at t) collect-input.Post collect-input-Inv-loop collect-input-μ-loop
-collect-input-same-length t c =
-    c .before .before .put-given .kept .1 .1 .1 .0
+collect-source-calls t = (port-of-reads.Asked, port-of-reads.Learnt, put-given-reads.Asked, put-given-reads.Learnt, is-open-reads.Asked, is-open-reads.Learnt, collect-input-below t, collect-input.Post, is-atomic-reads.Asked, is-atomic-reads.Learnt, put-output-reads.Asked, put-output-reads.Learnt, collect-coupled-reads.Asked, collect-coupled-reads.Learnt)
 
 collect-input-returns : (t : ℕ) → collect-input-lts.Need-returns (collect-input-calls t) (collect-input-at t) collect-input.Post collect-input-Inv-loop collect-input-μ-loop
+unfolding puts
 collect-input-returns t c =
-    let a = c .before .before .before .before .before .before .before .before .before .args in
-    let r : isRootNode (a .x) ≡ true = unfold isRootNode in lt-ltb _ _ (c .before .before .before .before .before .if1 .taken) in
-    rw (input-root (phasesIn (now (a .phases))) (now (a .tables)) (now (a .marks)) (now (a .reached)) (toBag (now (a .given))) (a .depth) (a .x) r) (rw (c .before .before .before .before .port-of .ensures) at (c .before .before .put-given .ensures))
-
-collect-input-returns-2 : (t : ℕ) → collect-input-lts.Need-returns-2 (collect-input-calls t) (collect-input-at t) collect-input.Post collect-input-Inv-loop collect-input-μ-loop
-unfolding puts
-collect-input-returns-2 t c =
-    let a = c .before .before .before .before .before .args in
-    let r : isRootNode (a .x) ≡ false = unfold isRootNode in le-ltb _ _ (c .before .if1 .left) in
-    rw (c .if2 .taken, input-none (phasesIn (now (a .phases))) (now (a .tables)) (now (a .marks)) (now (a .reached)) (toBag (now (a .given))) (a .x) r)
-
-collect-input-is-open-requires : (t : ℕ) → collect-input-lts.Need-is-open-requires (collect-input-calls t) (collect-input-at t) collect-input.Post collect-input-Inv-loop collect-input-μ-loop
-collect-input-is-open-requires t c κs = search needs
-
-collect-input-returns-3 : (t : ℕ) → collect-input-lts.Need-returns-3 (collect-input-calls t) (collect-input-at t) collect-input.Post collect-input-Inv-loop collect-input-μ-loop
-unfolding puts
-collect-input-returns-3 t c =
-    let a = c .before .before .before .before .before .before .before .args in
-    let r : isRootNode (a .x) ≡ false = unfold isRootNode in le-ltb _ _ (c .before .before .before .if1 .left) in
-    let s : isOpen [] (now (a .tables)) (now (a .marks)) (now (a .reached)) (a .x) ≡ false = sym (c .before .is-open .ensures) ∙ not-true _ (c .if3 .taken) in
-    rw (input-shut (phasesIn (now (a .phases))) (now (a .tables)) (now (a .marks)) (now (a .reached)) (toBag (now (a .given))) (a .depth) (a .x) r s)
+    let a = c .before .before .before .before .args in
+    let r : isRootNode (a .x) ≡ false = unfold isRootNode in le-ltb _ _ (c .before .before .before .before .pre .1 .2) in
+    rw (c .if1 .taken, input-none (phasesIn (now (a .phases))) (now (a .tables)) (now (a .marks)) (now (a .reached)) (toBag (now (a .given))) (a .x) r)
 
 collect-input-first-link-requires : (t : ℕ) → collect-input-lts.Need-first-link-requires (collect-input-calls t) (collect-input-at t) collect-input.Post collect-input-Inv-loop collect-input-μ-loop
 collect-input-first-link-requires t c κs = search needs
 
 collect-input-loop-holds : (t : ℕ) → collect-input-lts.Need-loop-holds (collect-input-calls t) (collect-input-at t) collect-input.Post collect-input-Inv-loop collect-input-μ-loop
 collect-input-loop-holds t c =
-    let a = c .before .before .before .before .before .before .before .before .args in
-    let r : isRootNode (a .x) ≡ false = unfold isRootNode in le-ltb _ _ (c .before .before .before .before .if1 .left) in
-    let s : isOpen [] (now (a .tables)) (now (a .marks)) (now (a .reached)) (a .x) ≡ true = sym (c .before .before .is-open .ensures) ∙ not-false _ (c .before .if3 .left) in
-    (omega arith, rw (c .first-link .ensures) (c .before .before .before .before .before .before .before .before .pre .1 .1 .firsts (a .x) (c .before .before .before .before .before .before .before .before .pre .1 .0)), refl, rw (c .first-link .ensures) (ap (λ l. puts (a .own) l (now (a .buf), a .at)) (input-open (phasesIn (now (a .phases))) (now (a .tables)) (now (a .marks)) (now (a .reached)) (toBag (now (a .given))) (a .depth) (a .x) r (omega arith) s)))
+    let a = c .before .before .before .before .before .args in
+    let given = c .before .before .before .before .before .pre .1 in
+    let r : isRootNode (a .x) ≡ false = unfold isRootNode in le-ltb _ _ (given .2) in
+    (omega arith, rw (c .first-link .ensures) (given .1 .firsts (a .x) (given .0)), refl, rw (c .first-link .ensures) (ap (λ l. puts (a .own) l (now (a .buf), a .at)) (input-open (phasesIn (now (a .phases))) (now (a .tables)) (now (a .marks)) (now (a .reached)) (toBag (now (a .given))) (a .depth) (a .x) r (omega arith) (given .3))))
 
 collect-input-source-of-requires : (t : ℕ) → collect-input-lts.Need-source-of-requires (collect-input-calls t) (collect-input-at t) collect-input.Post collect-input-Inv-loop collect-input-μ-loop
 collect-input-source-of-requires t c κs =
@@ -140,7 +113,7 @@ collect-input-sub-collect-source t c = search needs
 
 collect-input-collect-source-requires : (t : ℕ) → collect-input-lts.Need-collect-source-requires (collect-input-calls t) (collect-input-at t) collect-input.Post collect-input-Inv-loop collect-input-μ-loop
 collect-input-collect-source-requires t c κs =
-    let r = c .before .before .before .before .before .before .before .before .before .before .before .before .pre .1 .1 in
+    let r = c .before .before .before .before .before .before .before .before .before .pre .1 .1 in
     let l = c .before .before .before .loop in
     (search needs, (rw (c .before .source-of .ensures) (r .sources (l .link) (l .inv .1)), r))
 
@@ -158,34 +131,63 @@ collect-input-loop-less t c =
 
 collect-input-loop-again : (t : ℕ) → collect-input-lts.Need-loop-again (collect-input-calls t) (collect-input-at t) collect-input.Post collect-input-Inv-loop collect-input-μ-loop
 collect-input-loop-again t c =
-    let a = c .before .before .before .before .before .before .before .before .before .before .before .before .before .before .before .before .args in
+    let a = c .before .before .before .before .before .before .before .before .before .before .before .before .before .args in
     let l = c .before .before .before .before .before .before .before .loop in
     let m = c .before .before .before .collect-source in
     let f = pulledFrom (phasesIn (now (a .phases))) (now (a .tables)) (now (a .marks)) (now (a .reached)) (toBag (now (a .given))) (a .depth - 1) in
-    (omega arith, rw (c .next-link .ensures) (c .before .before .before .before .before .before .before .before .before .before .before .before .before .before .before .before .pre .1 .1 .nexts (l .link) (l .inv .1)), m .kept .1 .1 .1 .1 .1 .1 .1 .1 .0 ∙ l .inv .2, rw (m .ensures, c .before .before .before .before .before .source-of .ensures, c .next-link .ensures) (chain-more f (now (a .tables)) (a .own) (l .left) (l .link) (l .buf, l .next) (c .before .before .before .before .before .before .loop-test .taken) ∙ l .inv .3))
+    (omega arith, rw (c .next-link .ensures) (c .before .before .before .before .before .before .before .before .before .before .before .before .before .pre .1 .1 .nexts (l .link) (l .inv .1)), m .kept .1 .1 .1 .1 .1 .1 .1 .1 .0 ∙ l .inv .2, rw (m .ensures, c .before .before .before .before .before .source-of .ensures, c .next-link .ensures) (chain-more f (now (a .tables)) (a .own) (l .left) (l .link) (l .buf, l .next) (c .before .before .before .before .before .before .loop-test .taken) ∙ l .inv .3))
 
-collect-input-same-length-2 : (t : ℕ) → collect-input-lts.Need-same-length-2 (collect-input-calls t) (collect-input-at t) collect-input.Post collect-input-Inv-loop collect-input-μ-loop
-collect-input-same-length-2 t c =
+collect-input-same-length : (t : ℕ) → collect-input-lts.Need-same-length (collect-input-calls t) (collect-input-at t) collect-input.Post collect-input-Inv-loop collect-input-μ-loop
+collect-input-same-length t c =
     c .before .loop .inv .2
 
-collect-input-returns-4 : (t : ℕ) → collect-input-lts.Need-returns-4 (collect-input-calls t) (collect-input-at t) collect-input.Post collect-input-Inv-loop collect-input-μ-loop
-collect-input-returns-4 t c =
-    let a = c .before .before .before .before .before .before .before .before .before .before .args in
+collect-input-returns-2 : (t : ℕ) → collect-input-lts.Need-returns-2 (collect-input-calls t) (collect-input-at t) collect-input.Post collect-input-Inv-loop collect-input-μ-loop
+collect-input-returns-2 t c =
+    let a = c .before .before .before .before .before .before .before .args in
     let l = c .before .loop in
     let f = pulledFrom (phasesIn (now (a .phases))) (now (a .tables)) (now (a .marks)) (now (a .reached)) (toBag (now (a .given))) (a .depth - 1) in
     sym (chain-end f (now (a .tables)) (a .own) (l .left) (l .link) (l .buf, l .next) (c .loop-test .left)) ∙ l .inv .3
 
-collect-source-collect-input-requires : (t : ℕ) → collect-source-lts.Need-collect-input-requires (collect-source-calls t) (collect-source-at t) collect-source.Post
-collect-source-collect-input-requires t c κs = search needs
+collect-source-port-of-requires : (t : ℕ) → collect-source-lts.Need-port-of-requires (collect-source-calls t) (collect-source-at t) collect-source.Post
+collect-source-port-of-requires t c κs = search needs
+
+collect-source-put-given-requires : (t : ℕ) → collect-source-lts.Need-put-given-requires (collect-source-calls t) (collect-source-at t) collect-source.Post
+collect-source-put-given-requires t c κs = search needs
 
 collect-source-same-length : (t : ℕ) → collect-source-lts.Need-same-length (collect-source-calls t) (collect-source-at t) collect-source.Post
 collect-source-same-length t c =
-    c .before .before .collect-input .kept .1 .1 .1 .1 .1 .1 .1 .1 .0
+    c .before .before .put-given .kept .1 .1 .1 .0
 
 collect-source-returns : (t : ℕ) → collect-source-lts.Need-returns (collect-source-calls t) (collect-source-at t) collect-source.Post
 unfolding sourceIn isOutput
 collect-source-returns t c =
-    rw (lt-ltb _ _ (c .before .before .before .before .if1 .taken)) (c .before .before .collect-input .ensures)
+    let a = c .before .before .before .before .before .before .before .before .before .before .args in
+    let r : isRootNode (a .y) ≡ true = unfold isRootNode in lt-ltb _ _ (c .before .before .before .before .before .if2 .taken) in
+    rw (lt-ltb _ _ (c .before .before .before .before .before .before .if1 .taken), input-root (phasesIn (now (a .phases))) (now (a .tables)) (now (a .marks)) (now (a .reached)) (toBag (now (a .given))) (a .depth) (a .y) r) (rw (c .before .before .before .before .port-of .ensures) at (c .before .before .put-given .ensures))
+
+collect-source-is-open-requires : (t : ℕ) → collect-source-lts.Need-is-open-requires (collect-source-calls t) (collect-source-at t) collect-source.Post
+collect-source-is-open-requires t c κs = search needs
+
+collect-source-returns-2 : (t : ℕ) → collect-source-lts.Need-returns-2 (collect-source-calls t) (collect-source-at t) collect-source.Post
+unfolding sourceIn isOutput puts
+collect-source-returns-2 t c =
+    let a = c .before .before .before .before .before .before .before .args in
+    let r : isRootNode (a .y) ≡ false = unfold isRootNode in le-ltb _ _ (c .before .before .if2 .left) in
+    rw (lt-ltb _ _ (c .before .before .before .if1 .taken), input-shut (phasesIn (now (a .phases))) (now (a .tables)) (now (a .marks)) (now (a .reached)) (toBag (now (a .given))) (a .depth) (a .y) r (sym (c .before .is-open .ensures) ∙ not-true _ (c .if3 .taken)))
+
+collect-source-collect-input-requires : (t : ℕ) → collect-source-lts.Need-collect-input-requires (collect-source-calls t) (collect-source-at t) collect-source.Post
+collect-source-collect-input-requires t c κs =
+    let given = c .before .before .before .before .before .before .before .before .pre .1 in
+    (search needs, (given .0, given .1, c .before .before .before .if2 .left, sym (c .before .before .is-open .ensures) ∙ not-false _ (c .before .if3 .left)))
+
+collect-source-same-length-2 : (t : ℕ) → collect-source-lts.Need-same-length-2 (collect-source-calls t) (collect-source-at t) collect-source.Post
+collect-source-same-length-2 t c =
+    c .before .before .collect-input .kept .1 .1 .1 .1 .1 .1 .1 .1 .0
+
+collect-source-returns-3 : (t : ℕ) → collect-source-lts.Need-returns-3 (collect-source-calls t) (collect-source-at t) collect-source.Post
+unfolding sourceIn isOutput
+collect-source-returns-3 t c =
+    rw (lt-ltb _ _ (c .before .before .before .before .before .before .before .if1 .taken)) (c .before .before .collect-input .ensures)
 
 collect-source-is-atomic-requires : (t : ℕ) → collect-source-lts.Need-is-atomic-requires (collect-source-calls t) (collect-source-at t) collect-source.Post
 collect-source-is-atomic-requires t c κs = search needs
@@ -193,37 +195,42 @@ collect-source-is-atomic-requires t c κs = search needs
 collect-source-put-output-requires : (t : ℕ) → collect-source-lts.Need-put-output-requires (collect-source-calls t) (collect-source-at t) collect-source.Post
 collect-source-put-output-requires t c κs = search needs
 
-collect-source-same-length-2 : (t : ℕ) → collect-source-lts.Need-same-length-2 (collect-source-calls t) (collect-source-at t) collect-source.Post
-collect-source-same-length-2 t c =
-    c .before .before .put-output .kept .1 .1 .1 .1 .0
-
-collect-source-returns-2 : (t : ℕ) → collect-source-lts.Need-returns-2 (collect-source-calls t) (collect-source-at t) collect-source.Post
-unfolding sourceIn isOutput childOut
-collect-source-returns-2 t c =
-    let a = c .before .before .before .before .before .before .before .before .before .before .args in
-    rw (le-ltb _ _ (c .before .before .before .before .before .before .if1 .left), sym (c .before .before .before .before .before .is-atomic .ensures) ∙ c .before .before .before .before .if2 .taken, ← sent-by (phasesIn (now (a .phases))) (now (a .tables)) (now (a .marks)) (a .y)) (c .before .before .put-output .ensures)
-
-collect-source-collect-coupled-requires : (t : ℕ) → collect-source-lts.Need-collect-coupled-requires (collect-source-calls t) (collect-source-at t) collect-source.Post
-collect-source-collect-coupled-requires t c κs = search needs
-
 collect-source-same-length-3 : (t : ℕ) → collect-source-lts.Need-same-length-3 (collect-source-calls t) (collect-source-at t) collect-source.Post
 collect-source-same-length-3 t c =
+    c .before .before .put-output .kept .1 .1 .1 .1 .0
+
+collect-source-returns-4 : (t : ℕ) → collect-source-lts.Need-returns-4 (collect-source-calls t) (collect-source-at t) collect-source.Post
+unfolding sourceIn isOutput childOut
+collect-source-returns-4 t c =
+    let a = c .before .before .before .before .before .before .before .before .before .before .args in
+    rw (le-ltb _ _ (c .before .before .before .before .before .before .if1 .left), sym (c .before .before .before .before .before .is-atomic .ensures) ∙ c .before .before .before .before .if4 .taken, ← sent-by (phasesIn (now (a .phases))) (now (a .tables)) (now (a .marks)) (a .y)) (c .before .before .put-output .ensures)
+
+collect-source-is-open-requires-2 : (t : ℕ) → collect-source-lts.Need-is-open-requires-2 (collect-source-calls t) (collect-source-at t) collect-source.Post
+collect-source-is-open-requires-2 t c κs = search needs
+
+collect-source-returns-5 : (t : ℕ) → collect-source-lts.Need-returns-5 (collect-source-calls t) (collect-source-at t) collect-source.Post
+unfolding sourceIn isOutput childOut puts
+collect-source-returns-5 t c =
+    let a = c .before .before .before .before .before .before .before .before .args in
+    rw (le-ltb _ _ (c .before .before .before .before .if1 .left), sym (c .before .before .before .is-atomic .ensures) ∙ c .before .before .if4 .left, coupled-shut (phasesIn (now (a .phases))) (now (a .tables)) (now (a .marks)) (now (a .reached)) 8 (a .y) (sym (c .before .is-open2 .ensures) ∙ not-true _ (c .if5 .taken)))
+
+collect-source-collect-coupled-requires : (t : ℕ) → collect-source-lts.Need-collect-coupled-requires (collect-source-calls t) (collect-source-at t) collect-source.Post
+collect-source-collect-coupled-requires t c κs =
+    let given = c .before .before .before .before .before .before .before .before .before .pre .1 in
+    (given .0, given .1, sym (c .before .before .is-open2 .ensures) ∙ not-false _ (c .before .if5 .left))
+
+collect-source-same-length-4 : (t : ℕ) → collect-source-lts.Need-same-length-4 (collect-source-calls t) (collect-source-at t) collect-source.Post
+collect-source-same-length-4 t c =
     c .before .before .collect-coupled .kept .1 .1 .1 .1 .1 .1 .1 .0
 
-collect-source-returns-3 : (t : ℕ) → collect-source-lts.Need-returns-3 (collect-source-calls t) (collect-source-at t) collect-source.Post
+collect-source-returns-6 : (t : ℕ) → collect-source-lts.Need-returns-6 (collect-source-calls t) (collect-source-at t) collect-source.Post
 unfolding sourceIn isOutput childOut
-collect-source-returns-3 t c =
-    rw (le-ltb _ _ (c .before .before .before .before .before .before .if1 .left), sym (c .before .before .before .before .before .is-atomic .ensures) ∙ c .before .before .before .before .if2 .left) (c .before .before .collect-coupled .ensures)
+collect-source-returns-6 t c =
+    rw (le-ltb _ _ (c .before .before .before .before .before .before .before .before .if1 .left), sym (c .before .before .before .before .before .before .before .is-atomic .ensures) ∙ c .before .before .before .before .before .before .if4 .left) (c .before .before .collect-coupled .ensures)
 
 pub +collect-input+collect-source-spec : {M : Type 1} → statement M
 +collect-input+collect-source-spec =
     close μ-collect-input μ-collect-source (λ t. collect-input-lts.spec (
-      port-of-reads.Asked,
-      port-of-reads.Learnt,
-      put-given-reads.Asked,
-      put-given-reads.Learnt,
-      is-open-reads.Asked,
-      is-open-reads.Learnt,
       first-link-reads.Asked,
       first-link-reads.Learnt,
       source-of-reads.Asked,
@@ -237,13 +244,7 @@ pub +collect-input+collect-source-spec : {M : Type 1} → statement M
     collect-input.Post
     collect-input-Inv-loop
     collect-input-μ-loop
-    (collect-input-port-of-requires t)
-    (collect-input-put-given-requires t)
-    (collect-input-same-length t)
     (collect-input-returns t)
-    (collect-input-returns-2 t)
-    (collect-input-is-open-requires t)
-    (collect-input-returns-3 t)
     (collect-input-first-link-requires t)
     (collect-input-loop-holds t)
     (collect-input-source-of-requires t)
@@ -253,9 +254,15 @@ pub +collect-input+collect-source-spec : {M : Type 1} → statement M
     (collect-input-sub-left t)
     (collect-input-loop-less t)
     (collect-input-loop-again t)
-    (collect-input-same-length-2 t)
-    (collect-input-returns-4 t))
+    (collect-input-same-length t)
+    (collect-input-returns-2 t))
     λ t. collect-source-lts.spec (
+      port-of-reads.Asked,
+      port-of-reads.Learnt,
+      put-given-reads.Asked,
+      put-given-reads.Learnt,
+      is-open-reads.Asked,
+      is-open-reads.Learnt,
       collect-input-below t,
       collect-input.Post,
       is-atomic-reads.Asked,
@@ -267,13 +274,21 @@ pub +collect-input+collect-source-spec : {M : Type 1} → statement M
     )
     (collect-source-at t)
     collect-source.Post
-    (collect-source-collect-input-requires t)
+    (collect-source-port-of-requires t)
+    (collect-source-put-given-requires t)
     (collect-source-same-length t)
     (collect-source-returns t)
+    (collect-source-is-open-requires t)
+    (collect-source-returns-2 t)
+    (collect-source-collect-input-requires t)
+    (collect-source-same-length-2 t)
+    (collect-source-returns-3 t)
     (collect-source-is-atomic-requires t)
     (collect-source-put-output-requires t)
-    (collect-source-same-length-2 t)
-    (collect-source-returns-2 t)
-    (collect-source-collect-coupled-requires t)
     (collect-source-same-length-3 t)
-    (collect-source-returns-3 t)
+    (collect-source-returns-4 t)
+    (collect-source-is-open-requires-2 t)
+    (collect-source-returns-5 t)
+    (collect-source-collect-coupled-requires t)
+    (collect-source-same-length-4 t)
+    (collect-source-returns-6 t)

@@ -3,7 +3,7 @@ use borrow.Author.Needs.{needs}
 use Rattle.collect.proofs.Laws.{coupled-shut}
 use Rattle.pull_laws.specs.Put.{puts}
 use Rattle.model_records.specs.Values.{phasesIn}
-use borrow.Author.Tests.{not-true}
+use borrow.Author.Tests.{not-true, not-false}
 use mathlib.Core.Path.{sym, _∙_}
 use denote.Ref.{now}
 use Rattle.collect.proofs.collect_leaving.Statement.{statement}
@@ -19,7 +19,9 @@ returns c =
     rw (coupled-shut (phasesIn (now (a .phases))) (now (a .tables)) (now (a .marks)) (now (a .reached)) 8 (a .x) (sym (c .before .is-open .ensures) ∙ not-true _ (c .if1 .taken)))
 
 collect-coupled-requires : tie.Need-collect-coupled-requires
-collect-coupled-requires c κs = search needs
+collect-coupled-requires c κs =
+    let given = c .before .before .before .before .before .pre in
+    (given .0, given .1, sym (c .before .before .is-open .ensures) ∙ not-false _ (c .before .if1 .left))
 
 same-length : tie.Need-same-length
 same-length c =

@@ -1,24 +1,48 @@
 -- One position is written.
 use borrow.Author.Needs.{needs}
+use mathlib.Core.Path.{_≡_, _∙_, ap}
+use lib.ListN.{getD}
+use denote.Ref.{now}
+use Rattle.definition.specs.Engine.{dueNumber}
+use Rattle.model_records.specs.Values.{phasesIn}
+use Rattle.pull_laws.specs.TableStep.{dueIn}
 use Rattle.dues.proofs.put_end.Statement.{statement}
 use Rattle.dues.proofs.put_end.Tie as tie
 
+-- src/lib.rt:76:9
 size-requires : tie.Need-size-requires
 size-requires c κs = search needs
 
-end-at-requires : tie.Need-end-at-requires
-end-at-requires c κs = search needs
+-- src/lib.rt:77:48
+last-at-requires : tie.Need-last-at-requires
+last-at-requires c κs = search needs
 
+-- src/lib.rt:77:16
+end-since-requires : tie.Need-end-since-requires
+end-since-requires c κs = search needs
+
+-- src/lib.rt:77:5
 mul-ends : tie.Need-mul-ends
 mul-ends c = search needs
 
+-- src/lib.rt:77:5
 element-write-ends : tie.Need-element-write-ends
 element-write-ends c = search needs
 
+-- src/lib.rt:64:1
 returns : tie.Need-returns
 returns c =
-    rw (c .before .size .ensures, c .end-at .ensures)
+    let a = c .before .before .before .before .args in
+    let since : c .before .last-at .result .0 ≡ getD (now (a .last)) (a .i) 0 = c .before .last-at .ensures ∙ ap (λ k. getD (now (a .last)) k 0) (c .before .before .size .ensures) in
+    rw (c .before .before .size .ensures, c .end-since .ensures ∙ ap (λ k. dueNumber (dueIn (phasesIn (now (a .phases))) (now (a .tables)) (a .c) (a .p) k)) since)
 
 pub put-end-spec : {M : Type 1} → statement M
 put-end-spec =
-    tie.close (tie.spec size-requires end-at-requires mul-ends element-write-ends returns)
+    tie.close
+    (tie.spec
+    size-requires
+    last-at-requires
+    end-since-requires
+    mul-ends
+    element-write-ends
+    returns)

@@ -1,60 +1,67 @@
 -- `model::decode_model` meets its contract. After each section the definition has left to do what the code has left (read-1 to read-4, by
--- section-on); a refusal ends both with the same number (section-off). The records are those of the four parts. Assumes nothing.
+-- section-on); a refusal ends both with the same number (section-off). What the components' section has learnt is what the others ask for
+-- (known). The records are those of the four parts. Assumes nothing.
 use borrow.Author.Needs.{needs}
-use native.Mathlib.Omega.{arith}
-use mathlib.Core.Path.{_≡_, sym, ap, _∙_}
+use mathlib.Core.Path.{_≡_, sym, _∙_}
 use denote.Ref.{now}
 use borrow.Author.Tests.{lt-ltb, le-ltb}
 use Rattle.definition.specs.File.{decode, endOfFile}
 use Rattle.definition.specs.Records.{toComponent, toPhase, toRule, toCoupling}
 use Rattle.byte_laws.specs.Parts.{partOf}
-use Rattle.model_sections.specs.Answers.{sectionRead}
 use Rattle.model_records.specs.Values.{componentsIn, phasesIn, rulesIn, couplingsIn, modelIn}
+use Rattle.model_checks.specs.Known.{Counted, Placed}
 use Rattle.model.specs.Checked.{modelOf, componentsPart, phasesPart, rulesPart, couplingsPart, afterComponents, afterPhases, afterRules}
-use Rattle.model.proofs.Chain.{fromPhases, fromRules, fromCouplings, fromEnd, decode-from, component-limit, section-on, section-off}
+use Rattle.model.proofs.Chain.{fromPhases, fromRules, fromCouplings, fromEnd, decode-from, known, section-on, section-off}
 use Rattle.model.proofs.decode_model.Statement.{statement}
 use Rattle.model.proofs.decode_model.Tie as tie
 
 -- What is left to decode after each section.
-read-1 : (c : tie.After-section-rest) → decode (now (c .before .before .before .before .before .before .before .args .file)) ≡ fromPhases (componentsIn (now (c .before .section-part .result))) (now (c .section-rest .result))
+read-1 : (c : tie.After-section-rest) → decode (now (c .before .before .before .before .before .before .before .before .before .args .file)) ≡ fromPhases (componentsIn (now (c .before .section-part .result))) (now (c .section-rest .result))
 unfolding componentsIn
 read-1 c =
-    decode-from (now (c .before .before .before .before .before .before .before .args .file))
-    ∙ section-on 5 toComponent (now (c .before .before .before .before .before .before .before .args .file)) (λ a. fromPhases (a .records) (a .rest)) (c .before .before .before .before .before .read-components .ensures) (c .before .before .before .first .given .1)
+    decode-from (now (c .before .before .before .before .before .before .before .before .before .args .file))
+    ∙ section-on 5 toComponent (now (c .before .before .before .before .before .before .before .before .before .args .file)) (λ a. fromPhases (a .records) (a .rest)) (c .before .before .before .before .before .read-components .ensures .0) (c .before .before .before .first .given .1)
     ∙ rw (c .before .section-part .ensures, c .section-rest .ensures)
 
-read-2 : (c : tie.After-section-rest2) → decode (now (c .before .before .before .before .before .before .before .before .before .before .before .before .args .file))
-    ≡ fromRules (componentsIn (now (c .before .before .before .before .before .before .section-part .result))) (phasesIn (partOf 18 (c .before .before .second .given .0 .0) (now (c .before .before .before .before .before .section-rest .result)))) (now (c .section-rest2 .result))
+read-2 : (c : tie.After-section-rest2) → decode (now (c .before .before .before .before .before .before .before .before .before .before .before .before .before .before .before .args .file))
+    ≡ fromRules (componentsIn (now (c .before .before .before .before .before .before .before .section-part .result))) (phasesIn (partOf 18 (c .before .before .second .given .0 .0) (now (c .before .before .before .before .before .before .section-rest .result)))) (now (c .section-rest2 .result))
 unfolding fromPhases phasesIn
 read-2 c =
-    let cs = componentsIn (now (c .before .before .before .before .before .before .section-part .result)) in
-    read-1 (c .before .before .before .before .before)
-    ∙ section-on 18 toPhase (now (c .before .before .before .before .before .section-rest .result)) (λ b. fromRules cs (b .records) (b .rest)) (c .before .before .before .before .read-phases .ensures) (c .before .before .second .given .1)
+    let cs = componentsIn (now (c .before .before .before .before .before .before .before .section-part .result)) in
+    read-1 (c .before .before .before .before .before .before)
+    ∙ section-on 18 toPhase (now (c .before .before .before .before .before .before .section-rest .result)) (λ b. fromRules cs (b .records) (b .rest)) (c .before .before .before .before .read-phases .ensures) (c .before .before .second .given .1)
     ∙ rw (c .section-rest2 .ensures)
 
-read-3 : (c : tie.After-section-rest3) → decode (now (c .before .before .before .before .before .before .before .before .before .before .before .before .before .before .before .before .before .args .file))
-    ≡ fromCouplings (componentsIn (now (c .before .before .before .before .before .before .before .before .before .before .before .section-part .result))) (phasesIn (partOf 18 (c .before .before .before .before .before .before .before .second .given .0 .0) (now (c .before .before .before .before .before .before .before .before .before .before .section-rest .result))))
-    (rulesIn (partOf 18 (c .before .before .third .given .0 .0) (now (c .before .before .before .before .before .section-rest2 .result)))) (now (c .section-rest3 .result))
+read-3 : (c : tie.After-section-rest3) → decode (now (c .before .before .before .before .before .before .before .before .before .before .before .before .before .before .before .before .before .before .before .before .before .args .file))
+    ≡ fromCouplings (componentsIn (now (c .before .before .before .before .before .before .before .before .before .before .before .before .before .section-part .result))) (phasesIn (partOf 18 (c .before .before .before .before .before .before .before .before .second .given .0 .0) (now (c .before .before .before .before .before .before .before .before .before .before .before .before .section-rest .result))))
+    (rulesIn (partOf 18 (c .before .before .third .given .0 .0) (now (c .before .before .before .before .before .before .section-rest2 .result)))) (now (c .section-rest3 .result))
 unfolding fromRules rulesIn
 read-3 c =
-    let cs = componentsIn (now (c .before .before .before .before .before .before .before .before .before .before .before .section-part .result)) in
-    let ps = phasesIn (partOf 18 (c .before .before .before .before .before .before .before .second .given .0 .0) (now (c .before .before .before .before .before .before .before .before .before .before .section-rest .result))) in
-    read-2 (c .before .before .before .before .before)
-    ∙ section-on 18 toRule (now (c .before .before .before .before .before .section-rest2 .result)) (λ b. fromCouplings cs ps (b .records) (b .rest)) (c .before .before .before .before .read-rules .ensures) (c .before .before .third .given .1)
+    let cs = componentsIn (now (c .before .before .before .before .before .before .before .before .before .before .before .before .before .section-part .result)) in
+    let ps = phasesIn (partOf 18 (c .before .before .before .before .before .before .before .before .second .given .0 .0) (now (c .before .before .before .before .before .before .before .before .before .before .before .before .section-rest .result))) in
+    read-2 (c .before .before .before .before .before .before)
+    ∙ section-on 18 toRule (now (c .before .before .before .before .before .before .section-rest2 .result)) (λ b. fromCouplings cs ps (b .records) (b .rest)) (c .before .before .before .before .read-rules .ensures) (c .before .before .third .given .1)
     ∙ rw (c .section-rest3 .ensures)
 
-read-4 : (c : tie.After-section-rest4) → decode (now (c .before .before .before .before .before .before .before .before .before .before .before .before .before .before .before .before .before .before .before .before .before .before .args .file))
-    ≡ fromEnd (componentsIn (now (c .before .before .before .before .before .before .before .before .before .before .before .before .before .before .before .before .section-part .result))) (phasesIn (partOf 18 (c .before .before .before .before .before .before .before .before .before .before .before .before .second .given .0 .0) (now (c .before .before .before .before .before .before .before .before .before .before .before .before .before .before .before .section-rest .result))))
-    (rulesIn (partOf 18 (c .before .before .before .before .before .before .before .third .given .0 .0) (now (c .before .before .before .before .before .before .before .before .before .before .section-rest2 .result)))) (couplingsIn (partOf 4 (c .before .before .fourth .given .0 .0) (now (c .before .before .before .before .before .section-rest3 .result))))
+read-4 : (c : tie.After-section-rest4) → decode (now (c .before .before .before .before .before .before .before .before .before .before .before .before .before .before .before .before .before .before .before .before .before .before .before .before .before .before .before .args .file))
+    ≡ fromEnd (componentsIn (now (c .before .before .before .before .before .before .before .before .before .before .before .before .before .before .before .before .before .before .before .section-part .result))) (phasesIn (partOf 18 (c .before .before .before .before .before .before .before .before .before .before .before .before .before .before .second .given .0 .0) (now (c .before .before .before .before .before .before .before .before .before .before .before .before .before .before .before .before .before .before .section-rest .result))))
+    (rulesIn (partOf 18 (c .before .before .before .before .before .before .before .before .third .given .0 .0) (now (c .before .before .before .before .before .before .before .before .before .before .before .before .section-rest2 .result)))) (couplingsIn (partOf 4 (c .before .before .fourth .given .0 .0) (now (c .before .before .before .before .before .before .section-rest3 .result))))
     (now (c .section-rest4 .result))
 unfolding fromCouplings couplingsIn
 read-4 c =
-    let cs = componentsIn (now (c .before .before .before .before .before .before .before .before .before .before .before .before .before .before .before .before .section-part .result)) in
-    let ps = phasesIn (partOf 18 (c .before .before .before .before .before .before .before .before .before .before .before .before .second .given .0 .0) (now (c .before .before .before .before .before .before .before .before .before .before .before .before .before .before .before .section-rest .result))) in
-    let rs = rulesIn (partOf 18 (c .before .before .before .before .before .before .before .third .given .0 .0) (now (c .before .before .before .before .before .before .before .before .before .before .section-rest2 .result))) in
-    read-3 (c .before .before .before .before .before)
-    ∙ section-on 4 toCoupling (now (c .before .before .before .before .before .section-rest3 .result)) (λ b. fromEnd cs ps rs (b .records) (b .rest)) (c .before .before .before .before .read-couplings .ensures) (c .before .before .fourth .given .1)
+    let cs = componentsIn (now (c .before .before .before .before .before .before .before .before .before .before .before .before .before .before .before .before .before .before .before .section-part .result)) in
+    let ps = phasesIn (partOf 18 (c .before .before .before .before .before .before .before .before .before .before .before .before .before .before .second .given .0 .0) (now (c .before .before .before .before .before .before .before .before .before .before .before .before .before .before .before .before .before .before .section-rest .result))) in
+    let rs = rulesIn (partOf 18 (c .before .before .before .before .before .before .before .before .third .given .0 .0) (now (c .before .before .before .before .before .before .before .before .before .before .before .before .section-rest2 .result))) in
+    read-3 (c .before .before .before .before .before .before)
+    ∙ section-on 4 toCoupling (now (c .before .before .before .before .before .before .section-rest3 .result)) (λ b. fromEnd cs ps rs (b .records) (b .rest)) (c .before .before .before .before .read-couplings .ensures) (c .before .before .fourth .given .1)
     ∙ rw (c .section-rest4 .ensures)
+
+-- What the arrays hold after the first section.
+learnt : (c : tie.After-section-rest)
+    → Placed (componentsIn (now (c .before .section-part .result))) (c .before .before .before .before .before .read-components .last .1 .0)
+    × Counted (componentsIn (now (c .before .section-part .result))) (c .before .before .before .before .before .read-components .last .1 .1 .0)
+learnt c =
+    known (now (c .before .before .before .before .before .before .before .before .before .args .file)) (c .before .before .before .first .given .0 .0) _ _ (c .before .before .before .before .before .read-components .ensures .1) (c .before .before .before .first .given .1) (c .before .section-part .ensures)
 
 read-components-requires : tie.Need-read-components-requires
 read-components-requires c κs = search needs
@@ -70,7 +77,7 @@ section-refusal-requires c κs = search needs
 
 returns : tie.Need-returns
 returns c =
-    section-off 5 toComponent (now (c .before .before .before .before .before .args .file)) (λ a. fromPhases (a .records) (a .rest)) (c .before .before .before .read-components .ensures) (c .before .enum-told .given .1) (c .section-refusal .ensures) ∙ sym (decode-from (now (c .before .before .before .before .before .args .file)))
+    section-off 5 toComponent (now (c .before .before .before .before .before .before .before .args .file)) (λ a. fromPhases (a .records) (a .rest)) (c .before .before .before .read-components .ensures .0) (c .before .enum-told .given .1) (c .section-refusal .ensures) ∙ sym (decode-from (now (c .before .before .before .before .before .before .before .args .file)))
 
 section-part-requires : tie.Need-section-part-requires
 section-part-requires c κs = search needs
@@ -79,10 +86,7 @@ section-rest-requires : tie.Need-section-rest-requires
 section-rest-requires c κs = search needs
 
 read-phases-requires : tie.Need-read-phases-requires
-unfolding componentsIn
-read-phases-requires c κs =
-    let h = component-limit (now (c .before .before .before .before .before .before .before .args .file)) (sym (c .before .before .before .before .before .read-components .ensures) ∙ ap (sectionRead 5 toComponent (now (c .before .before .before .before .before .before .before .args .file))) (c .before .before .before .first .given .1)) in
-    rw (c .before .section-part .ensures) (omega arith)
+read-phases-requires c κs = learnt (c .before) .1
 
 enum-known-second : tie.Need-enum-known-second
 enum-known-second c = search needs
@@ -96,15 +100,15 @@ section-refusal-requires-2 c κs = search needs
 returns-2 : tie.Need-returns-2
 unfolding fromPhases
 returns-2 c =
-    let cs = componentsIn (now (c .before .before .before .before .before .section-part .result)) in
-    section-off 18 toPhase (now (c .before .before .before .before .section-rest .result)) (λ b. fromRules cs (b .records) (b .rest)) (c .before .before .before .read-phases .ensures) (c .before .enum-told2 .given .1) (c .section-refusal2 .ensures)
-    ∙ sym (read-1 (c .before .before .before .before))
+    let cs = componentsIn (now (c .before .before .before .before .before .before .section-part .result)) in
+    section-off 18 toPhase (now (c .before .before .before .before .before .section-rest .result)) (λ b. fromRules cs (b .records) (b .rest)) (c .before .before .before .read-phases .ensures) (c .before .enum-told2 .given .1) (c .section-refusal2 .ensures)
+    ∙ sym (read-1 (c .before .before .before .before .before))
 
 section-rest-requires-2 : tie.Need-section-rest-requires-2
 section-rest-requires-2 c κs = search needs
 
 read-rules-requires : tie.Need-read-rules-requires
-read-rules-requires c κs = search needs
+read-rules-requires c κs = learnt (c .before .before .before .before .before .before .before) .1
 
 enum-known-third : tie.Need-enum-known-third
 enum-known-third c = search needs
@@ -118,16 +122,16 @@ section-refusal-requires-3 c κs = search needs
 returns-3 : tie.Need-returns-3
 unfolding fromRules
 returns-3 c =
-    let cs = componentsIn (now (c .before .before .before .before .before .before .before .before .before .before .section-part .result)) in
-    let ps = phasesIn (partOf 18 (c .before .before .before .before .before .before .second .given .0 .0) (now (c .before .before .before .before .before .before .before .before .before .section-rest .result))) in
-    section-off 18 toRule (now (c .before .before .before .before .section-rest2 .result)) (λ b. fromCouplings cs ps (b .records) (b .rest)) (c .before .before .before .read-rules .ensures) (c .before .enum-told3 .given .1) (c .section-refusal3 .ensures)
-    ∙ sym (read-2 (c .before .before .before .before))
+    let cs = componentsIn (now (c .before .before .before .before .before .before .before .before .before .before .before .before .section-part .result)) in
+    let ps = phasesIn (partOf 18 (c .before .before .before .before .before .before .before .second .given .0 .0) (now (c .before .before .before .before .before .before .before .before .before .before .before .section-rest .result))) in
+    section-off 18 toRule (now (c .before .before .before .before .before .section-rest2 .result)) (λ b. fromCouplings cs ps (b .records) (b .rest)) (c .before .before .before .read-rules .ensures) (c .before .enum-told3 .given .1) (c .section-refusal3 .ensures)
+    ∙ sym (read-2 (c .before .before .before .before .before))
 
 section-rest-requires-3 : tie.Need-section-rest-requires-3
 section-rest-requires-3 c κs = search needs
 
 read-couplings-requires : tie.Need-read-couplings-requires
-read-couplings-requires c κs = search needs
+read-couplings-requires c κs = learnt (c .before .before .before .before .before .before .before .before .before .before .before .before .before) .0
 
 enum-known-fourth : tie.Need-enum-known-fourth
 enum-known-fourth c = search needs
@@ -141,24 +145,23 @@ section-refusal-requires-4 c κs = search needs
 returns-4 : tie.Need-returns-4
 unfolding fromCouplings
 returns-4 c =
-    let cs = componentsIn (now (c .before .before .before .before .before .before .before .before .before .before .before .before .before .before .before .section-part .result)) in
-    let ps = phasesIn (partOf 18 (c .before .before .before .before .before .before .before .before .before .before .before .second .given .0 .0) (now (c .before .before .before .before .before .before .before .before .before .before .before .before .before .before .section-rest .result))) in
-    let rs = rulesIn (partOf 18 (c .before .before .before .before .before .before .third .given .0 .0) (now (c .before .before .before .before .before .before .before .before .before .section-rest2 .result))) in
-    section-off 4 toCoupling (now (c .before .before .before .before .section-rest3 .result)) (λ b. fromEnd cs ps rs (b .records) (b .rest)) (c .before .before .before .read-couplings .ensures) (c .before .enum-told4 .given .1) (c .section-refusal4 .ensures)
-    ∙ sym (read-3 (c .before .before .before .before))
+    let cs = componentsIn (now (c .before .before .before .before .before .before .before .before .before .before .before .before .before .before .before .before .before .before .section-part .result)) in
+    let ps = phasesIn (partOf 18 (c .before .before .before .before .before .before .before .before .before .before .before .before .before .second .given .0 .0) (now (c .before .before .before .before .before .before .before .before .before .before .before .before .before .before .before .before .before .section-rest .result))) in
+    let rs = rulesIn (partOf 18 (c .before .before .before .before .before .before .before .third .given .0 .0) (now (c .before .before .before .before .before .before .before .before .before .before .before .section-rest2 .result))) in
+    section-off 4 toCoupling (now (c .before .before .before .before .before .section-rest3 .result)) (λ b. fromEnd cs ps rs (b .records) (b .rest)) (c .before .before .before .read-couplings .ensures) (c .before .enum-told4 .given .1) (c .section-refusal4 .ensures)
+    ∙ sym (read-3 (c .before .before .before .before .before))
 
 section-rest-requires-4 : tie.Need-section-rest-requires-4
 section-rest-requires-4 c κs = search needs
 
 returns-5 : tie.Need-returns-5
 unfolding fromEnd endOfFile
-returns-5 c =
-    sym (read-4 (c .before) ∙ rw (lt-ltb _ _ (c .if1 .taken)))
+returns-5 c = sym (read-4 (c .before) ∙ rw (lt-ltb _ _ (c .if1 .taken)))
 
 returns-6 : tie.Need-returns-6
 unfolding fromEnd endOfFile modelOf modelIn componentsPart phasesPart rulesPart couplingsPart afterComponents afterPhases afterRules
 returns-6 c =
-    sym (read-4 (c .before) ∙ rw (le-ltb _ _ (c .if1 .left), c .before .before .before .before .before .before .before .before .before .before .before .before .before .before .before .before .before .section-part .ensures, c .before .before .before .before .before .before .section-rest3 .ensures, c .before .before .before .before .before .before .before .before .before .before .before .section-rest2 .ensures, c .before .before .before .before .before .before .before .before .before .before .before .before .before .before .before .before .section-rest .ensures))
+    sym (read-4 (c .before) ∙ rw (le-ltb _ _ (c .if1 .left), c .before .before .before .before .before .before .before .before .before .before .before .before .before .before .before .before .before .before .before .before .section-part .ensures, c .before .before .before .before .before .before .before .section-rest3 .ensures, c .before .before .before .before .before .before .before .before .before .before .before .before .before .section-rest2 .ensures, c .before .before .before .before .before .before .before .before .before .before .before .before .before .before .before .before .before .before .before .section-rest .ensures))
 
 pub decode-model-spec : {M : Type 1} → statement M
 decode-model-spec =

@@ -1,60 +1,51 @@
--- `model_checks::are_related` meets its contract. The definition's three cases on the two components that were read, each decided by the
--- tests that led there. Assumes nothing.
+-- `model_checks::are_related` meets its contract. Nobody is its own relative (related-self); two others are relatives by their parents alone
+-- (related-by). Assumes nothing.
 use borrow.Author.Needs.{needs}
-use Rattle.definition.specs.Model.{isChild, isSibling}
-use Rattle.definition.specs.Records.{related}
-use mathlib.Core.Bool.{and-true, and-false, or-true, or-false}
-use borrow.Author.Tests.{eq-eqb, ne-eqb}
+use native.Mathlib.Omega.{arith}
+use mathlib.Core.Path.{_≡_, sym, _∙_}
+use denote.Ref.{now}
+use lib.ListN.{length}
+use Rattle.model_records.specs.Values.{componentsIn}
+use Rattle.model_checks.proofs.Kept.{related-self, related-by}
 use Rattle.model_checks.proofs.are_related.Statement.{statement}
 use Rattle.model_checks.proofs.are_related.Tie as tie
 
-component-at-requires : tie.Need-component-at-requires
-component-at-requires c κs = search needs
-
-component-at-requires-2 : tie.Need-component-at-requires-2
-component-at-requires-2 c κs = search needs
+element-copy-out-size : tie.Need-element-copy-out-size
+element-copy-out-size c = omega (arith, c .before .pre .2 .0 .few)
 
 size-requires : tie.Need-size-requires
 size-requires c κs = search needs
+
+element-copy-out-size-2 : tie.Need-element-copy-out-size-2
+element-copy-out-size-2 c = omega (arith, c .before .before .before .pre .2 .0 .few)
 
 size-requires-2 : tie.Need-size-requires-2
 size-requires-2 c κs = search needs
 
 returns : tie.Need-returns
-unfolding related isChild isSibling
 returns c =
-    rw (← c .before .before .before .component-at2 .ensures, ← c .before .before .before .before .component-at .ensures, ← c .before .size2 .ensures, ← c .before .before .size .ensures, c .if1 .taken) (simp and-false)
+    let a = c .before .before .before .before .before .before .args in
+    let q = c .before .before .before .before .before .before .pre in
+    let cs = componentsIn (now (a .components)) in
+    let e : a .s ≡ a .t = c .if1 .taken in
+    rw e (sym (related-self cs (length cs) (a .t) (q .2 .0) (q .1)))
 
 returns-2 : tie.Need-returns-2
-unfolding related isChild isSibling
 returns-2 c =
-    rw (← c .before .before .before .before .component-at2 .ensures, ← c .before .before .before .before .before .component-at .ensures, ← c .before .before .size2 .ensures, ← c .before .before .before .size .ensures, ne-eqb _ _ (c .before .if1 .left), eq-eqb _ _ (c .if2 .taken))
-
-returns-3 : tie.Need-returns-3
-unfolding related isChild isSibling
-returns-3 c =
-    rw (← c .before .before .before .before .before .component-at2 .ensures, ← c .before .before .before .before .before .before .component-at .ensures, ← c .before .before .before .size2 .ensures, ← c .before .before .before .before .size .ensures, ne-eqb _ _ (c .before .if2 .left), c .if3 .taken) (simp (and-false, or-false))
-
-returns-4 : tie.Need-returns-4
-unfolding related isChild isSibling
-returns-4 c =
-    rw (← c .before .before .before .before .before .before .component-at2 .ensures, ← c .before .before .before .before .before .before .before .component-at .ensures, ← c .before .before .before .before .size2 .ensures, ← c .before .before .before .before .before .size .ensures, ne-eqb _ _ (c .before .if3 .left), eq-eqb _ _ (c .if4 .taken)) (simp or-true)
-
-returns-5 : tie.Need-returns-5
-unfolding related isChild isSibling
-returns-5 c =
-    rw (← c .before .before .before .before .before .before .component-at2 .ensures, ← c .before .before .before .before .before .before .before .component-at .ensures, ← c .before .before .before .before .size2 .ensures, ← c .before .before .before .before .before .size .ensures, ne-eqb _ _ (c .before .if3 .left), ne-eqb _ _ (c .before .before .before .if1 .left), ne-eqb _ _ (c .before .before .if2 .left), ne-eqb _ _ (c .if4 .left)) (simp (and-true, or-false))
+    let a = c .before .before .before .before .before .before .args in
+    let q = c .before .before .before .before .before .before .pre in
+    let cs = componentsIn (now (a .components)) in
+    let f = c .before .before .before .size .ensures ∙ q .2 .1 .holds (a .s) (q .0) in
+    let g = c .before .size2 .ensures ∙ q .2 .1 .holds (a .t) (q .1) in
+    rw (f, g) (related-by cs (length cs) (a .s) (a .t) (q .2 .0) (q .0) (q .1) (c .if1 .left))
 
 pub are-related-spec : {M : Type 1} → statement M
 are-related-spec =
     tie.close
     (tie.spec
-    component-at-requires
-    component-at-requires-2
+    element-copy-out-size
     size-requires
+    element-copy-out-size-2
     size-requires-2
     returns
-    returns-2
-    returns-3
-    returns-4
-    returns-5)
+    returns-2)

@@ -1,12 +1,17 @@
--- `model_checks::kind_fields` meets its contract. The definition's own tests, field by field. Assumes nothing.
-use borrow.Author.Needs.{needs}
+-- `model_checks::kind_fields` meets its contract. The definition's own tests of either kind. Assumes nothing.
+use mathlib.Core.Bool.{or-false}
+use borrow.Author.Tests.{ne-eqb}
 use Rattle.definition.specs.Records.{kindFields, coupledFields, atomicFields}
 use Rattle.model_checks.proofs.kind_fields.Statement.{statement}
 use Rattle.model_checks.proofs.kind_fields.Tie as tie
 
 returns : tie.Need-returns
 unfolding kindFields coupledFields atomicFields
-returns c = search needs
+returns c = rw (c .before .before .before .if1 .taken) (simp or-false)
+
+returns-2 : tie.Need-returns-2
+unfolding kindFields coupledFields atomicFields
+returns-2 c = rw (ne-eqb _ _ (c .before .before .before .before .before .if1 .left))
 
 pub kind-fields-spec : {M : Type 1} → statement M
-kind-fields-spec = tie.close (tie.spec returns)
+kind-fields-spec = tie.close (tie.spec returns returns-2)

@@ -1,32 +1,53 @@
--- `model_checks::read_coupling` meets its contract. The record where both its tests pass (keeps), 8 where one does not (breaks). Assumes
--- nothing.
+-- `model_checks::read_coupling` meets its contract. The record where its fields are right and it does not fall behind the row before
+-- (behind-falls), 8 otherwise. Assumes nothing.
 use borrow.Author.Needs.{needs}
-use mathlib.Core.Path.{sym}
-use Rattle.definition.specs.Records.{couplingFits}
-use Rattle.model_checks.proofs.Laws.{keeps, breaks}
+use mathlib.Core.Path.{_≡_, refl, sym, _∙_}
+use mathlib.Core.Bool.{false, true}
+use denote.Ref.{now}
+use borrow.Author.Tests.{not-true, not-false, lt-leb, le-leb}
+use Rattle.definition.specs.Records.{notFalling, couplingFits}
+use Rattle.model_records.specs.Values.{couplingsIn}
+use Rattle.model_checks.proofs.Laws.{keeps, breaks, behind-falls}
 use Rattle.model_checks.proofs.read_coupling.Statement.{statement}
 use Rattle.model_checks.proofs.read_coupling.Tie as tie
 
-coupling-at-requires : tie.Need-coupling-at-requires
-coupling-at-requires c κs = search needs
+coupling-in-requires : tie.Need-coupling-in-requires
+coupling-in-requires c κs = search needs
 
 coupling-fields-requires : tie.Need-coupling-fields-requires
 coupling-fields-requires c κs = search needs
 
-not-falling-requires : tie.Need-not-falling-requires
-not-falling-requires c κs = search needs
-
 returns : tie.Need-returns
 unfolding couplingFits
 returns c =
-    rw (← c .before .before .before .coupling-at .ensures, ← c .before .not-falling .ensures, ← c .before .before .coupling-fields .ensures) (sym (keeps _ 8 _ (c .if1 .taken)))
+    rw (← c .before .before .coupling-in .ensures, ← c .before .coupling-fields .ensures, not-true (c .before .coupling-fields .result) (c .if1 .taken)) (sym (breaks _ 8 _ refl))
+
+coupling-key-requires : tie.Need-coupling-key-requires
+coupling-key-requires c κs = search needs
 
 returns-2 : tie.Need-returns-2
 unfolding couplingFits
 returns-2 c =
-    rw (← c .before .before .before .coupling-at .ensures, ← c .before .not-falling .ensures, ← c .before .before .coupling-fields .ensures) (sym (breaks _ 8 _ (c .if1 .left)))
+    let a = c .before .before .before .before .before .before .before .args in
+    let e = behind-falls (couplingsIn (now (a .couplings))) (a .i) (a .before) (c .before .coupling-key .result) (c .before .before .before .before .before .before .before .pre .1) (c .before .coupling-key .ensures ∙ c .before .before .before .before .coupling-in .ensures) in
+    let f : notFalling (couplingsIn (now (a .couplings))) (a .i) ≡ false = e ∙ lt-leb (a .before) (c .before .coupling-key .result) (c .if2 .taken) in
+    rw (f, ← c .before .before .before .before .coupling-in .ensures, ← c .before .before .before .coupling-fields .ensures, not-false (c .before .before .before .coupling-fields .result) (c .before .before .if1 .left)) (sym (breaks _ 8 _ refl))
+
+returns-3 : tie.Need-returns-3
+unfolding couplingFits
+returns-3 c =
+    let a = c .before .before .before .before .before .before .before .args in
+    let e = behind-falls (couplingsIn (now (a .couplings))) (a .i) (a .before) (c .before .coupling-key .result) (c .before .before .before .before .before .before .before .pre .1) (c .before .coupling-key .ensures ∙ c .before .before .before .before .coupling-in .ensures) in
+    let f : notFalling (couplingsIn (now (a .couplings))) (a .i) ≡ true = e ∙ le-leb (a .before) (c .before .coupling-key .result) (c .if2 .left) in
+    rw (f, ← c .before .before .before .before .coupling-in .ensures, ← c .before .before .before .coupling-fields .ensures, not-false (c .before .before .before .coupling-fields .result) (c .before .before .if1 .left)) (sym (keeps _ 8 _ refl))
 
 pub read-coupling-spec : {M : Type 1} → statement M
 read-coupling-spec =
     tie.close
-    (tie.spec coupling-at-requires coupling-fields-requires not-falling-requires returns returns-2)
+    (tie.spec
+    coupling-in-requires
+    coupling-fields-requires
+    returns
+    coupling-key-requires
+    returns-2
+    returns-3)

@@ -1,70 +1,28 @@
--- `model_records::component_at` meets its contract. Within the slice the part cut out is record i (record-cut), field by field; past its end
--- the definition has zeros too (record-out). Assumes nothing.
+-- `model_records::component_at` meets its contract. A record that there is, or past the slice's end the zeros that the definition has there too.
+-- Assumes nothing.
 use borrow.Author.Needs.{needs}
 use mathlib.Core.Path.{sym}
 use denote.Ref.{now}
+use lib.ListN.{List·getD-eq-default}
 use Rattle.definition.specs.Model.{componentAt, noComponent}
-use Rattle.definition.specs.Records.{toComponent}
-use Rattle.byte_laws.proofs.Records.{record-out}
 use Rattle.model_records.specs.Values.{componentsIn}
-use Rattle.model_records.proofs.Fields.{record-cut}
 use Rattle.model_records.proofs.component_at.Statement.{statement}
 use Rattle.model_records.proofs.component_at.Tie as tie
 
-mul-at : tie.Need-mul-at
-mul-at c = search needs
+component-count-requires : tie.Need-component-count-requires
+component-count-requires c κs = search needs
 
-add-r : tie.Need-add-r
-add-r c = search needs
-
-sub-r : tie.Need-sub-r
-sub-r c = search needs
-
-part-r-start : tie.Need-part-r-start
-part-r-start c = search needs
-
-part-r-end : tie.Need-part-r-end
-part-r-end c = search needs
-
-byte-at-requires : tie.Need-byte-at-requires
-byte-at-requires c κs = search needs
-
-byte-at-requires-2 : tie.Need-byte-at-requires-2
-byte-at-requires-2 c κs = search needs
-
-byte-at-requires-3 : tie.Need-byte-at-requires-3
-byte-at-requires-3 c κs = search needs
-
-byte-at-requires-4 : tie.Need-byte-at-requires-4
-byte-at-requires-4 c κs = search needs
-
-byte-at-requires-5 : tie.Need-byte-at-requires-5
-byte-at-requires-5 c κs = search needs
+component-in-requires : tie.Need-component-in-requires
+component-in-requires c κs = search needs
 
 returns : tie.Need-returns
-unfolding componentAt componentsIn toComponent
-returns c =
-    let a = c .before .before .before .before .before .before .before .before .args in
-    rw (← record-cut 5 toComponent (now (a .components)) (a .i) noComponent (c .before .before .before .before .before .before .if1 .taken), c .before .before .before .before .byte-at .ensures, c .before .before .before .byte-at2 .ensures, c .before .before .byte-at3 .ensures, c .before .byte-at4 .ensures, c .byte-at5 .ensures)
+returns c = search needs
 
 returns-2 : tie.Need-returns-2
-unfolding componentAt componentsIn noComponent
+unfolding componentAt noComponent
 returns-2 c =
-    let a = c .before .before .args in sym (record-out 5 toComponent (now (a .components)) (a .i) noComponent (c .if1 .left))
+    sym (List·getD-eq-default (componentsIn (now (c .before .before .before .args .components))) noComponent (rw (c .before .component-count .ensures) at (c .if1 .left)))
 
 pub component-at-spec : {M : Type 1} → statement M
 component-at-spec =
-    tie.close
-    (tie.spec
-    mul-at
-    add-r
-    sub-r
-    part-r-start
-    part-r-end
-    byte-at-requires
-    byte-at-requires-2
-    byte-at-requires-3
-    byte-at-requires-4
-    byte-at-requires-5
-    returns
-    returns-2)
+    tie.close (tie.spec component-count-requires component-in-requires returns returns-2)

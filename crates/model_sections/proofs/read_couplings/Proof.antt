@@ -1,11 +1,12 @@
--- `model_sections::read_couplings` meets its contract. Invariant: the records from number i on pass if and only if all pass. A record that
--- is refused ends the section with its number (opened-bad), and with none left the section is accepted (opened-good). Assumes nothing.
+-- `model_sections::read_couplings` meets its contract. Invariant: the records from number i on pass if and only if all pass, and the key at
+-- hand is that of the row before. A record that is refused ends the section with its number (opened-bad), and with none left the section is
+-- accepted (opened-good). Assumes nothing.
 use borrow.Author.Needs.{needs}
 use native.Mathlib.Omega.{arith}
-use mathlib.Core.Path.{_≡_, sym, ap, _∙_}
+use mathlib.Core.Path.{_≡_, refl, sym, ap, _∙_}
 use Prim.Native.Nat.{_≤_, _-_}
 use denote.Ref.{now}
-use lib.ListN.{getD}
+use lib.ListN.{length, getD}
 use Rattle.definition.specs.Lists.{all, upFrom}
 use Rattle.definition.specs.Limits.{maxCouplings}
 use Rattle.definition.specs.Bytes.{refused, numberOf}
@@ -14,19 +15,21 @@ use Rattle.definition.specs.Records.{toCoupling, couplingFits}
 use Rattle.definition.specs.File.{atMost, couplingSection}
 use Rattle.model_records.specs.Values.{componentsIn, couplingsIn}
 use Rattle.model_checks.specs.Reads.{checked, couplingRead}
+use Rattle.model_checks.specs.Known.{Behind}
+use Rattle.model_checks.proofs.Laws.{read-is, behind-next}
 use Rattle.byte_laws.proofs.Alls.{all-start, all-more}
 use Rattle.byte_laws.proofs.Refusals.{passed, failed}
 use Rattle.byte_laws.proofs.Sections.{section-head}
 use Rattle.byte_laws.specs.Parts.{partOf}
-use Rattle.model_sections.proofs.Opened.{Opened, head-is, opened-bad, opened-good}
+use Rattle.model_sections.proofs.Opened.{Opened, head-is, opened-count, opened-bad, opened-good}
 use Rattle.model_sections.proofs.read_couplings.Statement.{statement}
 use Rattle.model_sections.proofs.read_couplings.Tie as tie
 
 abbrev Inv-loop : tie.InvT-loop
-Inv-loop components s count n head records i₀ i = (i ≤ n) × (all (couplingFits (componentsIn components) (couplingsIn records)) (upFrom i (n - i)) ≡ all (couplingFits (componentsIn components) (couplingsIn records)) (upFrom 0 n))
+Inv-loop components parents s count n head records i₀ before₀ i before = (i ≤ n) × (all (couplingFits (componentsIn components) (couplingsIn records)) (upFrom i (n - i)) ≡ all (couplingFits (componentsIn components) (couplingsIn records)) (upFrom 0 n)) × Behind (couplingsIn records) i before
 
 abbrev μ-loop : tie.MeasureT-loop
-μ-loop components s count n head records i₀ i = n - i
+μ-loop components parents s count n head records i₀ before₀ i before = n - i
 
 -- The head is right: its count, and the slice of the records.
 opened : (c : tie.After-section-part Inv-loop μ-loop) → Opened 4 (atMost maxCouplings) (now (c .before .before .before .before .before .before .before .before .args .s)) (c .before .before .before .before .size16 .result) (now (c .section-part .result))
@@ -35,6 +38,12 @@ opened c =
     let e = c .before .before .before .before .size16 .ensures in
     let h = head-is 4 (atMost maxCouplings) s (e ∙ c .before .before .before .before .before .u16-at .ensures) (c .before .before .before .over-wrong .ensures) (c .before .before .head-number .ensures) in
     record { count = e ∙ c .before .before .before .before .before .u16-at .ensures; part = c .section-part .ensures ∙ ap (λ n. partOf 4 n s) (sym e); head = sym h ∙ c .before .if1 .left }
+
+-- So many records there are.
+there : (c : tie.After-section-part Inv-loop μ-loop) → length (couplingsIn (now (c .section-part .result))) ≡ c .before .before .before .before .size16 .result
+unfolding couplingsIn
+there c =
+    opened-count 4 (atMost maxCouplings) toCoupling (now (c .before .before .before .before .before .before .before .before .args .s)) (c .before .before .before .before .size16 .result) (now (c .section-part .result)) (omega arith) (opened c)
 
 u16-at-requires : tie.Need-u16-at-requires Inv-loop μ-loop
 u16-at-requires c κs = search needs
@@ -61,16 +70,18 @@ section-part-requires c κs = search needs
 loop-holds : tie.Need-loop-holds Inv-loop μ-loop
 loop-holds c =
     let cs = componentsIn (now (c .before .before .before .before .before .before .before .before .args .components)) in
-    (omega arith, all-start (couplingFits cs (couplingsIn (now (c .section-part .result)))) (c .before .before .before .before .size16 .result))
+    (omega arith, all-start (couplingFits cs (couplingsIn (now (c .section-part .result)))) (c .before .before .before .before .size16 .result), refl)
 
 read-coupling-requires : tie.Need-read-coupling-requires Inv-loop μ-loop
-read-coupling-requires c κs = search needs
+read-coupling-requires c κs =
+    let e = there (c .before .before) in
+    (omega (arith, e), c .before .loop .inv .2, c .before .before .before .before .before .before .before .before .before .before .pre)
+
+enum-known-read : tie.Need-enum-known-read Inv-loop μ-loop
+enum-known-read c = search needs
 
 enum-told : tie.Need-enum-told Inv-loop μ-loop
 enum-told c = search needs
-
-enum-told-2 : tie.Need-enum-told-2 Inv-loop μ-loop
-enum-told-2 c = search needs
 
 coupling-refusal-requires : tie.Need-coupling-refusal-requires Inv-loop μ-loop
 coupling-refusal-requires c κs = search needs
@@ -82,11 +93,14 @@ returns-2 c =
     let r = now (c .before .before .before .before .before .before .section-part .result) in
     let cs = componentsIn (now (c .before .before .before .before .before .before .before .before .before .before .before .before .before .before .args .components)) in
     let xs = couplingsIn r in
-    let k = c .before .enum-told2 .given .0 .0 in
-    let b = failed (couplingFits cs xs (l .i)) 8 (getD xs (l .i) noCoupling) {m = k} (ap couplingRead (sym (c .before .enum-told2 .given .1)) ∙ c .before .before .before .read-coupling .ensures) in
-    let m : c .coupling-refusal .result ≡ k = c .coupling-refusal .ensures ∙ ap (λ q. numberOf (couplingRead q)) (c .before .enum-told2 .given .1) in
+    let k = c .before .enum-told .given .0 .0 in
+    let b = failed (couplingFits cs xs (l .i)) 8 (getD xs (l .i) noCoupling) {m = k} (ap couplingRead (sym (c .before .enum-told .given .1)) ∙ c .before .before .before .read-coupling .ensures) in
+    let m : c .coupling-refusal .result ≡ k = c .coupling-refusal .ensures ∙ ap (λ q. numberOf (couplingRead q)) (c .before .enum-told .given .1) in
     ap refused (m ∙ b .1)
     ∙ sym (opened-bad 4 (atMost maxCouplings) toCoupling (couplingFits cs) 8 (now (c .before .before .before .before .before .before .before .before .before .before .before .before .before .before .args .s)) (c .before .before .before .before .before .before .before .before .before .before .size16 .result) r (omega arith) (opened (c .before .before .before .before .before .before)) (l .i) (l .inv .1) (c .before .before .before .before .loop-test .taken) (b .0))
+
+coupling-key-requires : tie.Need-coupling-key-requires Inv-loop μ-loop
+coupling-key-requires c κs = search needs
 
 add-i : tie.Need-add-i Inv-loop μ-loop
 add-i c = search needs
@@ -97,11 +111,12 @@ loop-less c = search needs
 loop-again : tie.Need-loop-again Inv-loop μ-loop
 unfolding checked
 loop-again c =
-    let l = c .before .before .before .before .loop in
-    let cs = componentsIn (now (c .before .before .before .before .before .before .before .before .before .before .before .before .before .args .components)) in
-    let xs = couplingsIn (now (c .before .before .before .before .before .section-part .result)) in
-    let b = passed (couplingFits cs xs (l .i)) 8 (getD xs (l .i) noCoupling) (ap couplingRead (sym (c .enum-told .given .1)) ∙ c .before .before .read-coupling .ensures) in
-    (omega arith, all-more (couplingFits cs xs) (l .i) (c .before .before .before .before .before .before .before .before .before .size16 .result) (c .before .before .before .loop-test .taken) b ∙ l .inv .1)
+    let l = c .before .before .before .before .before .before .loop in
+    let cs = componentsIn (now (c .before .before .before .before .before .before .before .before .before .before .before .before .before .before .before .args .components)) in
+    let xs = couplingsIn (now (c .before .before .before .before .before .before .before .section-part .result)) in
+    let e = ap couplingRead (sym (c .before .before .read .given .1)) ∙ c .before .before .before .before .read-coupling .ensures in
+    let b = passed (couplingFits cs xs (l .i)) 8 (getD xs (l .i) noCoupling) e in
+    (omega arith, all-more (couplingFits cs xs) (l .i) (c .before .before .before .before .before .before .before .before .before .before .before .size16 .result) (c .before .before .before .before .before .loop-test .taken) b ∙ l .inv .1, behind-next xs (l .i) (c .coupling-key .result) (c .coupling-key .ensures ∙ read-is (couplingFits cs xs (l .i)) 8 (getD xs (l .i) noCoupling) e))
 
 returns-3 : tie.Need-returns-3 Inv-loop μ-loop
 unfolding couplingsIn couplingSection
@@ -124,10 +139,11 @@ read-couplings-spec =
     section-part-requires
     loop-holds
     read-coupling-requires
+    enum-known-read
     enum-told
-    enum-told-2
     coupling-refusal-requires
     returns-2
+    coupling-key-requires
     add-i
     loop-less
     loop-again

@@ -21,21 +21,22 @@ use Rattle.byte_laws.proofs.Refusals.{passed, failed}
 use Rattle.byte_laws.proofs.Sections.{section-head, head-ok}
 use Rattle.byte_laws.specs.Parts.{partOf}
 use Rattle.model_sections.proofs.Bounds.{phase-fits-at, phase-below, count-total}
-use Rattle.model_sections.proofs.Opened.{Opened, head-is, opened-bad, opened-good}
+use Rattle.model_sections.proofs.Opened.{Opened, head-is, opened-count, opened-bad, opened-good}
+use Rattle.model_checks.proofs.Kept.{phases-few}
 use Rattle.model_sections.proofs.read_phases.Statement.{statement}
 use Rattle.model_sections.proofs.read_phases.Tie as tie
 
 abbrev Inv-loop2 : tie.InvT-loop2
-Inv-loop2 components s count n owners total head records i₀ c bound p₀ i p = (p ≤ bound) × (i ≡ phasesBefore (componentsIn components) c + p) × (all (phaseFits (componentsIn components) (phasesIn records)) (upFrom i (n - i)) ≡ all (phaseFits (componentsIn components) (phasesIn records)) (upFrom 0 n))
+Inv-loop2 components phase-counts s count n owners total head records i₀ c bound p₀ i p = (p ≤ bound) × (i ≡ phasesBefore (componentsIn components) c + p) × (all (phaseFits (componentsIn components) (phasesIn records)) (upFrom i (n - i)) ≡ all (phaseFits (componentsIn components) (phasesIn records)) (upFrom 0 n))
 
 abbrev μ-loop2 : tie.MeasureT-loop2
-μ-loop2 components s count n owners total head records i₀ c bound p₀ i p = bound - p
+μ-loop2 components phase-counts s count n owners total head records i₀ c bound p₀ i p = bound - p
 
 abbrev Inv-loop : tie.InvT-loop
-Inv-loop components s count n owners total head records i₀ c₀ i c = (c ≤ owners) × (i ≡ phasesBefore (componentsIn components) c) × (all (phaseFits (componentsIn components) (phasesIn records)) (upFrom i (n - i)) ≡ all (phaseFits (componentsIn components) (phasesIn records)) (upFrom 0 n))
+Inv-loop components phase-counts s count n owners total head records i₀ c₀ i c = (c ≤ owners) × (i ≡ phasesBefore (componentsIn components) c) × (all (phaseFits (componentsIn components) (phasesIn records)) (upFrom i (n - i)) ≡ all (phaseFits (componentsIn components) (phasesIn records)) (upFrom 0 n))
 
 abbrev μ-loop : tie.MeasureT-loop
-μ-loop components s count n owners total head records i₀ c₀ i c = owners - c
+μ-loop components phase-counts s count n owners total head records i₀ c₀ i c = owners - c
 
 -- The head is right: its count, and the slice of the records.
 opened : (c : tie.After-section-part Inv-loop2 μ-loop2 Inv-loop μ-loop)
@@ -44,31 +45,39 @@ opened c =
     let cs = componentsIn (now (c .before .before .before .before .before .before .before .before .before .before .args .components)) in
     let s = now (c .before .before .before .before .before .before .before .before .before .before .args .s) in
     let e = c .before .before .before .before .before .before .size16 .ensures in
-    let t : c .before .before .before .before .phases-before .result ≡ phaseTotal cs = c .before .before .before .before .phases-before .ensures ∙ ap (phasesBefore cs) (c .before .before .before .before .before .component-count .ensures) ∙ before-all cs in
-    let h = head-is 18 (phaseCount (phaseTotal cs)) s (e ∙ c .before .before .before .before .before .before .before .u16-at .ensures) (c .before .before .before .phase-wrong .ensures ∙ ap (λ t. phaseCount t (c .before .before .before .before .before .before .size16 .result)) t) (c .before .before .head-number .ensures) in
+    let h = head-is 18 (phaseCount (phaseTotal cs)) s (e ∙ c .before .before .before .before .before .before .before .u16-at .ensures) (c .before .before .before .phase-wrong .ensures ∙ ap (λ t. phaseCount t (c .before .before .before .before .before .before .size16 .result)) (c .before .before .before .before .phase-total .ensures)) (c .before .before .head-number .ensures) in
     record { count = e ∙ c .before .before .before .before .before .before .before .u16-at .ensures; part = c .section-part .ensures ∙ ap (λ n. partOf 18 n s) (sym e); head = sym h ∙ c .before .if1 .left }
 
--- So the count is the sum of the phase counts.
+-- So many records there are, and the count is the sum of the phase counts.
+there : (c : tie.After-section-part Inv-loop2 μ-loop2 Inv-loop μ-loop) → length (phasesIn (now (c .section-part .result))) ≡ c .before .before .before .before .before .before .size16 .result
+unfolding phasesIn
+there c =
+    opened-count 18 (phaseCount (phaseTotal (componentsIn (now (c .before .before .before .before .before .before .before .before .before .before .args .components))))) toPhase (now (c .before .before .before .before .before .before .before .before .before .before .args .s)) (c .before .before .before .before .before .before .size16 .result) (now (c .section-part .result)) (omega arith) (opened c)
+
 counted : (c : tie.After-section-part Inv-loop2 μ-loop2 Inv-loop μ-loop) → c .before .before .before .before .before .before .size16 .result ≡ phaseTotal (componentsIn (now (c .before .before .before .before .before .before .before .before .before .before .args .components)))
 counted c =
     let h = opened c in
     let w = phaseCount (phaseTotal (componentsIn (now (c .before .before .before .before .before .before .before .before .before .before .args .components)))) in
     count-total _ _ (ap w (h .count) ∙ head-ok 18 w (now (c .before .before .before .before .before .before .before .before .before .before .args .s)) (h .head) .1)
 
+-- The bound is the phase count of the component at hand.
+bound-is : (c : tie.In-loop Inv-loop2 μ-loop2 Inv-loop μ-loop) → getD (now (c .before .before .before .before .before .before .before .before .before .before .before .before .args .phase-counts)) (c .before .loop .c) 0 ≡ componentAt (componentsIn (now (c .before .before .before .before .before .before .before .before .before .before .before .before .args .components))) (c .before .loop .c) .phases
+bound-is c = c .before .before .before .before .before .before .before .before .before .before .before .before .pre .1 .holds (c .before .loop .c) (omega (arith, c .before .before .before .before .before .before .before .component-count .ensures))
+
 -- The record that is read is a phase of the component at hand, and its test is that of its number.
-tested : (c : tie.After-read-phase Inv-loop2 μ-loop2 Inv-loop μ-loop)
-    → (c .before .before .loop2 .i < c .before .before .before .before .before .before .before .before .before .before .before .before .size16 .result)
-    × (phaseFits (componentsIn (now (c .before .before .before .before .before .before .before .before .before .before .before .before .before .before .before .before .args .components))) (phasesIn (now (c .before .before .before .before .before .before .section-part .result))) (c .before .before .loop2 .i)
-    ≡ phaseFields (c .before .before .before .component-at .result .phases) (getD (phasesIn (now (c .before .before .before .before .before .before .section-part .result))) (c .before .before .loop2 .i) noPhase))
+tested : (c : tie.In-loop2 Inv-loop2 μ-loop2 Inv-loop μ-loop)
+    → (c .before .loop2 .i < c .before .before .before .before .before .before .before .before .before .before .before .size16 .result)
+    × (phaseFits (componentsIn (now (c .before .before .before .before .before .before .before .before .before .before .before .before .before .before .before .args .components))) (phasesIn (now (c .before .before .before .before .before .section-part .result))) (c .before .loop2 .i)
+    ≡ phaseFields (getD (now (c .before .before .before .before .before .before .before .before .before .before .before .before .before .before .before .args .phase-counts)) (c .before .before .before .before .loop .c) 0) (getD (phasesIn (now (c .before .before .before .before .before .section-part .result))) (c .before .loop2 .i) noPhase))
 tested c =
-    let l = c .before .before .loop2 in
-    let o = c .before .before .before .before .before .loop in
-    let cs = componentsIn (now (c .before .before .before .before .before .before .before .before .before .before .before .before .before .before .before .before .args .components)) in
-    let ps = phasesIn (now (c .before .before .before .before .before .before .section-part .result)) in
-    let e : c .before .before .before .component-at .result .phases ≡ componentAt cs (o .c) .phases = ap (λ k. k .phases) (c .before .before .before .component-at .ensures) in
-    let h : l .p < componentAt cs (o .c) .phases = omega arith in
-    let b : o .c < length cs = omega (arith, c .before .before .before .before .before .before .before .before .before .before .before .component-count .ensures) in
-    let g = phase-below cs (o .c) (l .p) (c .before .before .before .before .before .before .before .before .before .before .before .before .size16 .result) h (counted (c .before .before .before .before .before .before)) in
+    let l = c .before .loop2 in
+    let o = c .before .before .before .before .loop in
+    let cs = componentsIn (now (c .before .before .before .before .before .before .before .before .before .before .before .before .before .before .before .args .components)) in
+    let ps = phasesIn (now (c .before .before .before .before .before .section-part .result)) in
+    let e = bound-is (c .before .before .before) in
+    let h : l .p < componentAt cs (o .c) .phases = rw (← e) (c .loop2-test .taken) in
+    let b : o .c < length cs = omega (arith, c .before .before .before .before .before .before .before .before .before .before .component-count .ensures) in
+    let g = phase-below cs (o .c) (l .p) (c .before .before .before .before .before .before .before .before .before .before .before .size16 .result) h (counted (c .before .before .before .before .before)) in
     (omega arith, phase-fits-at cs ps (o .c) (l .p) (l .i) b h (l .inv .1) ∙ ap (λ n. phaseFields n (getD ps (l .i) noPhase)) (sym e))
 
 u16-at-requires : tie.Need-u16-at-requires Inv-loop2 μ-loop2 Inv-loop μ-loop
@@ -80,12 +89,8 @@ size16-requires c κs = search needs
 component-count-requires : tie.Need-component-count-requires Inv-loop2 μ-loop2 Inv-loop μ-loop
 component-count-requires c κs = search needs
 
-cast-phases-before : tie.Need-cast-phases-before Inv-loop2 μ-loop2 Inv-loop μ-loop
-cast-phases-before c =
-    record { fits = omega (arith, c .component-count .ensures, c .before .before .before .before .before .pre) }
-
-phases-before-requires : tie.Need-phases-before-requires Inv-loop2 μ-loop2 Inv-loop μ-loop
-phases-before-requires c κs = search needs
+phase-total-requires : tie.Need-phase-total-requires Inv-loop2 μ-loop2 Inv-loop μ-loop
+phase-total-requires c κs = search needs
 
 phase-wrong-requires : tie.Need-phase-wrong-requires Inv-loop2 μ-loop2 Inv-loop μ-loop
 phase-wrong-requires c κs = search needs
@@ -98,8 +103,7 @@ unfolding phaseSection
 returns c =
     let cs = componentsIn (now (c .before .before .before .before .before .before .before .before .before .args .components)) in
     let s = now (c .before .before .before .before .before .before .before .before .before .args .s) in
-    let t : c .before .before .before .phases-before .result ≡ phaseTotal cs = c .before .before .before .phases-before .ensures ∙ ap (phasesBefore cs) (c .before .before .before .before .component-count .ensures) ∙ before-all cs in
-    sym (section-head 18 (phaseCount (phaseTotal cs)) toPhase (phaseFits cs) 6 s (head-is 18 (phaseCount (phaseTotal cs)) s (c .before .before .before .before .before .size16 .ensures ∙ c .before .before .before .before .before .before .u16-at .ensures) (c .before .before .phase-wrong .ensures ∙ ap (λ t. phaseCount t (c .before .before .before .before .before .size16 .result)) t) (c .before .head-number .ensures)) (c .if1 .taken))
+    sym (section-head 18 (phaseCount (phaseTotal cs)) toPhase (phaseFits cs) 6 s (head-is 18 (phaseCount (phaseTotal cs)) s (c .before .before .before .before .before .size16 .ensures ∙ c .before .before .before .before .before .before .u16-at .ensures) (c .before .before .phase-wrong .ensures ∙ ap (λ t. phaseCount t (c .before .before .before .before .before .size16 .result)) (c .before .before .before .phase-total .ensures)) (c .before .head-number .ensures)) (c .if1 .taken))
 
 section-part-requires : tie.Need-section-part-requires Inv-loop2 μ-loop2 Inv-loop μ-loop
 section-part-requires c κs = search needs
@@ -109,16 +113,17 @@ loop-holds c =
     let cs = componentsIn (now (c .before .before .before .before .before .before .before .before .before .before .args .components)) in
     (omega arith, sym (before-none cs), all-start (phaseFits cs (phasesIn (now (c .section-part .result)))) (c .before .before .before .before .before .before .size16 .result))
 
-component-at-requires : tie.Need-component-at-requires Inv-loop2 μ-loop2 Inv-loop μ-loop
-component-at-requires c κs = search needs
+element-copy-out-bound : tie.Need-element-copy-out-bound Inv-loop2 μ-loop2 Inv-loop μ-loop
+element-copy-out-bound c =
+    omega (arith, c .before .before .before .before .before .before .before .component-count .ensures, c .before .before .before .before .before .before .before .before .before .before .before .before .pre .0 .few)
 
 loop2-holds : tie.Need-loop2-holds Inv-loop2 μ-loop2 Inv-loop μ-loop
-loop2-holds c =
-    let o = c .before .before .loop in
+loop2-holds c = let o = c .before .before .loop in
     (omega arith, o .inv .1 ∙ sym (add-zero _), o .inv .2)
 
 read-phase-requires : tie.Need-read-phase-requires Inv-loop2 μ-loop2 Inv-loop μ-loop
-read-phase-requires c κs = search needs
+read-phase-requires c κs = let t = tested c in
+    omega (arith, there (c .before .before .before .before .before))
 
 enum-told : tie.Need-enum-told Inv-loop2 μ-loop2 Inv-loop μ-loop
 enum-told c = search needs
@@ -133,22 +138,27 @@ returns-2 : tie.Need-returns-2 Inv-loop2 μ-loop2 Inv-loop μ-loop
 unfolding checked phasesIn phaseSection
 returns-2 c =
     let l = c .before .before .before .before .before .loop2 in
-    let cs = componentsIn (now (c .before .before .before .before .before .before .before .before .before .before .before .before .before .before .before .before .before .before .before .args .components)) in
+    let o = c .before .before .before .before .before .before .before .before .loop in
     let r = now (c .before .before .before .before .before .before .before .before .before .section-part .result) in
-    let k = c .before .enum-told2 .given .0 .0 in
+    let cs = componentsIn (now (c .before .before .before .before .before .before .before .before .before .before .before .before .before .before .before .before .before .before .before .args .components)) in
     let x = getD (phasesIn r) (l .i) noPhase in
-    let b = failed (phaseFields (c .before .before .before .before .before .before .component-at .result .phases) x) 6 x {m = k} (ap phaseRead (sym (c .before .enum-told2 .given .1)) ∙ c .before .before .before .read-phase .ensures) in
+    let k = c .before .enum-told2 .given .0 .0 in
+    let b = failed (phaseFields (getD (now (c .before .before .before .before .before .before .before .before .before .before .before .before .before .before .before .before .before .before .before .args .phase-counts)) (o .c) 0) x) 6 x {m = k} (ap phaseRead (sym (c .before .enum-told2 .given .1)) ∙ c .before .before .before .read-phase .ensures) in
     let m : c .phase-refusal .result ≡ k = c .phase-refusal .ensures ∙ ap (λ q. numberOf (phaseRead q)) (c .before .enum-told2 .given .1) in
-    let t = tested (c .before .before .before) in
+    let t = tested (c .before .before .before .before) in
     ap refused (m ∙ b .1)
     ∙ sym (opened-bad 18 (phaseCount (phaseTotal cs)) toPhase (phaseFits cs) 6 (now (c .before .before .before .before .before .before .before .before .before .before .before .before .before .before .before .before .before .before .before .args .s)) (c .before .before .before .before .before .before .before .before .before .before .before .before .before .before .before .size16 .result) r (omega arith) (opened (c .before .before .before .before .before .before .before .before .before)) (l .i) (l .inv .2) (t .0) (t .1 ∙ b .0))
 
 add-i : tie.Need-add-i Inv-loop2 μ-loop2 Inv-loop μ-loop
-add-i c =
-    let t = tested (c .before .before) in omega arith
+add-i c = let t = tested (c .before .before .before) in omega arith
 
 add-p : tie.Need-add-p Inv-loop2 μ-loop2 Inv-loop μ-loop
-add-p c = search needs
+add-p c =
+    let o = c .before .before .before .before .before .before .before .loop in
+    let cs = componentsIn (now (c .before .before .before .before .before .before .before .before .before .before .before .before .before .before .before .before .before .before .args .components)) in
+    let b : o .c < length cs = omega (arith, c .before .before .before .before .before .before .before .before .before .before .before .before .before .component-count .ensures) in
+    let e = bound-is (c .before .before .before .before .before .before) in
+    record { fits = omega (arith, phases-few cs (o .c) (c .before .before .before .before .before .before .before .before .before .before .before .before .before .before .before .before .before .before .pre .0 .fit (o .c) b)) }
 
 loop2-less : tie.Need-loop2-less Inv-loop2 μ-loop2 Inv-loop μ-loop
 loop2-less c = search needs
@@ -157,11 +167,12 @@ loop2-again : tie.Need-loop2-again Inv-loop2 μ-loop2 Inv-loop μ-loop
 unfolding checked
 loop2-again c =
     let l = c .before .before .before .before .loop2 in
+    let o = c .before .before .before .before .before .before .before .loop in
     let cs = componentsIn (now (c .before .before .before .before .before .before .before .before .before .before .before .before .before .before .before .before .before .before .args .components)) in
     let ps = phasesIn (now (c .before .before .before .before .before .before .before .before .section-part .result)) in
     let x = getD ps (l .i) noPhase in
-    let b = passed (phaseFields (c .before .before .before .before .before .component-at .result .phases) x) 6 x (ap phaseRead (sym (c .enum-told .given .1)) ∙ c .before .before .read-phase .ensures) in
-    let t = tested (c .before .before) in
+    let b = passed (phaseFields (getD (now (c .before .before .before .before .before .before .before .before .before .before .before .before .before .before .before .before .before .before .args .phase-counts)) (o .c) 0) x) 6 x (ap phaseRead (sym (c .enum-told .given .1)) ∙ c .before .before .read-phase .ensures) in
+    let t = tested (c .before .before .before) in
     (omega arith, omega arith, all-more (phaseFits cs ps) (l .i) (c .before .before .before .before .before .before .before .before .before .before .before .before .before .before .size16 .result) (t .0) (t .1 ∙ b) ∙ l .inv .2)
 
 add-c : tie.Need-add-c Inv-loop2 μ-loop2 Inv-loop μ-loop
@@ -175,7 +186,7 @@ loop-again c =
     let l = c .before .loop2 in
     let o = c .before .before .before .before .loop in
     let cs = componentsIn (now (c .before .before .before .before .before .before .before .before .before .before .before .before .before .before .before .args .components)) in
-    let e : c .before .before .component-at .result .phases ≡ componentAt cs (o .c) .phases = ap (λ k. k .phases) (c .before .before .component-at .ensures) in
+    let e = bound-is (c .before .before .before) in
     (omega arith, omega (arith, before-more cs (o .c)), l .inv .2)
 
 returns-3 : tie.Need-returns-3 Inv-loop2 μ-loop2 Inv-loop μ-loop
@@ -199,14 +210,13 @@ read-phases-spec =
     u16-at-requires
     size16-requires
     component-count-requires
-    cast-phases-before
-    phases-before-requires
+    phase-total-requires
     phase-wrong-requires
     head-number-requires
     returns
     section-part-requires
     loop-holds
-    component-at-requires
+    element-copy-out-bound
     loop2-holds
     read-phase-requires
     enum-told

@@ -5,7 +5,7 @@ use native.Mathlib.Omega.{arith}
 use mathlib.Core.Path.{_≡_, sym, ap, _∙_}
 use Prim.Native.Nat.{_≤_, _-_}
 use denote.Ref.{now}
-use lib.ListN.{getD}
+use lib.ListN.{length, getD}
 use Rattle.definition.specs.Lists.{all, upFrom}
 use Rattle.definition.specs.Limits.{maxRules}
 use Rattle.definition.specs.Bytes.{refused, numberOf}
@@ -18,15 +18,15 @@ use Rattle.byte_laws.proofs.Alls.{all-start, all-more}
 use Rattle.byte_laws.proofs.Refusals.{passed, failed}
 use Rattle.byte_laws.proofs.Sections.{section-head}
 use Rattle.byte_laws.specs.Parts.{partOf}
-use Rattle.model_sections.proofs.Opened.{Opened, head-is, opened-bad, opened-good}
+use Rattle.model_sections.proofs.Opened.{Opened, head-is, opened-count, opened-bad, opened-good}
 use Rattle.model_sections.proofs.read_rules.Statement.{statement}
 use Rattle.model_sections.proofs.read_rules.Tie as tie
 
 abbrev Inv-loop : tie.InvT-loop
-Inv-loop components s count n head records i₀ i = (i ≤ n) × (all (ruleFits (componentsIn components) (rulesIn records)) (upFrom i (n - i)) ≡ all (ruleFits (componentsIn components) (rulesIn records)) (upFrom 0 n))
+Inv-loop components phase-counts s count n head records i₀ i = (i ≤ n) × (all (ruleFits (componentsIn components) (rulesIn records)) (upFrom i (n - i)) ≡ all (ruleFits (componentsIn components) (rulesIn records)) (upFrom 0 n))
 
 abbrev μ-loop : tie.MeasureT-loop
-μ-loop components s count n head records i₀ i = n - i
+μ-loop components phase-counts s count n head records i₀ i = n - i
 
 -- The head is right: its count, and the slice of the records.
 opened : (c : tie.After-section-part Inv-loop μ-loop) → Opened 18 (atMost maxRules) (now (c .before .before .before .before .before .before .before .before .args .s)) (c .before .before .before .before .size16 .result) (now (c .section-part .result))
@@ -35,6 +35,11 @@ opened c =
     let e = c .before .before .before .before .size16 .ensures in
     let h = head-is 18 (atMost maxRules) s (e ∙ c .before .before .before .before .before .u16-at .ensures) (c .before .before .before .over-wrong .ensures) (c .before .before .head-number .ensures) in
     record { count = e ∙ c .before .before .before .before .before .u16-at .ensures; part = c .section-part .ensures ∙ ap (λ n. partOf 18 n s) (sym e); head = sym h ∙ c .before .if1 .left }
+
+there : (c : tie.After-section-part Inv-loop μ-loop) → length (rulesIn (now (c .section-part .result))) ≡ c .before .before .before .before .size16 .result
+unfolding rulesIn
+there c =
+    opened-count 18 (atMost maxRules) toRule (now (c .before .before .before .before .before .before .before .before .args .s)) (c .before .before .before .before .size16 .result) (now (c .section-part .result)) (omega arith) (opened c)
 
 u16-at-requires : tie.Need-u16-at-requires Inv-loop μ-loop
 u16-at-requires c κs = search needs
@@ -64,7 +69,9 @@ loop-holds c =
     (omega arith, all-start (ruleFits cs (rulesIn (now (c .section-part .result)))) (c .before .before .before .before .size16 .result))
 
 read-rule-requires : tie.Need-read-rule-requires Inv-loop μ-loop
-read-rule-requires c κs = search needs
+read-rule-requires c κs =
+    let l : length (rulesIn (now (c .before .before .section-part .result))) ≡ _ = there (c .before .before) in
+    (omega (arith, l), c .before .before .before .before .before .before .before .before .before .before .pre)
 
 enum-told : tie.Need-enum-told Inv-loop μ-loop
 enum-told c = search needs

@@ -41,7 +41,8 @@ row-in-requires c κs = search needs
 change-one-requires : tie.Need-change-one-requires Inv-loop μ-loop
 change-one-requires c κs =
     let l = c .before .before .before .before .before .before .loop in
-    (omega arith, rw (c .before .before .before .before .row-in .ensures) (c .before .before .before .before .before .before .before .before .before .before .before .before .before .pre .1 .numbers (l .i) (omega arith)), c .before .before .before .before .before .before .before .before .before .before .before .before .before .pre .1, l .inv .3 (l .i) (omega arith))
+    let r = c .before .before .before .before .before .before .before .before .before .before .before .before .before .pre .1 in
+    (omega arith, rw (c .before .before .before .before .row-in .ensures) (r .numbers (l .i) (omega arith)), r, c .before .before .before .before .row-in .ensures, l .inv .3 (l .i) (omega arith))
 
 add-i : tie.Need-add-i Inv-loop μ-loop
 add-i c = search needs

@@ -2,7 +2,7 @@
 use borrow.Author.Needs.{needs}
 use native.Mathlib.Omega.{arith}
 use Rattle.simulator.proofs.Laws.{into-held, keys-unreached}
-use Rattle.definition.specs.Engine.{toBag}
+use Rattle.definition.specs.Engine.{toBag, dueNumber}
 use Rattle.model_records.specs.Values.{phasesIn, rulesIn}
 use Rattle.pull_laws.specs.TableStep.{isUp, keysInto}
 use denote.Ref.{now}
@@ -13,6 +13,7 @@ use lib.ListN.{length, take, getD, set, length-take}
 use Rattle.laws.proofs.Sorting.{and-left, and-right}
 use Rattle.run_state.specs.Held.{held}
 use Rattle.transitions.proofs.Laws.{still-case}
+use Rattle.dues.proofs.Laws.{due-named}
 use Rattle.simulator.proofs.change_one.Statement.{statement}
 use Rattle.simulator.proofs.change_one.Tie as tie
 
@@ -27,7 +28,7 @@ returns c =
     let h = sym (c .before .is-still .ensures) ∙ c .if1 .taken in
     let keys = keysInto (phasesIn (now (a .phases))) (now (a .tables)) (now (a .marks)) (now (a .reached)) (toBag (now (a .given))) (a .c) in
     let none : length (take (length (now (a .work))) keys) ≡ 0 = omega (arith, length-take (length (now (a .work))) keys, keys-unreached (phasesIn (now (a .phases))) (now (a .tables)) (now (a .marks)) (now (a .reached)) (toBag (now (a .given))) (a .c) (and-right (eqb (getD (now (a .marks)) (a .c) 0) 0) _ h)) in
-    (rw (and-left (eqb (getD (now (a .marks)) (a .c) 0) 0) _ h) (still-case (phasesIn (now (a .phases))) (now (a .tables)) (rulesIn (now (a .rules))) (a .at .0) (held (now (a .phase)) (now (a .last))) (a .i) (a .c) (take (length (now (a .work))) keys) none), sym (set-getD (now (a .ends)) (a .i) 0) ∙ ap (set (now (a .ends)) (a .i)) (c .before .before .before .before .before .before .pre .3))
+    (rw (and-left (eqb (getD (now (a .marks)) (a .c) 0) 0) _ h) (still-case (phasesIn (now (a .phases))) (now (a .tables)) (rulesIn (now (a .rules))) (a .at .0) (held (now (a .phase)) (now (a .last))) (a .i) (a .c) (take (length (now (a .work))) keys) none), sym (set-getD (now (a .ends)) (a .i) 0) ∙ ap (set (now (a .ends)) (a .i)) (c .before .before .before .before .before .before .pre .4))
 
 collect-bag-requires : tie.Need-collect-bag-requires
 collect-bag-requires c κs =
@@ -58,8 +59,7 @@ transition-requires c κs =
     (c .before .before .before .before .before .before .before .before .before .before .before .before .before .before .before .pre .0, c .before .before .before .before .before .before .before .before .before .before .before .before .before .before .before .pre .1)
 
 put-end-requires : tie.Need-put-end-requires
-put-end-requires c κs =
-    (omega arith, c .before .before .before .before .before .before .before .before .before .before .before .before .before .before .before .before .before .before .before .pre .2)
+put-end-requires c κs = (c .before .before .before .before .before .before .before .before .before .before .before .before .before .before .before .before .before .before .pre .0, c .before .before .before .before .before .before .before .before .before .before .before .before .before .before .before .before .before .before .pre .1)
 
 same-length : tie.Need-same-length
 same-length c = search needs
@@ -67,10 +67,14 @@ same-length c = search needs
 returns-2 : tie.Need-returns-2
 unfolding isUp
 returns-2 c =
-    let a = c .before .before .before .before .before .before .before .before .before .before .before .before .before .before .before .before .before .before .before .before .args in
-    let m = c .before .before .before .before .before .before .before .before .before .before .before .before .collect-bag in
+    let a = c .before .before .before .before .before .before .before .before .before .before .before .before .before .before .before .before .before .before .before .args in
+    let m = c .before .before .before .before .before .before .before .before .before .before .before .collect-bag in
     let f = into-held (phasesIn (now (a .phases))) (now (a .tables)) (now (a .marks)) (now (a .reached)) (toBag (now (a .given))) (a .c) (now (a .work)) (m .last .1 .1 .1 .1 .1 .1 .0) (m .result) (m .ensures) in
-    (rw (c .before .before .before .before .before .before .before .before .mark-at .ensures, c .before .before .before .before .before .before .before .before .before .size16 .ensures, f .held) at (c .before .before .before .before .transition .ensures), c .put-end .ensures)
+    let r = c .before .before .before .transition in
+    let st = held (r .last .1 .1 .1 .0) (r .last .1 .1 .1 .1 .0) in (
+      rw (c .before .before .before .before .before .before .before .mark-at .ensures, c .before .before .before .before .before .before .before .before .size16 .ensures, f .held) at (r .ensures .0),
+      c .put-end .ensures ∙ ap (λ u. set (now (a .ends)) (a .i) (dueNumber u)) (due-named (phasesIn (now (a .phases))) (now (a .tables)) st (a .i) (a .c) (r .result) (c .before .before .before .before .before .before .before .before .before .before .before .before .before .before .before .before .before .before .before .pre .3) (r .ensures .1)),
+    )
 
 pub change-one-spec : {M : Type 1} → statement M
 change-one-spec =

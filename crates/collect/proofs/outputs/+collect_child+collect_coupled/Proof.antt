@@ -68,10 +68,10 @@ collect-coupled-below t =
     collect-coupled.Pre
 
 abbrev collect-child-calls : ℕ → collect-child-lts.Claims
-collect-child-calls t = (is-atomic-reads.Asked, is-atomic-reads.Learnt, put-output-reads.Asked, put-output-reads.Learnt, collect-coupled-below t, collect-coupled.Post)
+collect-child-calls t = (is-atomic-reads.Asked, is-atomic-reads.Learnt, put-output-reads.Asked, put-output-reads.Learnt, is-open-reads.Asked, is-open-reads.Learnt, collect-coupled-below t, collect-coupled.Post)
 
 abbrev collect-coupled-calls : ℕ → collect-coupled-lts.Claims
-collect-coupled-calls t = (is-open-reads.Asked, is-open-reads.Learnt, first-link-reads.Asked, first-link-reads.Learnt, source-of-reads.Asked, source-of-reads.Learnt, collect-child-below t, collect-child.Post, next-link-reads.Asked, next-link-reads.Learnt)
+collect-coupled-calls t = (first-link-reads.Asked, first-link-reads.Learnt, source-of-reads.Asked, source-of-reads.Learnt, collect-child-below t, collect-child.Post, next-link-reads.Asked, next-link-reads.Learnt)
 
 collect-child-is-atomic-requires : (t : ℕ) → collect-child-lts.Need-is-atomic-requires (collect-child-calls t) (collect-child-at t) collect-child.Post
 collect-child-is-atomic-requires t c κs = search needs
@@ -89,17 +89,28 @@ collect-child-returns t c =
     let a = c .before .before .before .before .before .before .before .before .args in
     rw (sym (c .before .before .before .before .before .is-atomic .ensures) ∙ c .before .before .before .before .if1 .taken, ← sent-by (phasesIn (now (a .phases))) (now (a .tables)) (now (a .marks)) (a .y)) (c .before .before .put-output .ensures)
 
+collect-child-is-open-requires : (t : ℕ) → collect-child-lts.Need-is-open-requires (collect-child-calls t) (collect-child-at t) collect-child.Post
+collect-child-is-open-requires t c κs = search needs
+
+collect-child-returns-2 : (t : ℕ) → collect-child-lts.Need-returns-2 (collect-child-calls t) (collect-child-at t) collect-child.Post
+unfolding childOut puts
+collect-child-returns-2 t c =
+    let a = c .before .before .before .before .before .before .args in
+    rw (sym (c .before .before .before .is-atomic .ensures) ∙ c .before .before .if1 .left, coupled-shut (phasesIn (now (a .phases))) (now (a .tables)) (now (a .marks)) (now (a .reached)) (a .depth) (a .y) (sym (c .before .is-open .ensures) ∙ not-true _ (c .if2 .taken)))
+
 collect-child-collect-coupled-requires : (t : ℕ) → collect-child-lts.Need-collect-coupled-requires (collect-child-calls t) (collect-child-at t) collect-child.Post
-collect-child-collect-coupled-requires t c κs = search needs
+collect-child-collect-coupled-requires t c κs =
+    let given = c .before .before .before .before .before .before .before .pre .1 in
+    (search needs, (given .0, given .1, sym (c .before .before .is-open .ensures) ∙ not-false _ (c .before .if2 .left)))
 
 collect-child-same-length-2 : (t : ℕ) → collect-child-lts.Need-same-length-2 (collect-child-calls t) (collect-child-at t) collect-child.Post
 collect-child-same-length-2 t c =
     c .before .before .collect-coupled .kept .1 .1 .1 .1 .1 .1 .1 .0
 
-collect-child-returns-2 : (t : ℕ) → collect-child-lts.Need-returns-2 (collect-child-calls t) (collect-child-at t) collect-child.Post
+collect-child-returns-3 : (t : ℕ) → collect-child-lts.Need-returns-3 (collect-child-calls t) (collect-child-at t) collect-child.Post
 unfolding childOut
-collect-child-returns-2 t c =
-    rw (sym (c .before .before .before .before .before .is-atomic .ensures) ∙ c .before .before .before .before .if1 .left) (c .before .before .collect-coupled .ensures)
+collect-child-returns-3 t c =
+    rw (sym (c .before .before .before .before .before .before .before .is-atomic .ensures) ∙ c .before .before .before .before .before .before .if1 .left) (c .before .before .collect-coupled .ensures)
 
 abbrev collect-coupled-Inv-loop : collect-coupled-lts.InvT-loop
 collect-coupled-Inv-loop phases tables marks reached depth own x buf₀ at next₀ left₀ link₀ buf next left link =
@@ -115,24 +126,14 @@ unfolding coupledOut puts
 collect-coupled-returns t c =
     rw (c .if1 .taken)
 
-collect-coupled-is-open-requires : (t : ℕ) → collect-coupled-lts.Need-is-open-requires (collect-coupled-calls t) (collect-coupled-at t) collect-coupled.Post collect-coupled-Inv-loop collect-coupled-μ-loop
-collect-coupled-is-open-requires t c κs = search needs
-
-collect-coupled-returns-2 : (t : ℕ) → collect-coupled-lts.Need-returns-2 (collect-coupled-calls t) (collect-coupled-at t) collect-coupled.Post collect-coupled-Inv-loop collect-coupled-μ-loop
-unfolding puts
-collect-coupled-returns-2 t c =
-    let a = c .before .before .before .before .before .args in
-    let s : isOpen [] (now (a .tables)) (now (a .marks)) (now (a .reached)) (a .x) ≡ false = sym (c .before .is-open .ensures) ∙ not-true _ (c .if2 .taken) in
-    rw (coupled-shut (phasesIn (now (a .phases))) (now (a .tables)) (now (a .marks)) (now (a .reached)) (a .depth) (a .x) s)
-
 collect-coupled-first-link-requires : (t : ℕ) → collect-coupled-lts.Need-first-link-requires (collect-coupled-calls t) (collect-coupled-at t) collect-coupled.Post collect-coupled-Inv-loop collect-coupled-μ-loop
 collect-coupled-first-link-requires t c κs = search needs
 
 collect-coupled-loop-holds : (t : ℕ) → collect-coupled-lts.Need-loop-holds (collect-coupled-calls t) (collect-coupled-at t) collect-coupled.Post collect-coupled-Inv-loop collect-coupled-μ-loop
 collect-coupled-loop-holds t c =
-    let a = c .before .before .before .before .before .before .args in
-    let s : isOpen [] (now (a .tables)) (now (a .marks)) (now (a .reached)) (a .x) ≡ true = sym (c .before .before .is-open .ensures) ∙ not-false _ (c .before .if2 .left) in
-    (omega arith, rw (c .first-link .ensures) (c .before .before .before .before .before .before .pre .1 .1 .firsts (a .x) (c .before .before .before .before .before .before .pre .1 .0)), refl, rw (c .first-link .ensures) (ap (λ l. puts (a .own) l (now (a .buf), a .at)) (coupled-open (phasesIn (now (a .phases))) (now (a .tables)) (now (a .marks)) (now (a .reached)) (a .depth) (a .x) (omega arith) s)))
+    let a = c .before .before .before .before .args in
+    let given = c .before .before .before .before .pre .1 in
+    (omega arith, rw (c .first-link .ensures) (given .1 .firsts (a .x) (given .0)), refl, rw (c .first-link .ensures) (ap (λ l. puts (a .own) l (now (a .buf), a .at)) (coupled-open (phasesIn (now (a .phases))) (now (a .tables)) (now (a .marks)) (now (a .reached)) (a .depth) (a .x) (omega arith) (given .2))))
 
 collect-coupled-source-of-requires : (t : ℕ) → collect-coupled-lts.Need-source-of-requires (collect-coupled-calls t) (collect-coupled-at t) collect-coupled.Post collect-coupled-Inv-loop collect-coupled-μ-loop
 collect-coupled-source-of-requires t c κs =
@@ -143,7 +144,7 @@ collect-coupled-sub-collect-child t c = search needs
 
 collect-coupled-collect-child-requires : (t : ℕ) → collect-coupled-lts.Need-collect-child-requires (collect-coupled-calls t) (collect-coupled-at t) collect-coupled.Post collect-coupled-Inv-loop collect-coupled-μ-loop
 collect-coupled-collect-child-requires t c κs =
-    let r = c .before .before .before .before .before .before .before .before .before .before .pre .1 .1 in
+    let r = c .before .before .before .before .before .before .before .before .pre .1 .1 in
     let l = c .before .before .before .loop in
     (search needs, (rw (c .before .source-of .ensures) (r .sources (l .link) (l .inv .1)), r))
 
@@ -161,19 +162,19 @@ collect-coupled-loop-less t c =
 
 collect-coupled-loop-again : (t : ℕ) → collect-coupled-lts.Need-loop-again (collect-coupled-calls t) (collect-coupled-at t) collect-coupled.Post collect-coupled-Inv-loop collect-coupled-μ-loop
 collect-coupled-loop-again t c =
-    let a = c .before .before .before .before .before .before .before .before .before .before .before .before .before .before .args in
+    let a = c .before .before .before .before .before .before .before .before .before .before .before .before .args in
     let l = c .before .before .before .before .before .before .before .loop in
     let m = c .before .before .before .collect-child in
     let f = pulledChild (phasesIn (now (a .phases))) (now (a .tables)) (now (a .marks)) (now (a .reached)) (a .depth - 1) in
-    (omega arith, rw (c .next-link .ensures) (c .before .before .before .before .before .before .before .before .before .before .before .before .before .before .pre .1 .1 .nexts (l .link) (l .inv .1)), m .kept .1 .1 .1 .1 .1 .1 .1 .0 ∙ l .inv .2, rw (m .ensures, c .before .before .before .before .before .source-of .ensures, c .next-link .ensures) (chain-more f (now (a .tables)) (a .own) (l .left) (l .link) (l .buf, l .next) (c .before .before .before .before .before .before .loop-test .taken) ∙ l .inv .3))
+    (omega arith, rw (c .next-link .ensures) (c .before .before .before .before .before .before .before .before .before .before .before .before .pre .1 .1 .nexts (l .link) (l .inv .1)), m .kept .1 .1 .1 .1 .1 .1 .1 .0 ∙ l .inv .2, rw (m .ensures, c .before .before .before .before .before .source-of .ensures, c .next-link .ensures) (chain-more f (now (a .tables)) (a .own) (l .left) (l .link) (l .buf, l .next) (c .before .before .before .before .before .before .loop-test .taken) ∙ l .inv .3))
 
 collect-coupled-same-length : (t : ℕ) → collect-coupled-lts.Need-same-length (collect-coupled-calls t) (collect-coupled-at t) collect-coupled.Post collect-coupled-Inv-loop collect-coupled-μ-loop
 collect-coupled-same-length t c =
     c .before .loop .inv .2
 
-collect-coupled-returns-3 : (t : ℕ) → collect-coupled-lts.Need-returns-3 (collect-coupled-calls t) (collect-coupled-at t) collect-coupled.Post collect-coupled-Inv-loop collect-coupled-μ-loop
-collect-coupled-returns-3 t c =
-    let a = c .before .before .before .before .before .before .before .before .args in
+collect-coupled-returns-2 : (t : ℕ) → collect-coupled-lts.Need-returns-2 (collect-coupled-calls t) (collect-coupled-at t) collect-coupled.Post collect-coupled-Inv-loop collect-coupled-μ-loop
+collect-coupled-returns-2 t c =
+    let a = c .before .before .before .before .before .before .args in
     let l = c .before .loop in
     let f = pulledChild (phasesIn (now (a .phases))) (now (a .tables)) (now (a .marks)) (now (a .reached)) (a .depth - 1) in
     sym (chain-end f (now (a .tables)) (a .own) (l .left) (l .link) (l .buf, l .next) (c .loop-test .left)) ∙ l .inv .3
@@ -185,6 +186,8 @@ pub +collect-child+collect-coupled-spec : {M : Type 1} → statement M
       is-atomic-reads.Learnt,
       put-output-reads.Asked,
       put-output-reads.Learnt,
+      is-open-reads.Asked,
+      is-open-reads.Learnt,
       collect-coupled-below t,
       collect-coupled.Post,
     )
@@ -194,12 +197,12 @@ pub +collect-child+collect-coupled-spec : {M : Type 1} → statement M
     (collect-child-put-output-requires t)
     (collect-child-same-length t)
     (collect-child-returns t)
+    (collect-child-is-open-requires t)
+    (collect-child-returns-2 t)
     (collect-child-collect-coupled-requires t)
     (collect-child-same-length-2 t)
-    (collect-child-returns-2 t))
+    (collect-child-returns-3 t))
     λ t. collect-coupled-lts.spec (
-      is-open-reads.Asked,
-      is-open-reads.Learnt,
       first-link-reads.Asked,
       first-link-reads.Learnt,
       source-of-reads.Asked,
@@ -214,8 +217,6 @@ pub +collect-child+collect-coupled-spec : {M : Type 1} → statement M
     collect-coupled-Inv-loop
     collect-coupled-μ-loop
     (collect-coupled-returns t)
-    (collect-coupled-is-open-requires t)
-    (collect-coupled-returns-2 t)
     (collect-coupled-first-link-requires t)
     (collect-coupled-loop-holds t)
     (collect-coupled-source-of-requires t)
@@ -226,4 +227,4 @@ pub +collect-child+collect-coupled-spec : {M : Type 1} → statement M
     (collect-coupled-loop-less t)
     (collect-coupled-loop-again t)
     (collect-coupled-same-length t)
-    (collect-coupled-returns-3 t)
+    (collect-coupled-returns-2 t)

@@ -1,0 +1,83 @@
+-- `model_sections::phase_total` meets its contract. Invariant: the total is what stands before component c, at most 64 a component (phases-few). One
+-- component more is before-more, and all of them are the total (before-all). Assumes nothing.
+use borrow.Author.Needs.{needs}
+use native.Mathlib.Omega.{arith}
+use mathlib.Core.Path.{_≡_, sym, ap, _∙_}
+use Prim.Native.Nat.{_≤_, _*_, _-_, _<_}
+use denote.Ref.{now}
+use lib.ListN.{length}
+use Rattle.definition.specs.Model.{componentAt, phasesBefore}
+use Rattle.model_records.specs.Values.{componentsIn}
+use Rattle.model_checks.proofs.Kept.{phases-few}
+use Rattle.model_records.proofs.Before.{before-none, before-more, before-all}
+use Rattle.model_sections.proofs.phase_total.Statement.{statement}
+use Rattle.model_sections.proofs.phase_total.Tie as tie
+
+abbrev Inv-loop : tie.InvT-loop
+Inv-loop components phase-counts owners total₀ c₀ total c = (c ≤ owners) × (total ≤ 64 * c) × (total ≡ phasesBefore (componentsIn components) c)
+
+abbrev μ-loop : tie.MeasureT-loop
+μ-loop components phase-counts owners total₀ c₀ total c = owners - c
+
+-- The phase count that is read, and its bound.
+own : (c : tie.After-size Inv-loop μ-loop) → (c .size .result ≡ componentAt (componentsIn (now (c .before .before .before .before .before .before .args .components))) (c .before .before .before .loop .c) .phases) × (c .size .result ≤ 64)
+own c =
+    let cs = componentsIn (now (c .before .before .before .before .before .before .args .components)) in
+    let b : c .before .before .before .loop .c < length cs = omega (arith, c .before .before .before .before .component-count .ensures) in
+    let e = c .size .ensures ∙ c .before .before .before .before .before .before .pre .1 .holds (c .before .before .before .loop .c) b in
+    (e, rw e (phases-few cs (c .before .before .before .loop .c) (c .before .before .before .before .before .before .pre .0 .fit (c .before .before .before .loop .c) b)))
+
+component-count-requires : tie.Need-component-count-requires Inv-loop μ-loop
+component-count-requires c κs = search needs
+
+loop-holds : tie.Need-loop-holds Inv-loop μ-loop
+loop-holds c =
+    (omega arith, omega arith, sym (before-none (componentsIn (now (c .before .before .args .components)))))
+
+element-copy-out-size : tie.Need-element-copy-out-size Inv-loop μ-loop
+element-copy-out-size c =
+    omega (arith, c .before .before .component-count .ensures, c .before .before .before .before .pre .0 .few)
+
+size-requires : tie.Need-size-requires Inv-loop μ-loop
+size-requires c κs = search needs
+
+add-total : tie.Need-add-total Inv-loop μ-loop
+add-total c =
+    let k = own c in
+    record { fits = omega (arith, c .before .before .before .before .component-count .ensures, c .before .before .before .before .before .before .pre .0 .few) }
+
+add-c : tie.Need-add-c Inv-loop μ-loop
+add-c c = search needs
+
+loop-less : tie.Need-loop-less Inv-loop μ-loop
+loop-less c = search needs
+
+loop-again : tie.Need-loop-again Inv-loop μ-loop
+loop-again c =
+    let l = c .before .before .before .loop in
+    let cs = componentsIn (now (c .before .before .before .before .before .before .args .components)) in
+    let k = own c in
+    (omega arith, omega arith, omega (arith, before-more cs (l .c)))
+
+returns : tie.Need-returns Inv-loop μ-loop
+returns c =
+    let l = c .before .loop in
+    let cs = componentsIn (now (c .before .before .before .before .args .components)) in
+    let e : l .c ≡ length cs = omega (arith, c .before .before .component-count .ensures) in
+    l .inv .2 ∙ ap (phasesBefore cs) e ∙ before-all cs
+
+pub phase-total-spec : {M : Type 1} → statement M
+phase-total-spec =
+    tie.close
+    (tie.spec
+    Inv-loop
+    μ-loop
+    component-count-requires
+    loop-holds
+    element-copy-out-size
+    size-requires
+    add-total
+    add-c
+    loop-less
+    loop-again
+    returns)
