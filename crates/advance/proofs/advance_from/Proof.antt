@@ -63,15 +63,4 @@ returns c =
 
 pub advance-from-spec : {M : Type 1} → statement M
 advance-from-spec =
-    tie.close
-    (tie.spec
-    put-ends-requires
-    advance-on-requires
-    size-requires
-    store-requires
-    same-length
-    same-length-2
-    same-length-3
-    same-length-4
-    same-length-5
-    returns)
+    tie.close (tie.spec put-ends-requires advance-on-requires size-requires store-requires same-length same-length-2 same-length-3 same-length-4 same-length-5 returns)

@@ -10,38 +10,30 @@ use Rattle.advance_call.proofs.Checks.{model-refused}
 use Rattle.advance_call.proofs.advance.Statement.{statement}
 use Rattle.advance_call.proofs.advance.Tie as tie
 
--- src/lib.rt:138:9
 open-model-requires : tie.Need-open-model-requires
 open-model-requires c κs = zeros-made
 
--- src/lib.rt:139:27
 enum-known-checked : tie.Need-enum-known-checked
 enum-known-checked c = search needs
 
--- src/lib.rt:140:31
 enum-told : tie.Need-enum-told
 enum-told c = search needs
 
--- src/lib.rt:140:31
 checked-number-requires : tie.Need-checked-number-requires
 checked-number-requires c κs = search needs
 
--- src/lib.rt:140:24
 wide16-requires : tie.Need-wide16-requires
 wide16-requires c κs = search needs
 
--- src/lib.rt:140:9
 refused-requires : tie.Need-refused-requires
 refused-requires c κs = search needs
 
--- src/lib.rt:140:9
 returns : tie.Need-returns
 returns c =
     let a = c .before .before .before .before .before .before .before .before .before .before .before .args in
     let told = sym (ap (checkedAs (a .file .now)) (c .before .before .before .enum-told .given .1)) ∙ c .before .before .before .before .before .open-model .ensures .0 in
     rw (c .refused .ensures, c .before .wide16 .ensures, c .before .before .checked-number .ensures, c .before .before .before .enum-told .given .1) (model-refused (a .file .now) (a .run .now) (a .t) (a .bag .now) (a .trace .now) _ told)
 
--- src/lib.rt:142:5
 advance-accepted-requires : tie.Need-advance-accepted-requires
 advance-accepted-requires c κs =
     let file = c .before .before .before .before .before .before .before .before .before .before .before .before .args .file .now in
@@ -49,30 +41,15 @@ advance-accepted-requires c κs =
     let is = c .before .before .before .before .checked .given .1 in
     (sym (ap (checkedAs file) is) ∙ r .ensures .0, subst (λ (k : Checked). Opened file k (r .last .1 .0)) is (r .ensures .2), subst (λ (k : Checked). Routed file k (r .result .routes)) is (r .ensures .1))
 
--- src/lib.rt:135:1
 same-length : tie.Need-same-length
 same-length c = search needs
 
--- src/lib.rt:135:1
 same-length-2 : tie.Need-same-length-2
 same-length-2 c = search needs
 
--- src/lib.rt:135:1
 returns-2 : tie.Need-returns-2
 returns-2 c = search needs
 
 pub advance-spec : {M : Type 1} → statement M
 advance-spec =
-    tie.close
-    (tie.spec
-    open-model-requires
-    enum-known-checked
-    enum-told
-    checked-number-requires
-    wide16-requires
-    refused-requires
-    returns
-    advance-accepted-requires
-    same-length
-    same-length-2
-    returns-2)
+    tie.close (tie.spec open-model-requires enum-known-checked enum-told checked-number-requires wide16-requires refused-requires returns advance-accepted-requires same-length same-length-2 returns-2)

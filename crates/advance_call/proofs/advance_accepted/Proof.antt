@@ -17,29 +17,23 @@ use Rattle.advance_call.proofs.Whole.{opens-after, opens-by}
 use Rattle.advance_call.proofs.advance_accepted.Statement.{statement}
 use Rattle.advance_call.proofs.advance_accepted.Tie as tie
 
--- src/lib.rt:110:9
 components-of-requires : tie.Need-components-of-requires
 components-of-requires c κs = search needs
 
--- src/lib.rt:111:37
 phases-of-requires : tie.Need-phases-of-requires
 phases-of-requires c κs = search needs
 
--- src/lib.rt:111:9
 fits-requires : tie.Need-fits-requires
 fits-requires c κs =
     let a = c .before .before .before .before .before .before .before .args in
     rw (c .before .before .components-of .ensures) (few-components (a .file .now) (a .n) (λ i. c .before .before .before .before .before .before .shared-slice-known .given i .fits) (c .before .before .before .before .before .before .before .pre .0))
 
--- src/lib.rt:112:9
 refused-requires : tie.Need-refused-requires
 refused-requires c κs = search needs
 
--- src/lib.rt:112:9
 same-length : tie.Need-same-length
 same-length c = search needs
 
--- src/lib.rt:112:9
 returns : tie.Need-returns
 returns c =
     let a = c .before .before .before .before .before .before .before .before .before .before .args in
@@ -47,19 +41,15 @@ returns c =
     let f = c .before .before .fits2 .ensures ∙ ap₂ (λ (x y : Bytes). fits (bare x y) (a .run .now)) (c .before .before .before .before .before .components-of .ensures) (c .before .before .before .before .phases-of .ensures) ∙ fits-file (a .file .now) (a .run .now) (a .n) in
     rw (c .refused .ensures) (run-unfit (a .file .now) (a .run .now) (a .t) (a .bag .now) (a .trace .now) m (c .before .before .before .before .before .before .before .before .before .before .pre .0) (sym f ∙ not-true (c .before .before .fits2 .result) (c .before .if1 .taken)))
 
--- src/lib.rt:114:9
 opening-of-requires : tie.Need-opening-of-requires
 opening-of-requires c κs = search needs
 
--- src/lib.rt:116:9
 refused-requires-2 : tie.Need-refused-requires-2
 refused-requires-2 c κs = search needs
 
--- src/lib.rt:116:9
 same-length-2 : tie.Need-same-length-2
 same-length-2 c = search needs
 
--- src/lib.rt:116:9
 returns-2 : tie.Need-returns-2
 returns-2 c =
     let a = c .before .before .before .before .before .before .before .before .before .before .before .before .before .before .args in
@@ -68,15 +58,12 @@ returns-2 c =
     let g = sym f ∙ not-false (c .before .before .before .before .before .before .fits2 .result) (c .before .before .before .before .before .if1 .left) in
     rw (c .refused2 .ensures) (too-early (a .file .now) (a .run .now) (a .t) (a .bag .now) (a .trace .now) m (c .before .before .before .before .before .before .before .before .before .before .before .before .before .before .pre .0) g (opens-after (a .file .now) (a .n) (a .run .now) (a .t) _ (c .before .before .before .opening-of .ensures) (c .before .if2 .taken)))
 
--- src/lib.rt:119:9
 refused-requires-3 : tie.Need-refused-requires-3
 refused-requires-3 c κs = search needs
 
--- src/lib.rt:119:9
 same-length-3 : tie.Need-same-length-3
 same-length-3 c = search needs
 
--- src/lib.rt:119:9
 returns-3 : tie.Need-returns-3
 returns-3 c =
     let a = c .before .before .before .before .before .before .before .before .before .before .before .before .before .before .before .args in
@@ -85,19 +72,15 @@ returns-3 c =
     let g = sym f ∙ not-false (c .before .before .before .before .before .before .before .fits2 .result) (c .before .before .before .before .before .before .if1 .left) in
     rw (c .refused3 .ensures) (too-late (a .file .now) (a .run .now) (a .t) (a .bag .now) (a .trace .now) m (c .before .before .before .before .before .before .before .before .before .before .before .before .before .before .before .pre .0) g (c .before .if3 .taken))
 
--- src/lib.rt:121:9
 bag-fits-requires : tie.Need-bag-fits-requires
 bag-fits-requires c κs = search needs
 
--- src/lib.rt:122:9
 refused-requires-4 : tie.Need-refused-requires-4
 refused-requires-4 c κs = search needs
 
--- src/lib.rt:122:9
 same-length-4 : tie.Need-same-length-4
 same-length-4 c = search needs
 
--- src/lib.rt:122:9
 returns-4 : tie.Need-returns-4
 returns-4 c =
     let a = c .before .before .before .before .before .before .before .before .before .before .before .before .before .before .before .before .before .args in
@@ -107,11 +90,9 @@ returns-4 c =
     let o = opens-by (a .file .now) (a .n) (a .run .now) (a .t) _ (c .before .before .before .before .before .before .opening-of .ensures) (c .before .before .before .before .if2 .left) in
     rw (c .refused4 .ensures) (bag-unfit (a .file .now) (a .run .now) (a .t) (a .bag .now) (a .trace .now) m (c .before .before .before .before .before .before .before .before .before .before .before .before .before .before .before .before .before .pre .0) g o (c .before .before .before .if3 .left) (sym (c .before .before .bag-fits .ensures) ∙ not-true (c .before .before .bag-fits .result) (c .before .if4 .taken)))
 
--- src/lib.rt:128:9
 atomic-count-requires : tie.Need-atomic-count-requires
 atomic-count-requires c κs = search needs
 
--- src/lib.rt:124:5
 advance-few-requires : tie.Need-advance-few-requires
 advance-few-requires c κs =
     let a = c .before .before .before .before .before .before .before .before .before .before .before .before .before .before .before .before .before .before .before .before .args in
@@ -139,15 +120,12 @@ advance-many-requires c κs =
       c .before .before .before .atomic-count .ensures ∙ ap (λ (s : Bytes). length (atomics (componentsIn s))) (c .before .before .before .before .before .before .before .before .before .before .before .before .before .before .before .components-of .ensures) ∙ count-file (a .file .now) (a .n),
     )
 
--- src/lib.rt:99:1
 same-length-5 : tie.Need-same-length-5
 same-length-5 c = search needs
 
--- src/lib.rt:99:1
 same-length-6 : tie.Need-same-length-6
 same-length-6 c = search needs
 
--- src/lib.rt:99:1
 returns-5 : tie.Need-returns-5
 returns-5 c = search needs
 

@@ -25,31 +25,24 @@ bytes f i = f .before .before .before .before .before .before .before .before .b
 told : (f : tie.After-load) → ok (modelOf (file f) (counts f)) ≡ accepted (file f)
 told f = f .before .before .before .before .before .before .before .before .before .before .before .before .pre .0
 
--- src/lib.rt:84:9
 opening-of-requires : tie.Need-opening-of-requires
 opening-of-requires c κs = search needs
 
--- src/lib.rt:87:5
 load-requires : tie.Need-load-requires
 load-requires c κs = search needs
 
--- src/lib.rt:90:9
 phases-of-requires : tie.Need-phases-of-requires
 phases-of-requires c κs = search needs
 
--- src/lib.rt:91:9
 rules-of-requires : tie.Need-rules-of-requires
 rules-of-requires c κs = search needs
 
--- src/lib.rt:93:9
 cast-advance-from : tie.Need-cast-advance-from
 cast-advance-from c = search needs
 
--- src/lib.rt:102:9
 slice-aggregate-advance-from : tie.Need-slice-aggregate-advance-from
 slice-aggregate-advance-from c = search needs
 
--- src/lib.rt:89:9
 advance-from-requires : tie.Need-advance-from-requires
 advance-from-requires c κs =
     let f = c .before .before .before .before .before .before .before .before .before in
@@ -57,23 +50,18 @@ advance-from-requires c κs =
     let r = checked-room (file f) (counts f) (bytes f) (told f) (given .args .run .now) (given .args .t .0) (given .args .bag .now) (given .args .count) (given .pre .2) (given .pre .3) _ (given .pre .1) in
     (given .pre .4, r .0, r .1, r .2)
 
--- src/lib.rt:66:1
 same-length : tie.Need-same-length
 same-length c = search needs
 
--- src/lib.rt:66:1
 same-length-2 : tie.Need-same-length-2
 same-length-2 c = search needs
 
--- src/lib.rt:66:1
 same-length-3 : tie.Need-same-length-3
 same-length-3 c = search needs
 
--- src/lib.rt:66:1
 same-length-4 : tie.Need-same-length-4
 same-length-4 c = search needs
 
--- src/lib.rt:66:1
 returns : tie.Need-returns
 returns c =
     let f = c .before .before .before .before .before .before .before .before .before .before .before .before .before .before .before .before .before .before .before in

@@ -5,40 +5,27 @@ use Rattle.advance_call.proofs.Whole.{most-routes}
 use Rattle.advance_call.proofs.advance_many.Statement.{statement}
 use Rattle.advance_call.proofs.advance_many.Tie as tie
 
--- src/lib.rt:148:56
 slice-aggregate-advance-let-in : tie.Need-slice-aggregate-advance-let-in
 slice-aggregate-advance-let-in c = search needs
 
--- src/lib.rt:148:67
 slice-aggregate-advance-let-in-2 : tie.Need-slice-aggregate-advance-let-in-2
 slice-aggregate-advance-let-in-2 c = search needs
 
--- src/lib.rt:148:5
 advance-let-in-requires : tie.Need-advance-let-in-requires
 advance-let-in-requires c κs =
     let given = c .before .before .before .before .before .before .before .before in
     let most = most-routes (given .args .file .now) (given .args .n) (λ i. c .before .before .before .before .before .before .before .shared-slice-known .given i .fits) (given .pre .0) in
     (given .pre .0, given .pre .1, given .pre .2, given .pre .3, (omega arith, omega arith), omega (arith, most))
 
--- src/lib.rt:133:1
 same-length : tie.Need-same-length
 same-length c = search needs
 
--- src/lib.rt:133:1
 same-length-2 : tie.Need-same-length-2
 same-length-2 c = search needs
 
--- src/lib.rt:133:1
 returns : tie.Need-returns
 returns c = search needs
 
 pub advance-many-spec : {M : Type 1} → statement M
 advance-many-spec =
-    tie.close
-    (tie.spec
-    slice-aggregate-advance-let-in
-    slice-aggregate-advance-let-in-2
-    advance-let-in-requires
-    same-length
-    same-length-2
-    returns)
+    tie.close (tie.spec slice-aggregate-advance-let-in slice-aggregate-advance-let-in-2 advance-let-in-requires same-length same-length-2 returns)

@@ -64,19 +64,4 @@ returns c =
 
 pub put-given-spec : {M : Type 1} → statement M
 put-given-spec =
-    tie.close
-    (tie.spec
-    Inv-loop
-    μ-loop
-    loop-holds
-    mul-byte-at
-    byte-at-requires
-    mul-u16-at
-    add-u16-at
-    u16-at-requires
-    put-wanted-requires
-    add-i
-    loop-less
-    loop-again
-    same-length
-    returns)
+    tie.close (tie.spec Inv-loop μ-loop loop-holds mul-byte-at byte-at-requires mul-u16-at add-u16-at u16-at-requires put-wanted-requires add-i loop-less loop-again same-length returns)

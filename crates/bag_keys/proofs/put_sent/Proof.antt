@@ -57,17 +57,4 @@ returns-3 c =
 
 pub put-sent-spec : {M : Type 1} → statement M
 put-sent-spec =
-    tie.close
-    (tie.spec
-    returns
-    sub-i
-    cast-i
-    returns-2
-    mul-from
-    add-phase
-    sub-phase
-    part-phase-start
-    part-phase-end
-    put-slots-requires
-    same-length
-    returns-3)
+    tie.close (tie.spec returns sub-i cast-i returns-2 mul-from add-phase sub-phase part-phase-start part-phase-end put-slots-requires same-length returns-3)

@@ -68,20 +68,4 @@ returns c =
 
 pub put-slots-spec : {M : Type 1} → statement M
 put-slots-spec =
-    tie.close
-    (tie.spec
-    Inv-loop
-    μ-loop
-    used-slots-requires
-    loop-holds
-    mul-slot
-    add-slot
-    byte-at-requires
-    add-u16-at
-    u16-at-requires
-    put-wanted-requires
-    add-j
-    loop-less
-    loop-again
-    same-length
-    returns)
+    tie.close (tie.spec Inv-loop μ-loop used-slots-requires loop-holds mul-slot add-slot byte-at-requires add-u16-at u16-at-requires put-wanted-requires add-j loop-less loop-again same-length returns)

@@ -53,14 +53,4 @@ returns-3 c =
 
 pub collect-arriving-spec : {M : Type 1} → statement M
 collect-arriving-spec =
-    tie.close
-    (tie.spec
-    port-of-requires
-    put-given-requires
-    same-length
-    returns
-    is-open-requires
-    returns-2
-    collect-input-requires
-    same-length-2
-    returns-3)
+    tie.close (tie.spec port-of-requires put-given-requires same-length returns is-open-requires returns-2 collect-input-requires same-length-2 returns-3)

@@ -68,18 +68,4 @@ returns-2 c =
 
 pub collect-bag-spec : {M : Type 1} → statement M
 collect-bag-spec =
-    tie.close
-    (tie.spec
-    Inv-loop
-    μ-loop
-    size16-requires
-    mark-at-requires
-    returns
-    loop-holds
-    input-node-requires
-    collect-arriving-requires
-    add-q
-    loop-less
-    loop-again
-    same-length
-    returns-2)
+    tie.close (tie.spec Inv-loop μ-loop size16-requires mark-at-requires returns loop-holds input-node-requires collect-arriving-requires add-q loop-less loop-again same-length returns-2)

@@ -55,15 +55,4 @@ returns c =
 
 pub collect-root-spec : {M : Type 1} → statement M
 collect-root-spec =
-    tie.close
-    (tie.spec
-    Inv-loop
-    μ-loop
-    loop-holds
-    root-output-requires
-    collect-leaving-requires
-    add-q
-    loop-less
-    loop-again
-    same-length
-    returns)
+    tie.close (tie.spec Inv-loop μ-loop loop-holds root-output-requires collect-leaving-requires add-q loop-less loop-again same-length returns)

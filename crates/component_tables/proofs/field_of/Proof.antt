@@ -39,16 +39,4 @@ returns-5 c =
 
 pub field-of-spec : {M : Type 1} → statement M
 field-of-spec =
-    tie.close
-    (tie.spec
-    enum-told
-    enum-told-2
-    enum-told-3
-    enum-told-4
-    enum-told-5
-    one-if-requires
-    returns
-    returns-2
-    returns-3
-    returns-4
-    returns-5)
+    tie.close (tie.spec enum-told enum-told-2 enum-told-3 enum-told-4 enum-told-5 one-if-requires returns returns-2 returns-3 returns-4 returns-5)

@@ -51,13 +51,4 @@ returns c =
 
 pub fill-children-spec : {M : Type 1} → statement M
 fill-children-spec =
-    tie.close
-    (tie.spec
-    slice-aggregate-put-fields
-    put-fields-requires
-    count-word-requires
-    less-one-requires
-    slice-aggregate-link-all
-    link-all-requires
-    same-length
-    returns)
+    tie.close (tie.spec slice-aggregate-put-fields put-fields-requires count-word-requires less-one-requires slice-aggregate-link-all link-all-requires same-length returns)

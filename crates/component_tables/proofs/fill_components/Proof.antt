@@ -45,13 +45,4 @@ returns c =
 
 pub fill-components-spec : {M : Type 1} → statement M
 fill-components-spec =
-    tie.close
-    (tie.spec
-    put-numbers-requires
-    put-sums-requires
-    put-fields-requires
-    put-fields-requires-2
-    put-sums-requires-2
-    put-fields-requires-3
-    same-length
-    returns)
+    tie.close (tie.spec put-numbers-requires put-sums-requires put-fields-requires put-fields-requires-2 put-sums-requires-2 put-fields-requires-3 same-length returns)

@@ -68,19 +68,4 @@ returns c =
 
 pub put-fields-spec : {M : Type 1} → statement M
 put-fields-spec =
-    tie.close
-    (tie.spec
-    Inv-loop
-    μ-loop
-    component-count-requires
-    loop-holds
-    field-at-requires
-    word-requires
-    add-t
-    mul-t
-    slice-write-t
-    add-c
-    loop-less
-    loop-again
-    same-length
-    returns)
+    tie.close (tie.spec Inv-loop μ-loop component-count-requires loop-holds field-at-requires word-requires add-t mul-t slice-write-t add-c loop-less loop-again same-length returns)

@@ -49,15 +49,4 @@ returns-2 c =
 
 pub put-number-spec : {M : Type 1} → statement M
 put-number-spec =
-    tie.close
-    (tie.spec
-    size16-requires
-    is-atomic-requires
-    size16-requires-2
-    add-t
-    mul-t
-    slice-write-t
-    add-result
-    same-length
-    returns
-    returns-2)
+    tie.close (tie.spec size16-requires is-atomic-requires size16-requires-2 add-t mul-t slice-write-t add-result same-length returns returns-2)

@@ -57,15 +57,4 @@ returns c =
 
 pub put-numbers-spec : {M : Type 1} → statement M
 put-numbers-spec =
-    tie.close
-    (tie.spec
-    Inv-loop
-    μ-loop
-    count-word-requires
-    loop-holds
-    put-number-requires
-    add-c
-    loop-less
-    loop-again
-    same-length
-    returns)
+    tie.close (tie.spec Inv-loop μ-loop count-word-requires loop-holds put-number-requires add-c loop-less loop-again same-length returns)

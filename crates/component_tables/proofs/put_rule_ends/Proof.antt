@@ -70,18 +70,4 @@ returns c =
 
 pub put-rule-ends-spec : {M : Type 1} → statement M
 put-rule-ends-spec =
-    tie.close
-    (tie.spec
-    Inv-loop
-    μ-loop
-    rule-word-requires
-    loop-holds
-    rule-name-requires
-    size-requires
-    add-put-in
-    put-in-requires
-    add-i
-    loop-less
-    loop-again
-    same-length
-    returns)
+    tie.close (tie.spec Inv-loop μ-loop rule-word-requires loop-holds rule-name-requires size-requires add-put-in put-in-requires add-i loop-less loop-again same-length returns)

@@ -64,17 +64,4 @@ returns c =
 
 pub put-rule-starts-spec : {M : Type 1} → statement M
 put-rule-starts-spec =
-    tie.close
-    (tie.spec
-    Inv-loop
-    μ-loop
-    rule-word-requires
-    loop-holds
-    sub-i
-    rule-name-requires
-    size-requires
-    put-in-requires
-    loop-less
-    loop-again
-    same-length
-    returns)
+    tie.close (tie.spec Inv-loop μ-loop rule-word-requires loop-holds sub-i rule-name-requires size-requires put-in-requires loop-less loop-again same-length returns)

@@ -74,20 +74,4 @@ returns c =
 
 pub put-sums-spec : {M : Type 1} → statement M
 put-sums-spec =
-    tie.close
-    (tie.spec
-    Inv-loop
-    μ-loop
-    component-count-requires
-    loop-holds
-    add-t
-    mul-t
-    slice-write-t
-    field-at-requires
-    word-requires
-    add-total
-    add-c
-    loop-less
-    loop-again
-    same-length
-    returns)
+    tie.close (tie.spec Inv-loop μ-loop component-count-requires loop-holds add-t mul-t slice-write-t field-at-requires word-requires add-total add-c loop-less loop-again same-length returns)

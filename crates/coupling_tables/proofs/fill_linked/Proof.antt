@@ -70,11 +70,4 @@ returns c =
 
 pub fill-linked-spec : {M : Type 1} → statement M
 fill-linked-spec =
-    tie.close
-    (tie.spec
-    link-count-requires
-    link-all-requires
-    mark-sources-requires
-    spread-up-requires
-    spread-down-requires
-    returns)
+    tie.close (tie.spec link-count-requires link-all-requires mark-sources-requires spread-up-requires spread-down-requires returns)

@@ -32,13 +32,4 @@ returns c =
 
 pub output-node-spec : {M : Type 1} → statement M
 output-node-spec =
-    tie.close
-    (tie.spec
-    cast-result
-    word-requires
-    mul-result
-    word-requires-2
-    word-requires-3
-    add-result
-    add-result-2
-    returns)
+    tie.close (tie.spec cast-result word-requires mul-result word-requires-2 word-requires-3 add-result add-result-2 returns)

@@ -40,12 +40,4 @@ returns-2 c =
 
 pub source-node-spec : {M : Type 1} → statement M
 source-node-spec =
-    tie.close
-    (tie.spec
-    size-requires
-    size-requires-2
-    is-child-requires
-    input-node-requires
-    output-node-requires
-    returns
-    returns-2)
+    tie.close (tie.spec size-requires size-requires-2 is-child-requires input-node-requires output-node-requires returns returns-2)

@@ -60,14 +60,4 @@ returns c =
 
 pub spread-down-spec : {M : Type 1} → statement M
 spread-down-spec =
-    tie.close
-    (tie.spec
-    Inv-loop
-    μ-loop
-    loop-holds
-    add-loop
-    spread-link-requires
-    add-j
-    loop-less
-    loop-again
-    returns)
+    tie.close (tie.spec Inv-loop μ-loop loop-holds add-loop spread-link-requires add-j loop-less loop-again returns)

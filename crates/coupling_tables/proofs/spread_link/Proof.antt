@@ -37,13 +37,4 @@ returns c =
 
 pub spread-link-spec : {M : Type 1} → statement M
 spread-link-spec =
-    tie.close
-    (tie.spec
-    size16-requires
-    add-x
-    mul-x
-    element-copy-out-x
-    mul-y
-    element-copy-out-y
-    spread-one-requires
-    returns)
+    tie.close (tie.spec size16-requires add-x mul-x element-copy-out-x mul-y element-copy-out-y spread-one-requires returns)

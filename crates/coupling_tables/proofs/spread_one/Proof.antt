@@ -53,15 +53,4 @@ returns-2 c =
 
 pub spread-one-spec : {M : Type 1} → statement M
 spread-one-spec =
-    tie.close
-    (tie.spec
-    size16-requires
-    add-if1
-    mul-if1
-    element-copy-out-if1
-    size16-requires-2
-    add-t
-    mul-t
-    element-write-t
-    returns
-    returns-2)
+    tie.close (tie.spec size16-requires add-if1 mul-if1 element-copy-out-if1 size16-requires-2 add-t mul-t element-write-t returns returns-2)

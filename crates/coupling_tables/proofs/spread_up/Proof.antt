@@ -55,13 +55,4 @@ returns c =
 
 pub spread-up-spec : {M : Type 1} → statement M
 spread-up-spec =
-    tie.close
-    (tie.spec
-    Inv-loop
-    μ-loop
-    loop-holds
-    spread-link-requires
-    sub-j
-    loop-less
-    loop-again
-    returns)
+    tie.close (tie.spec Inv-loop μ-loop loop-holds spread-link-requires sub-j loop-less loop-again returns)

@@ -40,12 +40,4 @@ returns-2 c =
 
 pub target-node-spec : {M : Type 1} → statement M
 target-node-spec =
-    tie.close
-    (tie.spec
-    size-requires
-    size-requires-2
-    is-child-requires
-    output-node-requires
-    input-node-requires
-    returns
-    returns-2)
+    tie.close (tie.spec size-requires size-requires-2 is-child-requires output-node-requires input-node-requires returns returns-2)

@@ -72,19 +72,4 @@ returns-2 c =
 
 pub deciding-spec : {M : Type 1} → statement M
 deciding-spec =
-    tie.close
-    (tie.spec
-    Inv-loop
-    μ-loop
-    stop-before-requires
-    head-of-requires
-    mul-at
-    loop-holds
-    decided-past-requires
-    decides-requires
-    add-i
-    add-at
-    loop-less
-    loop-again
-    returns
-    returns-2)
+    tie.close (tie.spec Inv-loop μ-loop stop-before-requires head-of-requires mul-at loop-holds decided-past-requires decides-requires add-i add-at loop-less loop-again returns returns-2)

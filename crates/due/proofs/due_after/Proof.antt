@@ -7,21 +7,17 @@ use borrow.Author.Tests.{eq-eqb, ne-eqb}
 use Rattle.due.proofs.due_after.Statement.{statement}
 use Rattle.due.proofs.due_after.Tie as tie
 
--- src/lib.rt:23:9
 returns : tie.Need-returns
 unfolding dueAfter
 returns c =
     rw (eq-eqb _ _ (c .if1 .taken))
 
--- src/lib.rt:25:28
 wide-requires : tie.Need-wide-requires
 wide-requires c κs = search needs
 
--- src/lib.rt:25:13
 plus-requires : tie.Need-plus-requires
 plus-requires c κs = search needs
 
--- src/lib.rt:19:1
 returns-2 : tie.Need-returns-2
 unfolding dueAfter
 returns-2 c =

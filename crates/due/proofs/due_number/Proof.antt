@@ -4,21 +4,17 @@ use Rattle.definition.specs.Engine.{dueNumber}
 use Rattle.due.proofs.due_number.Statement.{statement}
 use Rattle.due.proofs.due_number.Tie as tie
 
--- src/lib.rt:57:17
 enum-known-due : tie.Need-enum-known-due
 enum-known-due c = search needs
 
--- src/lib.rt:58:23
 enum-told : tie.Need-enum-told
 enum-told c = search needs
 
--- src/lib.rt:53:1
 returns : tie.Need-returns
 unfolding dueNumber
 returns c =
     rw (c .before .due .given .1)
 
--- src/lib.rt:53:1
 returns-2 : tie.Need-returns-2
 unfolding dueNumber
 returns-2 c =

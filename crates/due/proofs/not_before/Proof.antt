@@ -4,21 +4,17 @@ use Rattle.definition.specs.SavedRun.{notBefore}
 use Rattle.due.proofs.not_before.Statement.{statement}
 use Rattle.due.proofs.not_before.Tie as tie
 
--- src/lib.rt:32:17
 enum-known-due : tie.Need-enum-known-due
 enum-known-due c = search needs
 
--- src/lib.rt:33:9
 enum-told : tie.Need-enum-told
 enum-told c = search needs
 
--- src/lib.rt:33:9
 returns : tie.Need-returns
 unfolding notBefore
 returns c =
     rw (c .enum-told .given .1)
 
--- src/lib.rt:29:1
 returns-2 : tie.Need-returns-2
 unfolding notBefore
 returns-2 c =

@@ -9,27 +9,21 @@ use Rattle.pull_laws.specs.TableStep.{dueIn}
 use Rattle.dues.proofs.put_end.Statement.{statement}
 use Rattle.dues.proofs.put_end.Tie as tie
 
--- src/lib.rt:76:9
 size-requires : tie.Need-size-requires
 size-requires c κs = search needs
 
--- src/lib.rt:77:48
 last-at-requires : tie.Need-last-at-requires
 last-at-requires c κs = search needs
 
--- src/lib.rt:77:16
 end-since-requires : tie.Need-end-since-requires
 end-since-requires c κs = search needs
 
--- src/lib.rt:77:5
 mul-ends : tie.Need-mul-ends
 mul-ends c = search needs
 
--- src/lib.rt:77:5
 element-write-ends : tie.Need-element-write-ends
 element-write-ends c = search needs
 
--- src/lib.rt:64:1
 returns : tie.Need-returns
 returns c =
     let a = c .before .before .before .before .args in
@@ -38,11 +32,4 @@ returns c =
 
 pub put-end-spec : {M : Type 1} → statement M
 put-end-spec =
-    tie.close
-    (tie.spec
-    size-requires
-    last-at-requires
-    end-since-requires
-    mul-ends
-    element-write-ends
-    returns)
+    tie.close (tie.spec size-requires last-at-requires end-since-requires mul-ends element-write-ends returns)

@@ -17,58 +17,37 @@ Inv-loop marks₀ c₀ marks c = (c ≤ maxComponents) × (length marks ≡ leng
 abbrev μ-loop : tie.MeasureT-loop
 μ-loop marks₀ c₀ marks c = maxComponents - c
 
--- src/lib.rt:73:5
 loop-holds : tie.Need-loop-holds Inv-loop μ-loop
 loop-holds c =
     (omega arith, refl, refl)
 
--- src/lib.rt:74:20
 mark-requires : tie.Need-mark-requires Inv-loop μ-loop
 mark-requires c κs = search needs
 
--- src/lib.rt:74:9
 mul-marks : tie.Need-mul-marks Inv-loop μ-loop
 mul-marks c = search needs
 
--- src/lib.rt:74:9
 slice-write-marks : tie.Need-slice-write-marks Inv-loop μ-loop
 slice-write-marks c = search needs
 
--- src/lib.rt:75:13
 add-c : tie.Need-add-c Inv-loop μ-loop
 add-c c = search needs
 
--- src/lib.rt:73:5
 loop-less : tie.Need-loop-less Inv-loop μ-loop
 loop-less c = search needs
 
--- src/lib.rt:73:5
 loop-again : tie.Need-loop-again Inv-loop μ-loop
 loop-again c =
     let l = c .before .before .loop in (omega arith, simp length-set (l .inv .1), rw (c .mark .ensures) (marks-more (l .c) (l .marks) (c .before .loop-test .taken) ∙ l .inv .2))
 
--- src/lib.rt:68:1
 same-length : tie.Need-same-length Inv-loop μ-loop
 same-length c =
     c .before .loop .inv .1
 
--- src/lib.rt:68:1
 returns : tie.Need-returns Inv-loop μ-loop
 returns c =
     let a = c .before .before .before .args in let l = c .before .loop in sym (marks-none (l .c) (l .marks) (c .loop-test .left)) ∙ l .inv .2 ∙ marks-all (now (a .marks)) (c .before .before .before .pre)
 
 pub put-marks-spec : {M : Type 1} → statement M
 put-marks-spec =
-    tie.close
-    (tie.spec
-    Inv-loop
-    μ-loop
-    loop-holds
-    mark-requires
-    mul-marks
-    slice-write-marks
-    add-c
-    loop-less
-    loop-again
-    same-length
-    returns)
+    tie.close (tie.spec Inv-loop μ-loop loop-holds mark-requires mul-marks slice-write-marks add-c loop-less loop-again same-length returns)

@@ -5,55 +5,42 @@ use denote.Ref.{now}
 use Rattle.flat_probe.proofs.put_probe.Statement.{statement}
 use Rattle.flat_probe.proofs.put_probe.Tie as tie
 
--- src/lib.rt:40:5
 put-number-requires : tie.Need-put-number-requires
 put-number-requires c κs = search needs
 
--- src/lib.rt:41:21
 add-put-number : tie.Need-add-put-number
 add-put-number c = search needs
 
--- src/lib.rt:41:5
 put-number-requires-2 : tie.Need-put-number-requires-2
 put-number-requires-2 c κs = search needs
 
--- src/lib.rt:42:25
 add-put-slot : tie.Need-add-put-slot
 add-put-slot c = search needs
 
--- src/lib.rt:42:5
 put-slot-requires : tie.Need-put-slot-requires
 put-slot-requires c κs = search needs
 
--- src/lib.rt:43:25
 add-put-slot-2 : tie.Need-add-put-slot-2
 add-put-slot-2 c = search needs
 
--- src/lib.rt:43:5
 put-slot-requires-2 : tie.Need-put-slot-requires-2
 put-slot-requires-2 c κs = search needs
 
--- src/lib.rt:44:25
 add-put-slot-3 : tie.Need-add-put-slot-3
 add-put-slot-3 c = search needs
 
--- src/lib.rt:44:5
 put-slot-requires-3 : tie.Need-put-slot-requires-3
 put-slot-requires-3 c κs = search needs
 
--- src/lib.rt:45:25
 add-put-slot-4 : tie.Need-add-put-slot-4
 add-put-slot-4 c = search needs
 
--- src/lib.rt:45:5
 put-slot-requires-4 : tie.Need-put-slot-requires-4
 put-slot-requires-4 c κs = search needs
 
--- src/lib.rt:36:1
 same-length : tie.Need-same-length
 same-length c = search needs
 
--- src/lib.rt:36:1
 returns : tie.Need-returns
 returns c =
     let a = c .before .before .before .before .before .before .before .before .before .before .before .before .before .before .before .before .before .before .before .before .before .before .before .before .before .args in rw (c .before .before .put-slot4 .ensures, c .before .before .before .before .before .before .put-slot3 .ensures, c .before .before .before .before .before .before .before .before .before .before .put-slot2 .ensures, c .before .before .before .before .before .before .before .before .before .before .before .before .before .before .put-slot .ensures, c .before .before .before .before .before .before .before .before .before .before .before .before .before .before .before .before .before .before .put-number2 .ensures, c .before .before .before .before .before .before .before .before .before .before .before .before .before .before .before .before .before .before .before .before .before .before .put-number .ensures) (probe-puts (a .c) (a .at) (now (a .out)))

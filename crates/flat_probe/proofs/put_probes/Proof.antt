@@ -18,53 +18,34 @@ Inv-loop out₀ c₀ out c = (c ≤ maxComponents) × (length out ≡ length out
 abbrev μ-loop : tie.MeasureT-loop
 μ-loop out₀ c₀ out c = maxComponents - c
 
--- src/lib.rt:54:5
 loop-holds : tie.Need-loop-holds Inv-loop μ-loop
 loop-holds c =
     (omega arith, refl, refl)
 
--- src/lib.rt:55:27
 mul-put-probe : tie.Need-mul-put-probe Inv-loop μ-loop
 mul-put-probe c = search needs
 
--- src/lib.rt:55:9
 put-probe-requires : tie.Need-put-probe-requires Inv-loop μ-loop
 put-probe-requires c κs = search needs
 
--- src/lib.rt:56:13
 add-c : tie.Need-add-c Inv-loop μ-loop
 add-c c = search needs
 
--- src/lib.rt:54:5
 loop-less : tie.Need-loop-less Inv-loop μ-loop
 loop-less c = search needs
 
--- src/lib.rt:54:5
 loop-again : tie.Need-loop-again Inv-loop μ-loop
 loop-again c =
     let l = c .before .before .before .before .before .loop in (omega arith, c .before .before .put-probe .kept .1 .0 ∙ l .inv .1, rw (c .before .before .put-probe .ensures) (probes-more (l .c) (l .out) (c .before .before .before .before .loop-test .taken) ∙ l .inv .2))
 
--- src/lib.rt:49:1
 same-length : tie.Need-same-length Inv-loop μ-loop
 same-length c =
     c .before .loop .inv .1
 
--- src/lib.rt:49:1
 returns : tie.Need-returns Inv-loop μ-loop
 returns c =
     let a = c .before .before .before .args in let l = c .before .loop in ap phasesIn (sym (probes-none (l .c) (l .out) (c .loop-test .left)) ∙ l .inv .2) ∙ probes-back (now (a .out)) (c .before .before .before .pre)
 
 pub put-probes-spec : {M : Type 1} → statement M
 put-probes-spec =
-    tie.close
-    (tie.spec
-    Inv-loop
-    μ-loop
-    loop-holds
-    mul-put-probe
-    put-probe-requires
-    add-c
-    loop-less
-    loop-again
-    same-length
-    returns)
+    tie.close (tie.spec Inv-loop μ-loop loop-holds mul-put-probe put-probe-requires add-c loop-less loop-again same-length returns)

@@ -10,33 +10,26 @@ use denote.Ref.{now}
 use Rattle.flat_ranks.proofs.rank_of.Statement.{statement}
 use Rattle.flat_ranks.proofs.rank_of.Tie as tie
 
--- src/lib.rt:23:9
 returns : tie.Need-returns
 unfolding rankOf
 returns c =
     let a = c .before .before .args in rw (eq-eqb (a .c) 0 (c .if1 .taken))
 
--- src/lib.rt:25:41
 size-requires : tie.Need-size-requires
 size-requires c κs = search needs
 
--- src/lib.rt:25:26
 add-word-at : tie.Need-add-word-at
 add-word-at c = search needs
 
--- src/lib.rt:25:10
 word-at-requires : tie.Need-word-at-requires
 word-at-requires c κs = search needs
 
--- src/lib.rt:25:5
 wide-requires : tie.Need-wide-requires
 wide-requires c κs = search needs
 
--- src/lib.rt:25:5
 add-result : tie.Need-add-result
 add-result c = search needs
 
--- src/lib.rt:19:1
 returns-2 : tie.Need-returns-2
 unfolding rankOf
 returns-2 c =
@@ -44,12 +37,4 @@ returns-2 c =
 
 pub rank-of-spec : {M : Type 1} → statement M
 rank-of-spec =
-    tie.close
-    (tie.spec
-    returns
-    size-requires
-    add-word-at
-    word-at-requires
-    wide-requires
-    add-result
-    returns-2)
+    tie.close (tie.spec returns size-requires add-word-at word-at-requires wide-requires add-result returns-2)

@@ -62,16 +62,4 @@ returns c =
 
 pub add-all-spec : {M : Type 1} → statement M
 add-all-spec =
-    tie.close
-    (tie.spec
-    Inv-loop
-    μ-loop
-    add-root-requires
-    loop-holds
-    add-atomic-requires
-    add-i
-    loop-less
-    loop-again
-    same-length
-    same-length-2
-    returns)
+    tie.close (tie.spec Inv-loop μ-loop add-root-requires loop-holds add-atomic-requires add-i loop-less loop-again same-length same-length-2 returns)

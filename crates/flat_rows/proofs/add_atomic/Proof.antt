@@ -50,13 +50,4 @@ returns c =
 
 pub add-atomic-spec : {M : Type 1} → statement M
 add-atomic-spec =
-    tie.close
-    (tie.spec
-    row-in-requires
-    collect-bag-requires
-    wide-requires
-    add-put-rows
-    put-rows-requires
-    same-length
-    same-length-2
-    returns)
+    tie.close (tie.spec row-in-requires collect-bag-requires wide-requires add-put-rows put-rows-requires same-length same-length-2 returns)

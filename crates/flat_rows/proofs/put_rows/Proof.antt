@@ -19,54 +19,42 @@ Inv-loop tables end keys count rows₀ at i₀ rows i = (i ≤ count) × (length
 abbrev μ-loop : tie.MeasureT-loop
 μ-loop tables end keys count rows₀ at i₀ rows i = count - i
 
--- src/lib.rt:55:5
 loop-holds : tie.Need-loop-holds Inv-loop μ-loop
 loop-holds c =
     let a = c .before .before .args in (omega arith, refl, ap (λ k. sets (now (a .rows)) k (map (rowOf (now (a .tables)) (a .end)) (take (a .count) (now (a .keys))))) (add-zero (a .at)))
 
--- src/lib.rt:56:44
 mul-row-of : tie.Need-mul-row-of Inv-loop μ-loop
 mul-row-of c = search needs
 
--- src/lib.rt:56:44
 shared-slice-read-row-of : tie.Need-shared-slice-read-row-of Inv-loop μ-loop
 shared-slice-read-row-of c = search needs
 
--- src/lib.rt:56:24
 row-of-requires : tie.Need-row-of-requires Inv-loop μ-loop
 row-of-requires c κs = search needs
 
--- src/lib.rt:56:14
 add-rows : tie.Need-add-rows Inv-loop μ-loop
 add-rows c = search needs
 
--- src/lib.rt:56:9
 mul-rows : tie.Need-mul-rows Inv-loop μ-loop
 mul-rows c = search needs
 
--- src/lib.rt:56:9
 slice-write-rows : tie.Need-slice-write-rows Inv-loop μ-loop
 slice-write-rows c = search needs
 
--- src/lib.rt:57:13
 add-i : tie.Need-add-i Inv-loop μ-loop
 add-i c = search needs
 
--- src/lib.rt:55:5
 loop-less : tie.Need-loop-less Inv-loop μ-loop
 loop-less c = search needs
 
--- src/lib.rt:55:5
 loop-again : tie.Need-loop-again Inv-loop μ-loop
 loop-again c =
     let a = c .before .before .before .before .before .before .args in let l = c .before .before .before .loop in (omega arith, simp length-set (l .inv .1), rw (c .row-of .ensures) (put-more (rowOf (now (a .tables)) (a .end)) (now (a .keys)) (a .count) (l .i) (a .at) (l .rows) (c .before .before .loop-test .taken) (c .before .before .before .before .before .before .pre .0) ∙ l .inv .2))
 
--- src/lib.rt:50:1
 same-length : tie.Need-same-length Inv-loop μ-loop
 same-length c =
     c .before .loop .inv .1
 
--- src/lib.rt:50:1
 add-result : tie.Need-add-result Inv-loop μ-loop
 add-result c = search needs
 
@@ -76,20 +64,4 @@ returns c =
 
 pub put-rows-spec : {M : Type 1} → statement M
 put-rows-spec =
-    tie.close
-    (tie.spec
-    Inv-loop
-    μ-loop
-    loop-holds
-    mul-row-of
-    shared-slice-read-row-of
-    row-of-requires
-    add-rows
-    mul-rows
-    slice-write-rows
-    add-i
-    loop-less
-    loop-again
-    add-result
-    same-length
-    returns)
+    tie.close (tie.spec Inv-loop μ-loop loop-holds mul-row-of shared-slice-read-row-of row-of-requires add-rows mul-rows slice-write-rows add-i loop-less loop-again add-result same-length returns)

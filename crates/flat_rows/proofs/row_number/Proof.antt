@@ -5,31 +5,24 @@ use mathlib.Core.Path.{refl}
 use Rattle.flat_rows.proofs.row_number.Statement.{statement}
 use Rattle.flat_rows.proofs.row_number.Tie as tie
 
--- src/lib.rt:37:5
 mul-result : tie.Need-mul-result
 mul-result c = search needs
 
--- src/lib.rt:37:31
 mul-result-2 : tie.Need-mul-result-2
 mul-result-2 c = search needs
 
--- src/lib.rt:37:5
 add-result : tie.Need-add-result
 add-result c = search needs
 
--- src/lib.rt:37:52
 mul-result-3 : tie.Need-mul-result-3
 mul-result-3 c = search needs
 
--- src/lib.rt:37:5
 add-result-2 : tie.Need-add-result-2
 add-result-2 c = search needs
 
--- src/lib.rt:37:5
 add-result-3 : tie.Need-add-result-3
 add-result-3 c = search needs
 
--- src/lib.rt:34:1
 returns : tie.Need-returns
 unfolding rowNumber
 returns c =

@@ -5,15 +5,12 @@ use Rattle.pull_laws.specs.Tables.{nodeComponent, nodePort}
 use Rattle.flat_rows.proofs.row_of.Statement.{statement}
 use Rattle.flat_rows.proofs.row_of.Tie as tie
 
--- src/lib.rt:45:9
 rank-of-requires : tie.Need-rank-of-requires
 rank-of-requires c κs = search needs
 
--- src/lib.rt:46:5
 row-number-requires : tie.Need-row-number-requires
 row-number-requires c κs = search needs
 
--- src/lib.rt:41:1
 returns : tie.Need-returns
 unfolding rowOf nodeComponent nodePort
 returns c =

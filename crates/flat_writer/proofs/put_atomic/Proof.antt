@@ -9,67 +9,44 @@ use denote.Ref.{now}
 use Rattle.flat_writer.proofs.put_atomic.Statement.{statement}
 use Rattle.flat_writer.proofs.put_atomic.Tie as tie
 
--- src/lib.rt:71:5
 slice-write-out : tie.Need-slice-write-out
 slice-write-out c = search needs
 
--- src/lib.rt:72:9
 add-out : tie.Need-add-out
 add-out c = search needs
 
--- src/lib.rt:72:5
 slice-write-out-2 : tie.Need-slice-write-out-2
 slice-write-out-2 c =
     let a = c .args in let h : a .at + 1 < length (now (a .out)) = omega arith in simp length-set h
 
--- src/lib.rt:73:9
 add-out-2 : tie.Need-add-out-2
 add-out-2 c = search needs
 
--- src/lib.rt:73:5
 slice-write-out-3 : tie.Need-slice-write-out-3
 slice-write-out-3 c =
     let a = c .args in let h : a .at + 2 < length (now (a .out)) = omega arith in simp length-set h
 
--- src/lib.rt:74:9
 add-out-3 : tie.Need-add-out-3
 add-out-3 c = search needs
 
--- src/lib.rt:74:5
 slice-write-out-4 : tie.Need-slice-write-out-4
 slice-write-out-4 c =
     let a = c .args in let h : a .at + 3 < length (now (a .out)) = omega arith in simp length-set h
 
--- src/lib.rt:75:9
 add-out-4 : tie.Need-add-out-4
 add-out-4 c = search needs
 
--- src/lib.rt:75:5
 slice-write-out-5 : tie.Need-slice-write-out-5
 slice-write-out-5 c =
     let a = c .args in let h : a .at + 4 < length (now (a .out)) = omega arith in simp length-set h
 
--- src/lib.rt:67:1
 same-length : tie.Need-same-length
 same-length c = search needs
 
--- src/lib.rt:67:1
 returns : tie.Need-returns
 returns c =
     let a = c .args in atomic-puts (componentOf (a .k)) (a .at) (now (a .out)) (omega arith) (omega arith) (omega arith)
 
 pub put-atomic-spec : {M : Type 1} → statement M
 put-atomic-spec =
-    tie.close
-    (tie.spec
-    slice-write-out
-    add-out
-    slice-write-out-2
-    add-out-2
-    slice-write-out-3
-    add-out-3
-    slice-write-out-4
-    add-out-4
-    slice-write-out-5
-    same-length
-    returns)
+    tie.close (tie.spec slice-write-out add-out slice-write-out-2 add-out-2 slice-write-out-3 add-out-3 slice-write-out-4 add-out-4 slice-write-out-5 same-length returns)

@@ -21,66 +21,51 @@ Inv-loop components tables n out₀ i₀ out i = (i ≤ n) × (length out ≡ le
 abbrev μ-loop : tie.MeasureT-loop
 μ-loop components tables n out₀ i₀ out i = n - i
 
--- src/lib.rt:84:5
 loop-holds : tie.Need-loop-holds Inv-loop μ-loop
 loop-holds c =
     (omega arith, refl, refl)
 
--- src/lib.rt:85:46
 size-requires : tie.Need-size-requires Inv-loop μ-loop
 size-requires c κs = search needs
 
--- src/lib.rt:85:33
 add-word-at : tie.Need-add-word-at Inv-loop μ-loop
 add-word-at c = search needs
 
--- src/lib.rt:85:13
 word-at-requires : tie.Need-word-at-requires Inv-loop μ-loop
 word-at-requires c κs = search needs
 
--- src/lib.rt:86:42
 size16-requires : tie.Need-size16-requires Inv-loop μ-loop
 size16-requires c κs = search needs
 
--- src/lib.rt:86:13
 component-at-requires : tie.Need-component-at-requires Inv-loop μ-loop
 component-at-requires c κs = search needs
 
--- src/lib.rt:87:49
 size-requires-2 : tie.Need-size-requires-2 Inv-loop μ-loop
 size-requires-2 c κs = search needs
 
--- src/lib.rt:87:32
 mul-put-atomic : tie.Need-mul-put-atomic Inv-loop μ-loop
 mul-put-atomic c = search needs
 
--- src/lib.rt:87:28
 add-put-atomic : tie.Need-add-put-atomic Inv-loop μ-loop
 add-put-atomic c = search needs
 
--- src/lib.rt:87:9
 put-atomic-requires : tie.Need-put-atomic-requires Inv-loop μ-loop
 put-atomic-requires c κs = search needs
 
--- src/lib.rt:88:13
 add-i : tie.Need-add-i Inv-loop μ-loop
 add-i c = search needs
 
--- src/lib.rt:84:5
 loop-less : tie.Need-loop-less Inv-loop μ-loop
 loop-less c = search needs
 
--- src/lib.rt:84:5
 loop-again : tie.Need-loop-again Inv-loop μ-loop
 loop-again c =
     let a = c .before .before .before .before .before .before .before .before .before .before .before .before .before .before .args in let l = c .before .before .before .before .before .before .before .before .before .before .loop in (omega arith, c .before .before .put-atomic .kept .1 .0 ∙ l .inv .1, rw (c .before .before .put-atomic .ensures, c .before .before .before .size2 .ensures, c .before .before .before .before .before .component-at .ensures, c .before .before .before .before .before .before .size16 .ensures, c .before .before .before .before .before .before .before .word-at .ensures, c .before .before .before .before .before .before .before .before .size .ensures) (atomics-more (componentsIn (now (a .components))) (now (a .tables)) (a .n) (l .i) (l .out) (c .before .before .before .before .before .before .before .before .before .loop-test .taken) ∙ l .inv .2))
 
--- src/lib.rt:79:1
 same-length : tie.Need-same-length Inv-loop μ-loop
 same-length c =
     c .before .loop .inv .1
 
--- src/lib.rt:79:1
 returns : tie.Need-returns Inv-loop μ-loop
 returns c =
     let a = c .before .before .before .before .before .args in let l = c .before .loop in sym (atomics-none (componentsIn (now (a .components))) (now (a .tables)) (a .n) (l .i) (l .out) (c .loop-test .left)) ∙ l .inv .2

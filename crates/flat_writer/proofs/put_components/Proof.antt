@@ -6,48 +6,31 @@ use denote.Ref.{now}
 use Rattle.flat_writer.proofs.put_components.Statement.{statement}
 use Rattle.flat_writer.proofs.put_components.Tie as tie
 
--- src/lib.rt:96:41
 size-requires : tie.Need-size-requires
 size-requires c κs = search needs
 
--- src/lib.rt:96:41
 add-wide : tie.Need-add-wide
 add-wide c = search needs
 
--- src/lib.rt:96:36
 wide-requires : tie.Need-wide-requires
 wide-requires c κs = search needs
 
--- src/lib.rt:96:5
 put-number-requires : tie.Need-put-number-requires
 put-number-requires c κs = search needs
 
--- src/lib.rt:97:5
 put-number-requires-2 : tie.Need-put-number-requires-2
 put-number-requires-2 c κs = search needs
 
--- src/lib.rt:98:5
 put-atomics-requires : tie.Need-put-atomics-requires
 put-atomics-requires c κs = search needs
 
--- src/lib.rt:92:1
 same-length : tie.Need-same-length
 same-length c = search needs
 
--- src/lib.rt:92:1
 returns : tie.Need-returns
 returns c =
     let a = c .before .before .before .before .before .before .before .before .before .before .before .before .before .before .before .before .before .args in rw (c .before .before .put-atomics .ensures, c .before .before .before .before .before .before .put-number2 .ensures, c .before .before .before .before .before .before .before .before .before .before .put-number .ensures, c .before .before .before .before .before .before .before .before .before .before .before .wide .ensures, c .before .before .before .before .before .before .before .before .before .before .before .before .size .ensures) (components-puts (componentsIn (now (a .components))) (now (a .tables)) (a .n) (now (a .out)))
 
 pub put-components-spec : {M : Type 1} → statement M
 put-components-spec =
-    tie.close
-    (tie.spec
-    size-requires
-    add-wide
-    wide-requires
-    put-number-requires
-    put-number-requires-2
-    put-atomics-requires
-    same-length
-    returns)
+    tie.close (tie.spec size-requires add-wide wide-requires put-number-requires put-number-requires-2 put-atomics-requires same-length returns)

@@ -9,71 +9,54 @@ use denote.Ref.{now}
 use Rattle.flat_writer.proofs.put_flat.Statement.{statement}
 use Rattle.flat_writer.proofs.put_flat.Tie as tie
 
--- src/lib.rt:200:5
 put-components-requires : tie.Need-put-components-requires
 put-components-requires c κs = search needs
 
--- src/lib.rt:201:39
 size-requires : tie.Need-size-requires
 size-requires c κs = search needs
 
--- src/lib.rt:201:22
 mul-second : tie.Need-mul-second
 mul-second c = search needs
 
--- src/lib.rt:201:18
 add-second : tie.Need-add-second
 add-second c = search needs
 
--- src/lib.rt:202:5
 put-phases-requires : tie.Need-put-phases-requires
 put-phases-requires c κs = search needs
 
--- src/lib.rt:203:17
 add-third : tie.Need-add-third
 add-third c = search needs
 
--- src/lib.rt:203:52
 phase-count-requires : tie.Need-phase-count-requires
 phase-count-requires c κs = search needs
 
--- src/lib.rt:203:39
 mul-third : tie.Need-mul-third
 mul-third c = search needs
 
--- src/lib.rt:203:17
 add-third-2 : tie.Need-add-third-2
 add-third-2 c = search needs
 
--- src/lib.rt:204:5
 put-rules-requires : tie.Need-put-rules-requires
 put-rules-requires c κs = search needs
 
--- src/lib.rt:205:18
 add-fourth : tie.Need-add-fourth
 add-fourth c = search needs
 
--- src/lib.rt:205:51
 rule-count-requires : tie.Need-rule-count-requires
 rule-count-requires c κs = search needs
 
--- src/lib.rt:205:39
 mul-fourth : tie.Need-mul-fourth
 mul-fourth c = search needs
 
--- src/lib.rt:205:18
 add-fourth-2 : tie.Need-add-fourth-2
 add-fourth-2 c = search needs
 
--- src/lib.rt:206:5
 put-rows-requires : tie.Need-put-rows-requires
 put-rows-requires c κs = search needs
 
--- src/lib.rt:187:1
 same-length : tie.Need-same-length
 same-length c = search needs
 
--- src/lib.rt:187:1
 returns : tie.Need-returns
 returns c =
     let a = c .before .before .before .before .before .before .before .before .before .before .before .before .before .before .before .before .before .before .before .before .before .before .before .before .before .args in rw (c .before .before .put-rows .ensures, c .before .before .before .before .rule-count .ensures, c .before .before .before .before .before .before .before .put-rules .ensures, c .before .before .before .before .before .before .before .before .before .phase-count .ensures, c .before .before .before .before .before .before .before .before .before .before .before .before .put-phases .ensures, c .before .before .before .before .before .before .before .before .before .before .before .before .before .before .size .ensures, c .before .before .before .before .before .before .before .before .before .before .before .before .before .before .before .before .before .put-components .ensures) (flat-puts (componentsIn (now (a .components))) (phasesIn (now (a .phases))) (rulesIn (now (a .rules))) (now (a .tables)) (a .n) (take (a .count) (now (a .rows))) (now (a .out)) (omega (arith, c .before .before .before .before .before .before .before .before .before .before .before .before .before .before .before .before .before .before .before .before .before .before .before .before .before .pre .1, length-take-le (a .count) (now (a .rows)) (c .before .before .before .before .before .before .before .before .before .before .before .before .before .before .before .before .before .before .before .before .before .before .before .before .before .pre .0))))

@@ -8,76 +8,49 @@ use denote.Ref.{now}
 use Rattle.flat_writer.proofs.put_row.Statement.{statement}
 use Rattle.flat_writer.proofs.put_row.Tie as tie
 
--- src/lib.rt:152:15
 cast-out : tie.Need-cast-out
 cast-out c = search needs
 
--- src/lib.rt:152:5
 slice-write-out : tie.Need-slice-write-out
 slice-write-out c = search needs
 
--- src/lib.rt:153:19
 cast-out-2 : tie.Need-cast-out-2
 cast-out-2 c = search needs
 
--- src/lib.rt:153:9
 add-out : tie.Need-add-out
 add-out c = search needs
 
--- src/lib.rt:153:5
 slice-write-out-2 : tie.Need-slice-write-out-2
 slice-write-out-2 c =
     let a = c .args in let h : a .at + 1 < length (now (a .out)) = omega arith in simp length-set h
 
--- src/lib.rt:154:19
 cast-out-3 : tie.Need-cast-out-3
 cast-out-3 c = search needs
 
--- src/lib.rt:154:9
 add-out-2 : tie.Need-add-out-2
 add-out-2 c = search needs
 
--- src/lib.rt:154:5
 slice-write-out-3 : tie.Need-slice-write-out-3
 slice-write-out-3 c =
     let a = c .args in let h : a .at + 2 < length (now (a .out)) = omega arith in simp length-set h
 
--- src/lib.rt:155:19
 cast-out-4 : tie.Need-cast-out-4
 cast-out-4 c = search needs
 
--- src/lib.rt:155:9
 add-out-3 : tie.Need-add-out-3
 add-out-3 c = search needs
 
--- src/lib.rt:155:5
 slice-write-out-4 : tie.Need-slice-write-out-4
 slice-write-out-4 c =
     let a = c .args in let h : a .at + 3 < length (now (a .out)) = omega arith in simp length-set h
 
--- src/lib.rt:148:1
 same-length : tie.Need-same-length
 same-length c = search needs
 
--- src/lib.rt:148:1
 returns : tie.Need-returns
 returns c =
     let a = c .args in row-puts (a .row) (a .at) (now (a .out))
 
 pub put-row-spec : {M : Type 1} → statement M
 put-row-spec =
-    tie.close
-    (tie.spec
-    cast-out
-    slice-write-out
-    cast-out-2
-    add-out
-    slice-write-out-2
-    cast-out-3
-    add-out-2
-    slice-write-out-3
-    cast-out-4
-    add-out-3
-    slice-write-out-4
-    same-length
-    returns)
+    tie.close (tie.spec cast-out slice-write-out cast-out-2 add-out slice-write-out-2 cast-out-3 add-out-2 slice-write-out-3 cast-out-4 add-out-3 slice-write-out-4 same-length returns)

@@ -20,68 +20,43 @@ Inv-loop rows n out₀ at i₀ out i = (i ≤ n) × (length out ≡ length out�
 abbrev μ-loop : tie.MeasureT-loop
 μ-loop rows n out₀ at i₀ out i = n - i
 
--- src/lib.rt:163:5
 loop-holds : tie.Need-loop-holds Inv-loop μ-loop
 loop-holds c =
     let a = c .before .before .args in (omega arith, refl, ap (λ k. sets (now (a .out)) k (concat (map couplingBytes (map couplingOf (take (a .n) (now (a .rows))))))) (let e : a .at + 4 * 0 ≡ a .at = omega arith in e))
 
--- src/lib.rt:164:17
 mul-put-row : tie.Need-mul-put-row Inv-loop μ-loop
 mul-put-row c = search needs
 
--- src/lib.rt:164:17
 shared-slice-read-put-row : tie.Need-shared-slice-read-put-row Inv-loop μ-loop
 shared-slice-read-put-row c = search needs
 
--- src/lib.rt:164:36
 mul-put-row-2 : tie.Need-mul-put-row-2 Inv-loop μ-loop
 mul-put-row-2 c = search needs
 
--- src/lib.rt:164:31
 add-put-row : tie.Need-add-put-row Inv-loop μ-loop
 add-put-row c = search needs
 
--- src/lib.rt:164:9
 put-row-requires : tie.Need-put-row-requires Inv-loop μ-loop
 put-row-requires c κs = search needs
 
--- src/lib.rt:165:13
 add-i : tie.Need-add-i Inv-loop μ-loop
 add-i c = search needs
 
--- src/lib.rt:163:5
 loop-less : tie.Need-loop-less Inv-loop μ-loop
 loop-less c = search needs
 
--- src/lib.rt:163:5
 loop-again : tie.Need-loop-again Inv-loop μ-loop
 loop-again c =
     let a = c .before .before .before .before .before .before .before .before .before .args in let l = c .before .before .before .before .before .before .loop in (omega arith, c .before .before .put-row .kept .1 .0 ∙ l .inv .1, rw (c .before .before .put-row .ensures) (rows-more (now (a .rows)) (a .n) (c .before .before .before .before .before .before .before .before .before .pre .0) (l .i) (a .at) (l .out) (c .before .before .before .before .before .loop-test .taken) ∙ l .inv .2))
 
--- src/lib.rt:158:1
 same-length : tie.Need-same-length Inv-loop μ-loop
 same-length c =
     c .before .loop .inv .1
 
--- src/lib.rt:158:1
 returns : tie.Need-returns Inv-loop μ-loop
 returns c =
     let a = c .before .before .before .before .args in let l = c .before .loop in sym (rows-none (now (a .rows)) (a .n) (c .before .before .before .before .pre .0) (l .i) (a .at + 4 * l .i) (l .out) (c .loop-test .left)) ∙ l .inv .2
 
 pub put-row-list-spec : {M : Type 1} → statement M
 put-row-list-spec =
-    tie.close
-    (tie.spec
-    Inv-loop
-    μ-loop
-    loop-holds
-    mul-put-row
-    shared-slice-read-put-row
-    mul-put-row-2
-    add-put-row
-    put-row-requires
-    add-i
-    loop-less
-    loop-again
-    same-length
-    returns)
+    tie.close (tie.spec Inv-loop μ-loop loop-holds mul-put-row shared-slice-read-put-row mul-put-row-2 add-put-row put-row-requires add-i loop-less loop-again same-length returns)

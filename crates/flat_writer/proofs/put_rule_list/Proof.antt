@@ -21,74 +21,47 @@ Inv-loop rules tables n out₀ at i₀ out i = (i ≤ n) × (length out ≡ leng
 abbrev μ-loop : tie.MeasureT-loop
 μ-loop rules tables n out₀ at i₀ out i = n - i
 
--- src/lib.rt:130:5
 loop-holds : tie.Need-loop-holds Inv-loop μ-loop
 loop-holds c =
     let a = c .before .before .before .args in (omega arith, refl, ap (λ k. sets (now (a .out)) k (concat (map ruleBytes (map (ruleBy (now (a .tables))) (rulesIn (now (a .rules))))))) (let e : a .at + 18 * 0 ≡ a .at = omega arith in e))
 
--- src/lib.rt:131:38
 mul-rest : tie.Need-mul-rest Inv-loop μ-loop
 mul-rest c = search needs
 
--- src/lib.rt:131:26
 rest-requires : tie.Need-rest-requires Inv-loop μ-loop
 rest-requires c κs = search needs
 
--- src/lib.rt:131:13
 front-requires : tie.Need-front-requires Inv-loop μ-loop
 front-requires c κs = search needs
 
--- src/lib.rt:132:42
 mul-put-rule : tie.Need-mul-put-rule Inv-loop μ-loop
 mul-put-rule c = search needs
 
--- src/lib.rt:132:37
 add-put-rule : tie.Need-add-put-rule Inv-loop μ-loop
 add-put-rule c = search needs
 
--- src/lib.rt:132:9
 put-rule-requires : tie.Need-put-rule-requires Inv-loop μ-loop
 put-rule-requires c κs =
     let a = c .before .before .before .before .before .before .before .before .args in let l = c .before .before .before .before .loop in (rw (c .before .front .ensures, c .before .before .rest .ensures) (rule-row (now (a .rules)) (l .i) (omega (arith, c .before .before .before .before .before .before .before .before .pre .0))), omega (arith, c .before .before .before .before .before .before .before .before .pre .1, l .inv .1))
 
--- src/lib.rt:133:13
 add-i : tie.Need-add-i Inv-loop μ-loop
 add-i c = search needs
 
--- src/lib.rt:130:5
 loop-less : tie.Need-loop-less Inv-loop μ-loop
 loop-less c = search needs
 
--- src/lib.rt:130:5
 loop-again : tie.Need-loop-again Inv-loop μ-loop
 loop-again c =
     let a = c .before .before .before .before .before .before .before .before .before .before .before .args in let l = c .before .before .before .before .before .before .before .loop in (omega arith, c .before .before .put-rule .kept .1 .1 .0 ∙ l .inv .1, rw (c .before .before .put-rule .ensures, c .before .before .before .before .front .ensures, c .before .before .before .before .before .rest .ensures) (rules-more (now (a .rules)) (now (a .tables)) (l .i) (a .at) (l .out) (omega (arith, c .before .before .before .before .before .before .before .before .before .before .before .pre .0)) ∙ l .inv .2))
 
--- src/lib.rt:125:1
 same-length : tie.Need-same-length Inv-loop μ-loop
 same-length c =
     c .before .loop .inv .1
 
--- src/lib.rt:125:1
 returns : tie.Need-returns Inv-loop μ-loop
 returns c =
     let a = c .before .before .before .before .before .args in let l = c .before .loop in sym (rules-none (now (a .rules)) (now (a .tables)) (l .i) (a .at + 18 * l .i) (l .out) (omega (arith, c .before .before .before .before .before .pre .0))) ∙ l .inv .2
 
 pub put-rule-list-spec : {M : Type 1} → statement M
 put-rule-list-spec =
-    tie.close
-    (tie.spec
-    Inv-loop
-    μ-loop
-    loop-holds
-    mul-rest
-    rest-requires
-    front-requires
-    mul-put-rule
-    add-put-rule
-    put-rule-requires
-    add-i
-    loop-less
-    loop-again
-    same-length
-    returns)
+    tie.close (tie.spec Inv-loop μ-loop loop-holds mul-rest rest-requires front-requires mul-put-rule add-put-rule put-rule-requires add-i loop-less loop-again same-length returns)

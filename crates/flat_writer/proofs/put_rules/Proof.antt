@@ -11,43 +11,28 @@ use denote.Ref.{now}
 use Rattle.flat_writer.proofs.put_rules.Statement.{statement}
 use Rattle.flat_writer.proofs.put_rules.Tie as tie
 
--- src/lib.rt:141:9
 rule-count-requires : tie.Need-rule-count-requires
 rule-count-requires c κs = search needs
 
--- src/lib.rt:142:37
 wide-requires : tie.Need-wide-requires
 wide-requires c κs = search needs
 
--- src/lib.rt:142:5
 put-number-requires : tie.Need-put-number-requires
 put-number-requires c κs = search needs
 
--- src/lib.rt:143:42
 add-put-rule-list : tie.Need-add-put-rule-list
 add-put-rule-list c = search needs
 
--- src/lib.rt:143:5
 put-rule-list-requires : tie.Need-put-rule-list-requires
 put-rule-list-requires c κs = search needs
 
--- src/lib.rt:137:1
 same-length : tie.Need-same-length
 same-length c = search needs
 
--- src/lib.rt:137:1
 returns : tie.Need-returns
 returns c =
     let a = c .before .before .before .before .before .before .before .before .before .before .before .before .before .args in rw (c .before .before .put-rule-list .ensures, c .before .before .before .before .before .before .put-number .ensures, c .before .before .before .before .before .before .before .wide .ensures) (section-puts ruleBytes (map (ruleBy (now (a .tables))) (rulesIn (now (a .rules)))) (c .before .before .before .before .before .before .before .before .before .rule-count .result) (a .at) (now (a .out)) (c .before .before .before .before .before .before .before .before .before .rule-count .ensures ∙ sym (length-map (rulesIn (now (a .rules))) (ruleBy (now (a .tables))))))
 
 pub put-rules-spec : {M : Type 1} → statement M
 put-rules-spec =
-    tie.close
-    (tie.spec
-    rule-count-requires
-    wide-requires
-    put-number-requires
-    add-put-rule-list
-    put-rule-list-requires
-    same-length
-    returns)
+    tie.close (tie.spec rule-count-requires wide-requires put-number-requires add-put-rule-list put-rule-list-requires same-length returns)

@@ -13,42 +13,33 @@ use Prim.Native.Nat.{ℕ}
 use Rattle.flatten.proofs.flatten.Statement.{statement}
 use Rattle.flatten.proofs.flatten.Tie as tie
 
--- src/lib.rt:75:9
 open-model-requires : tie.Need-open-model-requires
 open-model-requires c κs = zeros-made
 
--- src/lib.rt:76:27
 enum-known-checked : tie.Need-enum-known-checked
 enum-known-checked c = search needs
 
--- src/lib.rt:78:28
 enum-told : tie.Need-enum-told
 enum-told c = search needs
 
--- src/lib.rt:78:28
 checked-number-requires : tie.Need-checked-number-requires
 checked-number-requires c κs = search needs
 
--- src/lib.rt:78:21
 wide16-requires : tie.Need-wide16-requires
 wide16-requires c κs = search needs
 
--- src/lib.rt:77:9
 returns : tie.Need-returns
 returns c =
     let a = c .before .before .before .before .before .before .before .before .args in
     let told = sym (ap (checkedAs (now (a .file))) (c .before .before .enum-told .given .1)) ∙ c .before .before .before .before .open-model .ensures .0 in
     rw (c .wide16 .ensures, c .before .checked-number .ensures, c .before .before .enum-told .given .1) (flatten-refused (now (a .file)) (now (a .out)) _ told)
 
--- src/lib.rt:85:31
 slice-aggregate-flatten-accepted : tie.Need-slice-aggregate-flatten-accepted
 slice-aggregate-flatten-accepted c = search needs
 
--- src/lib.rt:85:44
 slice-aggregate-flatten-accepted-2 : tie.Need-slice-aggregate-flatten-accepted-2
 slice-aggregate-flatten-accepted-2 c = search needs
 
--- src/lib.rt:85:5
 flatten-accepted-requires : tie.Need-flatten-accepted-requires
 flatten-accepted-requires c κs =
     let file = c .before .before .before .before .before .before .before .before .before .before .before .args .file .now in
@@ -56,11 +47,9 @@ flatten-accepted-requires c κs =
     let is = c .before .before .before .before .before .checked .given .1 in
     (sym (ap (checkedAs file) is) ∙ r .ensures .0, subst (λ (k : Checked). Opened file k (r .last .1 .0)) is (r .ensures .2), length-replicate {A = ℕ} maxRoutes 0, length-replicate {A = ℕ} maxRoutes 0)
 
--- src/lib.rt:72:1
 same-length : tie.Need-same-length
 same-length c = search needs
 
--- src/lib.rt:72:1
 returns-2 : tie.Need-returns-2
 returns-2 c = search needs
 

@@ -35,79 +35,63 @@ own f = f .small .ensures ∙ f .before .atomic-count .ensures ∙ ap (λ (s : B
 own-tables : (f : tie.After-small) → TablesOf (modelOf (file f) (counts f)) (f .before .before .before .before .before .before .before .before .before .args .tables .now)
 own-tables f = f .before .before .before .before .before .before .before .before .before .pre .1
 
--- src/lib.rt:51:9
 components-of-requires : tie.Need-components-of-requires
 components-of-requires c κs = search needs
 
--- src/lib.rt:52:9
 phases-of-requires : tie.Need-phases-of-requires
 phases-of-requires c κs = search needs
 
--- src/lib.rt:53:9
 rules-of-requires : tie.Need-rules-of-requires
 rules-of-requires c κs = search needs
 
--- src/lib.rt:54:25
 atomic-count-requires : tie.Need-atomic-count-requires
 atomic-count-requires c κs = search needs
 
--- src/lib.rt:54:19
 small-requires : tie.Need-small-requires
 small-requires c κs =
     let given = c .before .before .before .before .before .before .before .before in
     rw (c .atomic-count .ensures, c .before .before .before .components-of .ensures) (few-own (given .args .file .now) (given .args .n) (λ i. c .before .before .before .before .before .before .before .shared-slice-known .given i .fits) (given .pre .0))
 
--- src/lib.rt:56:17
 flat-rows-requires : tie.Need-flat-rows-requires
 flat-rows-requires c κs =
     let f = c .before .before in
     probing (file f) (counts f) (bytes f) (told f) _ (own-tables f) (f .small .result) (own f) _ _ (f .before .before .before .before .before .before .before .before .before .pre .2) (f .before .before .before .before .before .before .before .before .before .pre .3)
 
--- src/lib.rt:57:16
 flat-size-requires : tie.Need-flat-size-requires
 flat-size-requires c κs =
     let f = c .before .before .before .before .before .before .before in
     (rw (f .before .before .before .phases-of .ensures) (few-phases (file f) (counts f) (bytes f) (told f)), rw (f .before .before .rules-of .ensures) (few-rules (file f) (counts f) (bytes f) (told f)), rw (c .before .before .before .before .flat-rows .ensures .0) (rows-fit (file f) (counts f) (bytes f) (told f) _ (own-tables f) (f .small .result) (own f)))
 
--- src/lib.rt:59:16
 same-length : tie.Need-same-length
 same-length c = search needs
 
--- src/lib.rt:59:16
 same-length-2 : tie.Need-same-length-2
 same-length-2 c = search needs
 
--- src/lib.rt:59:16
 returns : tie.Need-returns
 returns c =
     let f = c .before .before .before .before .before .before .before .before .before in
     flatten-short (file f) (counts f) (bytes f) (told f) _ (own-tables f) (f .small .result) (own f) (c .before .before .before .before .before .before .flat-rows .result) (c .before .flat-size .result) (c .before .before .before .before .before .before .flat-rows .ensures .0)
     (rw (f .before .before .before .phases-of .ensures, f .before .before .rules-of .ensures) at (c .before .flat-size .ensures)) (now (f .before .before .before .before .before .before .before .before .before .args .out)) (c .if1 .taken)
 
--- src/lib.rt:64:5
 put-flat-requires : tie.Need-put-flat-requires
 put-flat-requires c κs =
     let f = c .before .before .before .before .before .before .before .before .before .before .before .before in
     let q = rows-fit (file f) (counts f) (bytes f) (told f) _ (own-tables f) (f .small .result) (own f) in
     (fits (c .before .before .before .before .before .before .before .before .before .flat-rows .ensures .0) (c .before .before .before .before .before .before .before .before .before .flat-rows .kept .1 .1 .0) (at-most q (f .before .before .before .before .before .before .before .before .before .pre .2)), subst (λ z. z ≤ length (now (f .before .before .before .before .before .before .before .before .before .args .out))) (c .before .before .before .before .flat-size .ensures) (c .before .before .before .if1 .left))
 
--- src/lib.rt:67:16
 wide-requires : tie.Need-wide-requires
 wide-requires c κs = search needs
 
--- src/lib.rt:40:1
 same-length-3 : tie.Need-same-length-3
 same-length-3 c = search needs
 
--- src/lib.rt:40:1
 same-length-4 : tie.Need-same-length-4
 same-length-4 c = search needs
 
--- src/lib.rt:40:1
 same-length-5 : tie.Need-same-length-5
 same-length-5 c = search needs
 
--- src/lib.rt:40:1
 returns-2 : tie.Need-returns-2
 returns-2 c =
     let f = c .before .before .before .before .before .before .before .before .before .before .before .before .before .before .before .before in

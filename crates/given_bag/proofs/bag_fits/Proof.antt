@@ -4,15 +4,12 @@ use Rattle.definition.specs.Engine.{bagFits}
 use Rattle.given_bag.proofs.bag_fits.Statement.{statement}
 use Rattle.given_bag.proofs.bag_fits.Tie as tie
 
--- src/lib.rt:34:43
 mul-result : tie.Need-mul-result
 mul-result c = search needs
 
--- src/lib.rt:34:71
 ports-fit-requires : tie.Need-ports-fit-requires
 ports-fit-requires c κs = search needs
 
--- src/lib.rt:30:1
 returns : tie.Need-returns
 unfolding bagFits
 returns c = rw (c .ports-fit .ensures)

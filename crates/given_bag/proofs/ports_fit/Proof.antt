@@ -19,20 +19,16 @@ Inv-loop bag n i₀ i = (i ≤ n) × (n ≡ length bag / messageSize) × (all (p
 abbrev μ-loop : tie.MeasureT-loop
 μ-loop bag n i₀ i = n - i
 
--- src/lib.rt:20:5
 loop-holds : tie.Need-loop-holds Inv-loop μ-loop
 loop-holds c =
     (omega arith, refl, all-start (portAt (c .before .args .bag .now)) _)
 
--- src/lib.rt:21:54
 mul-byte-at : tie.Need-mul-byte-at Inv-loop μ-loop
 mul-byte-at c = search needs
 
--- src/lib.rt:21:26
 byte-at-requires : tie.Need-byte-at-requires Inv-loop μ-loop
 byte-at-requires c κs = search needs
 
--- src/lib.rt:22:13
 returns : tie.Need-returns Inv-loop μ-loop
 returns c =
     let s = c .before .before .before .before .before .args .bag .now in
@@ -40,15 +36,12 @@ returns c =
     let p : portAt s i ≡ false = port-is s i (c .before .before .loop-test .taken) ∙ le-ltb _ _ (rw (c .before .byte-at .ensures) at (c .if1 .taken)) in
     sym (ports-all s ∙ sym (c .before .before .before .loop .inv .2) ∙ all-no (portAt s) i (length s / messageSize) (c .before .before .loop-test .taken) p)
 
--- src/lib.rt:24:13
 add-i : tie.Need-add-i Inv-loop μ-loop
 add-i c = search needs
 
--- src/lib.rt:20:5
 loop-less : tie.Need-loop-less Inv-loop μ-loop
 loop-less c = search needs
 
--- src/lib.rt:20:5
 loop-again : tie.Need-loop-again Inv-loop μ-loop
 loop-again c =
     let s = c .before .before .before .before .before .args .bag .now in
@@ -56,7 +49,6 @@ loop-again c =
     let p : portAt s i ≡ true = port-is s i (c .before .before .loop-test .taken) ∙ lt-ltb _ _ (rw (c .before .byte-at .ensures) at (c .if1 .left)) in
     (omega (arith, c .before .before .loop-test .taken), refl, all-more (portAt s) i (length s / messageSize) (c .before .before .loop-test .taken) p ∙ c .before .before .before .loop .inv .2)
 
--- src/lib.rt:15:1
 returns-2 : tie.Need-returns-2 Inv-loop μ-loop
 returns-2 c =
     let s = c .before .before .before .args .bag .now in
@@ -64,15 +56,4 @@ returns-2 c =
 
 pub ports-fit-spec : {M : Type 1} → statement M
 ports-fit-spec =
-    tie.close
-    (tie.spec
-    Inv-loop
-    μ-loop
-    loop-holds
-    mul-byte-at
-    byte-at-requires
-    returns
-    add-i
-    loop-less
-    loop-again
-    returns-2)
+    tie.close (tie.spec Inv-loop μ-loop loop-holds mul-byte-at byte-at-requires returns add-i loop-less loop-again returns-2)

@@ -8,17 +8,14 @@ use mathlib.Core.Path.{sym, _∙_}
 use Rattle.little_endian.proofs.byte_at.Statement.{statement}
 use Rattle.little_endian.proofs.byte_at.Tie as tie
 
--- src/lib.rt:22:23
 shared-slice-read-result : tie.Need-shared-slice-read-result
 shared-slice-read-result c = search needs
 
--- src/lib.rt:19:1
 returns : tie.Need-returns
 returns c =
     let a = c .before .before .args in
     sym (number-one (a .at) (now (a .s)))
 
--- src/lib.rt:19:1
 returns-2 : tie.Need-returns-2
 returns-2 c =
     let a = c .before .args in

@@ -8,16 +8,13 @@ use mathlib.Core.Path.{sym}
 use Rattle.little_endian.proofs.front.Statement.{statement}
 use Rattle.little_endian.proofs.front.Tie as tie
 
--- src/lib.rt:64:23
 slice-aggregate-result : tie.Need-slice-aggregate-result
 slice-aggregate-result c =
     let a = c .before .before .args in sym (length-take-le (a .n) (now (a .s)) (omega arith))
 
--- src/lib.rt:61:1
 returns : tie.Need-returns
 returns c = search needs
 
--- src/lib.rt:61:1
 returns-2 : tie.Need-returns-2
 returns-2 c =
     let a = c .before .args in sym (take-all (a .n) (now (a .s)) (omega arith))

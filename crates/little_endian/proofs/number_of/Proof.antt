@@ -18,51 +18,42 @@ Inv-loop s n k₀ v₀ k v = (k ≤ n) × (v ≡ number (n - k) k s)
 abbrev μ-loop : tie.MeasureT-loop
 μ-loop s n k₀ v₀ k v = k
 
--- src/lib.rt:54:5
 loop-holds : tie.Need-loop-holds Inv-loop μ-loop
 loop-holds c =
     let a = c .before .args in
     let e : a .n - a .n ≡ 0 = omega arith in
     (omega arith, rw e (sym (number-none (a .n) (now (a .s)))))
 
--- src/lib.rt:55:13
 sub-k : tie.Need-sub-k Inv-loop μ-loop
 sub-k c = search needs
 
--- src/lib.rt:56:13
 mul-v : tie.Need-mul-v Inv-loop μ-loop
 mul-v c =
     let a = c .before .before .before .args in
     let k = c .before .loop .k in
     omega (arith, number-fits 7 {w = a .n - k} (omega arith) k (now (a .s)) (λ i. c .before .before .shared-slice-known .given i .fits))
 
--- src/lib.rt:56:28
 byte-at-requires : tie.Need-byte-at-requires Inv-loop μ-loop
 byte-at-requires c κs = search needs
 
--- src/lib.rt:56:23
 wide-requires : tie.Need-wide-requires Inv-loop μ-loop
 wide-requires c κs = search needs
 
--- src/lib.rt:56:13
 add-v : tie.Need-add-v Inv-loop μ-loop
 add-v c =
     let a = c .before .before .before .before .before .args in
     let k = c .before .before .before .loop .k in
     omega (arith, number-fits 7 {w = a .n - k} (omega arith) k (now (a .s)) (λ i. c .before .before .before .before .shared-slice-known .given i .fits))
 
--- src/lib.rt:54:5
 loop-less : tie.Need-loop-less Inv-loop μ-loop
 loop-less c = search needs
 
--- src/lib.rt:54:5
 loop-again : tie.Need-loop-again Inv-loop μ-loop
 loop-again c =
     let a = c .before .before .before .before .before .args in
     let k = c .before .before .before .loop .k in
     (omega arith, omega (arith, number-back (a .n) k (now (a .s)) (omega arith) (omega arith)))
 
--- src/lib.rt:48:1
 returns : tie.Need-returns Inv-loop μ-loop
 returns c =
     let z : c .before .loop .k ≡ 0 = omega arith in
@@ -70,16 +61,4 @@ returns c =
 
 pub number-of-spec : {M : Type 1} → statement M
 number-of-spec =
-    tie.close
-    (tie.spec
-    Inv-loop
-    μ-loop
-    loop-holds
-    sub-k
-    mul-v
-    byte-at-requires
-    wide-requires
-    add-v
-    loop-less
-    loop-again
-    returns)
+    tie.close (tie.spec Inv-loop μ-loop loop-holds sub-k mul-v byte-at-requires wide-requires add-v loop-less loop-again returns)

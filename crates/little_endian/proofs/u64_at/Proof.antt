@@ -8,15 +8,12 @@ use Rattle.byte_laws.proofs.Rows.{number-drop}
 use Rattle.little_endian.proofs.u64_at.Statement.{statement}
 use Rattle.little_endian.proofs.u64_at.Tie as tie
 
--- src/lib.rt:78:9
 rest-requires : tie.Need-rest-requires
 rest-requires c κs = search needs
 
--- src/lib.rt:79:5
 number-of-requires : tie.Need-number-of-requires
 number-of-requires c κs = search needs
 
--- src/lib.rt:75:1
 returns : tie.Need-returns
 returns c =
     let a = c .before .before .before .args in

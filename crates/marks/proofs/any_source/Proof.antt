@@ -72,17 +72,4 @@ returns-2 c =
 
 pub any-source-spec : {M : Type 1} → statement M
 any-source-spec =
-    tie.close
-    (tie.spec
-    Inv-loop
-    μ-loop
-    first-link-requires
-    loop-holds
-    source-of-requires
-    may-come-requires
-    returns
-    next-link-requires
-    sub-left
-    loop-less
-    loop-again
-    returns-2)
+    tie.close (tie.spec Inv-loop μ-loop first-link-requires loop-holds source-of-requires may-come-requires returns next-link-requires sub-left loop-less loop-again returns-2)

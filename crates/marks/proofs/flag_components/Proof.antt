@@ -56,16 +56,4 @@ returns c =
 
 pub flag-components-spec : {M : Type 1} → statement M
 flag-components-spec =
-    tie.close
-    (tie.spec
-    Inv-loop
-    μ-loop
-    word-in-requires
-    loop-holds
-    may-reach-requires
-    flag-requires
-    put-mark-requires
-    add-c
-    loop-less
-    loop-again
-    returns)
+    tie.close (tie.spec Inv-loop μ-loop word-in-requires loop-holds may-reach-requires flag-requires put-mark-requires add-c loop-less loop-again returns)

@@ -56,16 +56,4 @@ returns c =
 
 pub mark-atomics-spec : {M : Type 1} → statement M
 mark-atomics-spec =
-    tie.close
-    (tie.spec
-    Inv-loop
-    μ-loop
-    loop-holds
-    cast-row-in
-    row-in-requires
-    mark-of-requires
-    put-mark-requires
-    add-i
-    loop-less
-    loop-again
-    returns)
+    tie.close (tie.spec Inv-loop μ-loop loop-holds cast-row-in row-in-requires mark-of-requires put-mark-requires add-i loop-less loop-again returns)

@@ -37,12 +37,4 @@ returns-2 c =
 
 pub mark-of-spec : {M : Type 1} → statement M
 mark-of-spec =
-    tie.close
-    (tie.spec
-    size-requires
-    mul-if1
-    element-copy-out-if1
-    phase-at-requires
-    mark-for-requires
-    returns
-    returns-2)
+    tie.close (tie.spec size-requires mul-if1 element-copy-out-if1 phase-at-requires mark-for-requires returns returns-2)

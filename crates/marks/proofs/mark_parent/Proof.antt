@@ -38,11 +38,4 @@ returns-2 c =
 
 pub mark-parent-spec : {M : Type 1} → statement M
 mark-parent-spec =
-    tie.close
-    (tie.spec
-    size16-requires
-    mark-at-requires
-    row-in-requires
-    put-mark-requires
-    returns
-    returns-2)
+    tie.close (tie.spec size16-requires mark-at-requires row-in-requires put-mark-requires returns returns-2)

@@ -56,15 +56,4 @@ returns c =
 
 pub mark-parents-spec : {M : Type 1} → statement M
 mark-parents-spec =
-    tie.close
-    (tie.spec
-    Inv-loop
-    μ-loop
-    word-in-requires
-    sub-c
-    loop-holds
-    mark-parent-requires
-    sub-c-2
-    loop-less
-    loop-again
-    returns)
+    tie.close (tie.spec Inv-loop μ-loop word-in-requires sub-c loop-holds mark-parent-requires sub-c-2 loop-less loop-again returns)

@@ -60,15 +60,4 @@ returns-2 c =
 
 pub may-reach-spec : {M : Type 1} → statement M
 may-reach-spec =
-    tie.close
-    (tie.spec
-    Inv-loop
-    μ-loop
-    loop-holds
-    input-node-requires
-    any-source-requires
-    returns
-    add-q
-    loop-less
-    loop-again
-    returns-2)
+    tie.close (tie.spec Inv-loop μ-loop loop-holds input-node-requires any-source-requires returns add-q loop-less loop-again returns-2)

@@ -41,11 +41,4 @@ returns-2 c =
 
 pub are-related-spec : {M : Type 1} → statement M
 are-related-spec =
-    tie.close
-    (tie.spec
-    element-copy-out-size
-    size-requires
-    element-copy-out-size-2
-    size-requires-2
-    returns
-    returns-2)
+    tie.close (tie.spec element-copy-out-size size-requires element-copy-out-size-2 size-requires-2 returns returns-2)

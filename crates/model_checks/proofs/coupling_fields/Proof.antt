@@ -48,11 +48,4 @@ returns-2 c =
 
 pub coupling-fields-spec : {M : Type 1} → statement M
 coupling-fields-spec =
-    tie.close
-    (tie.spec
-    component-count-requires
-    size-requires
-    size-requires-2
-    returns
-    are-related-requires
-    returns-2)
+    tie.close (tie.spec component-count-requires size-requires size-requires-2 returns are-related-requires returns-2)

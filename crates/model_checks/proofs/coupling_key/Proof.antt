@@ -42,16 +42,4 @@ returns c =
 
 pub coupling-key-spec : {M : Type 1} → statement M
 coupling-key-spec =
-    tie.close
-    (tie.spec
-    size-requires
-    mul-result
-    size-requires-2
-    mul-result-2
-    add-result
-    size-requires-3
-    mul-result-3
-    add-result-2
-    size-requires-4
-    add-result-3
-    returns)
+    tie.close (tie.spec size-requires mul-result size-requires-2 mul-result-2 add-result size-requires-3 mul-result-3 add-result-2 size-requires-4 add-result-3 returns)

@@ -43,11 +43,4 @@ returns-3 c =
 
 pub read-coupling-spec : {M : Type 1} → statement M
 read-coupling-spec =
-    tie.close
-    (tie.spec
-    coupling-in-requires
-    coupling-fields-requires
-    returns
-    coupling-key-requires
-    returns-2
-    returns-3)
+    tie.close (tie.spec coupling-in-requires coupling-fields-requires returns coupling-key-requires returns-2 returns-3)

@@ -40,11 +40,4 @@ returns-3 c =
 
 pub read-phase-spec : {M : Type 1} → statement M
 read-phase-spec =
-    tie.close
-    (tie.spec
-    phase-in-requires
-    phase-numbers-requires
-    returns
-    slots-fit-requires
-    returns-2
-    returns-3)
+    tie.close (tie.spec phase-in-requires phase-numbers-requires returns slots-fit-requires returns-2 returns-3)

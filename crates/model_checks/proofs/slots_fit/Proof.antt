@@ -59,17 +59,4 @@ returns-8 c =
 
 pub slots-fit-spec : {M : Type 1} → statement M
 slots-fit-spec =
-    tie.close
-    (tie.spec
-    message-key-requires
-    message-key-requires-2
-    message-key-requires-3
-    message-key-requires-4
-    returns
-    returns-2
-    returns-3
-    returns-4
-    returns-5
-    returns-6
-    returns-7
-    returns-8)
+    tie.close (tie.spec message-key-requires message-key-requires-2 message-key-requires-3 message-key-requires-4 returns returns-2 returns-3 returns-4 returns-5 returns-6 returns-7 returns-8)

@@ -59,16 +59,4 @@ returns c =
 
 pub component-in-spec : {M : Type 1} → statement M
 component-in-spec =
-    tie.close
-    (tie.spec
-    mul-at
-    add-r
-    sub-r
-    part-r-start
-    part-r-end
-    byte-at-requires
-    byte-at-requires-2
-    byte-at-requires-3
-    byte-at-requires-4
-    byte-at-requires-5
-    returns)
+    tie.close (tie.spec mul-at add-r sub-r part-r-start part-r-end byte-at-requires byte-at-requires-2 byte-at-requires-3 byte-at-requires-4 byte-at-requires-5 returns)

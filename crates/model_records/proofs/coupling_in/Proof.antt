@@ -56,15 +56,4 @@ returns c =
 
 pub coupling-in-spec : {M : Type 1} → statement M
 coupling-in-spec =
-    tie.close
-    (tie.spec
-    mul-at
-    add-r
-    sub-r
-    part-r-start
-    part-r-end
-    byte-at-requires
-    byte-at-requires-2
-    byte-at-requires-3
-    byte-at-requires-4
-    returns)
+    tie.close (tie.spec mul-at add-r sub-r part-r-start part-r-end byte-at-requires byte-at-requires-2 byte-at-requires-3 byte-at-requires-4 returns)

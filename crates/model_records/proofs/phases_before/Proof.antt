@@ -54,16 +54,4 @@ returns c =
 
 pub phases-before-spec : {M : Type 1} → statement M
 phases-before-spec =
-    tie.close
-    (tie.spec
-    Inv-loop
-    μ-loop
-    loop-holds
-    size-requires
-    component-at-requires
-    size-requires-2
-    add-total
-    add-i
-    loop-less
-    loop-again
-    returns)
+    tie.close (tie.spec Inv-loop μ-loop loop-holds size-requires component-at-requires size-requires-2 add-total add-i loop-less loop-again returns)

@@ -68,16 +68,4 @@ returns c =
 
 pub phase-total-spec : {M : Type 1} → statement M
 phase-total-spec =
-    tie.close
-    (tie.spec
-    Inv-loop
-    μ-loop
-    component-count-requires
-    loop-holds
-    element-copy-out-size
-    size-requires
-    add-total
-    add-c
-    loop-less
-    loop-again
-    returns)
+    tie.close (tie.spec Inv-loop μ-loop component-count-requires loop-holds element-copy-out-size size-requires add-total add-c loop-less loop-again returns)

@@ -6,19 +6,15 @@ use Rattle.model_tables.proofs.Accepted.{few-records, tables-filled, li
 use Rattle.model_tables.proofs.fill.Statement.{statement}
 use Rattle.model_tables.proofs.fill.Tie as tie
 
--- src/lib.rt:22:9
 components-of-requires : tie.Need-components-of-requires
 components-of-requires c κs = search needs
 
--- src/lib.rt:23:9
 rules-of-requires : tie.Need-rules-of-requires
 rules-of-requires c κs = search needs
 
--- src/lib.rt:24:9
 couplings-of-requires : tie.Need-couplings-of-requires
 couplings-of-requires c κs = search needs
 
--- src/lib.rt:21:5
 fill-tables-requires : tie.Need-fill-tables-requires
 fill-tables-requires c κs =
     let given = c .before .before .before .before .before in
@@ -27,7 +23,6 @@ fill-tables-requires c κs =
     let linked = linked-parts (given .args .file .now) (given .args .n) bytes (given .pre .0) _ _ _ _ (c .before .before .before .components-of .ensures) (c .before .couplings-of .ensures) (given .pre .1) in
     (rw (c .before .before .before .components-of .ensures) (few .0), rw (c .before .before .rules-of .ensures) (few .1), rw (c .before .couplings-of .ensures) (few .2), linked)
 
--- src/lib.rt:17:1
 returns : tie.Need-returns
 returns c =
     let given = c .before .before .before .before .before .before in
@@ -36,10 +31,4 @@ returns c =
 
 pub fill-spec : {M : Type 1} → statement M
 fill-spec =
-    tie.close
-    (tie.spec
-    components-of-requires
-    rules-of-requires
-    couplings-of-requires
-    fill-tables-requires
-    returns)
+    tie.close (tie.spec components-of-requires rules-of-requires couplings-of-requires fill-tables-requires returns)

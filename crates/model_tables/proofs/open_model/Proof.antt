@@ -10,25 +10,20 @@ use Rattle.model_tables.specs.Opened.{Opened}
 use Rattle.model_tables.proofs.open_model.Statement.{statement}
 use Rattle.model_tables.proofs.open_model.Tie as tie
 
--- src/lib.rt:37:9
 check-routes-requires : tie.Need-check-routes-requires
 check-routes-requires c κs = search needs
 
--- src/lib.rt:39:27
 enum-known-checked : tie.Need-enum-known-checked
 enum-known-checked c = search needs
 
--- src/lib.rt:40:9
 enum-told : tie.Need-enum-told
 enum-told c = search needs
 
--- src/lib.rt:40:9
 returns : tie.Need-returns
 returns c =
     let r = c .before .before .check-routes in
     (r .ensures .0, r .ensures .1, subst (λ (k : Checked). Opened (c .before .before .before .before .before .before .args .file .now) k (r .last .1 .0)) (sym (c .enum-told .given .1)) tt)
 
--- src/lib.rt:42:5
 fill-requires : tie.Need-fill-requires
 fill-requires c κs =
     let file = c .before .before .before .before .before .before .before .before .before .args .file .now in
@@ -36,7 +31,6 @@ fill-requires c κs =
     let is = c .before .before .before .checked .given .1 in
     (sym (ap (checkedAs file) is) ∙ r .ensures .0, subst (λ (k : Checked). LinkedBy file k (r .last .1 .1 .0) (r .last .1 .0)) is (r .ensures .2))
 
--- src/lib.rt:31:1
 returns-2 : tie.Need-returns-2
 returns-2 c =
     let r = c .before .before .before .before .before .before .check-routes in

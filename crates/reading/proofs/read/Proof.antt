@@ -9,38 +9,30 @@ use mathlib.Core.Path.{_∙_, ap, sym, subst}
 use Rattle.reading.proofs.read.Statement.{statement}
 use Rattle.reading.proofs.read.Tie as tie
 
--- src/lib.rt:99:9
 open-model-requires : tie.Need-open-model-requires
 open-model-requires c κs = zeros-made
 
--- src/lib.rt:100:27
 enum-known-checked : tie.Need-enum-known-checked
 enum-known-checked c = search needs
 
--- src/lib.rt:101:31
 enum-told : tie.Need-enum-told
 enum-told c = search needs
 
--- src/lib.rt:101:31
 checked-number-requires : tie.Need-checked-number-requires
 checked-number-requires c κs = search needs
 
--- src/lib.rt:101:24
 wide16-requires : tie.Need-wide16-requires
 wide16-requires c κs = search needs
 
--- src/lib.rt:101:9
 refused-requires : tie.Need-refused-requires
 refused-requires c κs = search needs
 
--- src/lib.rt:101:9
 returns : tie.Need-returns
 returns c =
     let a = c .before .before .before .before .before .before .before .before .before .args in
     let told = sym (ap (checkedAs (a .file .now)) (c .before .before .before .enum-told .given .1)) ∙ c .before .before .before .before .before .open-model .ensures .0 in
     c .refused .ensures ∙ rw (c .before .wide16 .ensures, c .before .before .checked-number .ensures, c .before .before .before .enum-told .given .1) (read-refused (a .file .now) (a .run .now) (a .position) _ told)
 
--- src/lib.rt:103:5
 read-accepted-requires : tie.Need-read-accepted-requires
 read-accepted-requires c κs =
     let file = c .before .before .before .before .before .before .before .before .args .file .now in
@@ -48,21 +40,10 @@ read-accepted-requires c κs =
     let is = c .before .before .checked .given .1 in
     (sym (ap (checkedAs file) is) ∙ r .ensures .0, subst (λ (k : Checked). Opened file k (r .last .1 .0)) is (r .ensures .2))
 
--- src/lib.rt:96:1
 returns-2 : tie.Need-returns-2
 returns-2 c =
     c .read-accepted .ensures
 
 pub read-spec : {M : Type 1} → statement M
 read-spec =
-    tie.close
-    (tie.spec
-    open-model-requires
-    enum-known-checked
-    enum-told
-    checked-number-requires
-    wide16-requires
-    refused-requires
-    returns
-    read-accepted-requires
-    returns-2)
+    tie.close (tie.spec open-model-requires enum-known-checked enum-told checked-number-requires wide16-requires refused-requires returns read-accepted-requires returns-2)

@@ -18,40 +18,32 @@ use mathlib.Core.Path.{_∙_, ap, ap₂, sym}
 use Rattle.reading.proofs.read_accepted.Statement.{statement}
 use Rattle.reading.proofs.read_accepted.Tie as tie
 
--- src/lib.rt:78:9
 components-of-requires : tie.Need-components-of-requires
 components-of-requires c κs = search needs
 
--- src/lib.rt:79:37
 phases-of-requires : tie.Need-phases-of-requires
 phases-of-requires c κs = search needs
 
--- src/lib.rt:79:9
 fits-requires : tie.Need-fits-requires
 fits-requires c κs =
     let a = c .before .before .before .before .args in
     rw (c .before .components-of .ensures) (few-components (a .file .now) (a .n) (λ i. c .before .before .before .shared-slice-known .given i .fits) (c .before .before .before .before .pre .0))
 
--- src/lib.rt:80:9
 refused-requires : tie.Need-refused-requires
 refused-requires c κs = search needs
 
--- src/lib.rt:80:9
 returns : tie.Need-returns
 returns c =
     let a = c .before .before .before .before .before .before .before .args in
     let f = c .before .before .fits2 .ensures ∙ ap₂ (λ (x y : Bytes). fits (bare x y) (a .run .now)) (c .before .before .before .before .components-of .ensures) (c .before .before .before .phases-of .ensures) ∙ fits-file (a .file .now) (a .run .now) (a .n) in
     c .refused .ensures ∙ read-unfit (a .file .now) (a .run .now) (a .position) (modelOf (a .file .now) (a .n)) (c .before .before .before .before .before .before .before .pre .0) (sym f ∙ not-true (c .before .before .fits2 .result) (c .before .if1 .taken))
 
--- src/lib.rt:82:9
 atomic-count-requires : tie.Need-atomic-count-requires
 atomic-count-requires c κs = search needs
 
--- src/lib.rt:84:9
 refused-requires-2 : tie.Need-refused-requires-2
 refused-requires-2 c κs = search needs
 
--- src/lib.rt:84:9
 returns-2 : tie.Need-returns-2
 returns-2 c =
     let a = c .before .before .before .before .before .before .before .before .before .args in
@@ -59,18 +51,15 @@ returns-2 c =
     let ce = c .before .before .atomic-count .ensures ∙ ap (λ (s : Bytes). length (atomics (componentsIn s))) (c .before .before .before .before .before .before .components-of .ensures) ∙ count-file (a .file .now) (a .n) in
     c .refused2 .ensures ∙ read-past (a .file .now) (a .run .now) (a .position) (modelOf (a .file .now) (a .n)) (c .before .before .before .before .before .before .before .before .before .pre .0) (sym f ∙ not-false (c .before .before .before .before .fits2 .result) (c .before .before .before .if1 .left)) (omega (arith, ce, c .before .if2 .taken))
 
--- src/lib.rt:86:9
 entry-at-requires : tie.Need-entry-at-requires
 entry-at-requires c κs =
     let a = c .before .before .before .before .before .before .before .before .args in
     let ce = c .before .atomic-count .ensures ∙ ap (λ (s : Bytes). length (atomics (componentsIn s))) (c .before .before .before .before .before .components-of .ensures) ∙ count-file (a .file .now) (a .n) in
     omega (arith, ce, few-atomics (a .file .now) (a .n) (λ i. c .before .before .before .before .before .before .before .shared-slice-known .given i .fits) (c .before .before .before .before .before .before .before .before .pre .0), c .if2 .left)
 
--- src/lib.rt:90:16
 wide-requires : tie.Need-wide-requires
 wide-requires c κs = search needs
 
--- src/lib.rt:92:30
 whole-due-requires : tie.Need-whole-due-requires
 whole-due-requires c κs =
     let a = c .before .before .before .before .before .before .before .before .before .before .before .args in
@@ -79,7 +68,6 @@ whole-due-requires c κs =
     let given = c .before .before .before .before .before .before .before .before .before .before .before .pre in
     (given .0, given .1, sym f ∙ not-false (c .before .before .before .before .before .before .fits2 .result) (c .before .before .before .before .before .if1 .left), ce)
 
--- src/lib.rt:74:1
 returns-3 : tie.Need-returns-3
 returns-3 c =
     let a = c .before .before .before .before .before .before .before .before .before .before .before .before .args in

@@ -6,27 +6,21 @@ use Rattle.reading.proofs.Whole.{due-whole}
 use Rattle.reading.proofs.whole_due.Statement.{statement}
 use Rattle.reading.proofs.whole_due.Tie as tie
 
--- src/lib.rt:59:5
 load-requires : tie.Need-load-requires
 load-requires c κs = search needs
 
--- src/lib.rt:62:9
 phases-of-requires : tie.Need-phases-of-requires
 phases-of-requires c κs = search needs
 
--- src/lib.rt:64:9
 cast-put-ends : tie.Need-cast-put-ends
 cast-put-ends c = search needs
 
--- src/lib.rt:61:5
 put-ends-requires : tie.Need-put-ends-requires
 put-ends-requires c κs = search needs
 
--- src/lib.rt:69:5
 next-end-requires : tie.Need-next-end-requires
 next-end-requires c κs = search needs
 
--- src/lib.rt:50:1
 returns : tie.Need-returns
 returns c =
     let given = c .before .before .before .before .before .before .before .before .before .before .before .before in
@@ -37,11 +31,4 @@ returns c =
 
 pub whole-due-spec : {M : Type 1} → statement M
 whole-due-spec =
-    tie.close
-    (tie.spec
-    load-requires
-    phases-of-requires
-    cast-put-ends
-    put-ends-requires
-    next-end-requires
-    returns)
+    tie.close (tie.spec load-requires phases-of-requires cast-put-ends put-ends-requires next-end-requires returns)

@@ -28,12 +28,4 @@ returns-2 c =
 
 pub own-ways-spec : {M : Type 1} → statement M
 own-ways-spec =
-    tie.close
-    (tie.spec
-    is-atomic-requires
-    mul-four-ways
-    size-requires
-    add-four-ways
-    four-ways-requires
-    returns
-    returns-2)
+    tie.close (tie.spec is-atomic-requires mul-four-ways size-requires add-four-ways four-ways-requires returns returns-2)

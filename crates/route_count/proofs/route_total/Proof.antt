@@ -70,16 +70,4 @@ returns c =
 
 pub route-total-spec : {M : Type 1} → statement M
 route-total-spec =
-    tie.close
-    (tie.spec
-    Inv-loop
-    μ-loop
-    component-count-requires
-    four-ways-requires
-    loop-holds
-    own-ways-requires
-    capped-requires
-    add-c
-    loop-less
-    loop-again
-    returns)
+    tie.close (tie.spec Inv-loop μ-loop component-count-requires four-ways-requires loop-holds own-ways-requires capped-requires add-c loop-less loop-again returns)

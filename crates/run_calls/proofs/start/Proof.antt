@@ -11,49 +11,39 @@ use mathlib.Core.Path.{_∙_, ap, sym}
 use Rattle.run_calls.proofs.start.Statement.{statement}
 use Rattle.run_calls.proofs.start.Tie as tie
 
--- src/lib.rt:52:9
 check-requires : tie.Need-check-requires
 check-requires c κs = search needs
 
--- src/lib.rt:53:27
 enum-known-checked : tie.Need-enum-known-checked
 enum-known-checked c = search needs
 
--- src/lib.rt:55:28
 enum-told : tie.Need-enum-told
 enum-told c = search needs
 
--- src/lib.rt:55:28
 checked-number-requires : tie.Need-checked-number-requires
 checked-number-requires c κs = search needs
 
--- src/lib.rt:55:21
 wide16-requires : tie.Need-wide16-requires
 wide16-requires c κs = search needs
 
--- src/lib.rt:54:9
 returns : tie.Need-returns
 returns c =
     let a = c .before .before .before .before .before .before .before .args in
     let told = sym (ap (checkedAs (a .file .now)) (c .before .before .enum-told .given .1)) ∙ c .before .before .before .before .check .ensures in
     rw (c .wide16 .ensures, c .before .checked-number .ensures, c .before .before .enum-told .given .1) (start-refused (a .file .now) (a .run .now) _ told)
 
--- src/lib.rt:59:15
 components-of-requires : tie.Need-components-of-requires
 components-of-requires c κs = search needs
 
--- src/lib.rt:59:5
 start-run-requires : tie.Need-start-run-requires
 start-run-requires c κs =
     let a = c .before .before .before .before .before .before .before .before .args in
     let told = sym (ap (checkedAs (a .file .now)) (c .before .before .before .checked .given .1)) ∙ c .before .before .before .before .before .check .ensures in
     rw (c .before .components-of .ensures) (few-components (a .file .now) (c .before .before .before .checked .given .0 .0) (λ i. c .before .before .before .before .before .before .before .shared-slice-known .given i .fits) told)
 
--- src/lib.rt:49:1
 same-length : tie.Need-same-length
 same-length c = search needs
 
--- src/lib.rt:49:1
 returns-2 : tie.Need-returns-2
 returns-2 c =
     let a = c .before .before .before .before .before .before .before .before .before .before .before .args in
@@ -62,15 +52,4 @@ returns-2 c =
 
 pub start-spec : {M : Type 1} → statement M
 start-spec =
-    tie.close
-    (tie.spec
-    check-requires
-    enum-known-checked
-    enum-told
-    checked-number-requires
-    wide16-requires
-    returns
-    components-of-requires
-    start-run-requires
-    same-length
-    returns-2)
+    tie.close (tie.spec check-requires enum-known-checked enum-told checked-number-requires wide16-requires returns components-of-requires start-run-requires same-length returns-2)

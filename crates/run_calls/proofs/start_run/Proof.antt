@@ -48,12 +48,4 @@ returns-2 c =
 
 pub start-run-spec : {M : Type 1} → statement M
 start-run-spec =
-    tie.close
-    (tie.spec
-    atomic-count-requires
-    run-size-requires
-    returns
-    start-state-requires
-    store-requires
-    same-length
-    returns-2)
+    tie.close (tie.spec atomic-count-requires run-size-requires returns start-state-requires store-requires same-length returns-2)

@@ -6,19 +6,15 @@ use Rattle.run_state.proofs.put_at.Tie as tie
 use Rattle.run_state.proofs.put_at.Reads as reads
 use Rattle.run_state.proofs.put_at.Lts as lts
 
--- src/lib.rt:41:5
 element-write-phase : tie.Need-element-write-phase
 element-write-phase c = search needs
 
--- src/lib.rt:42:5
 mul-last : tie.Need-mul-last
 mul-last c = search needs
 
--- src/lib.rt:42:5
 element-write-last : tie.Need-element-write-last
 element-write-last c = search needs
 
--- src/lib.rt:31:1
 returns : tie.Need-returns
 unfolding changedAt
 returns c = search needs

@@ -32,51 +32,40 @@ put-decimal-below t =
 abbrev put-decimal-calls : ℕ → put-decimal-lts.Claims
 put-decimal-calls t = (digit-reads.Asked, digit-reads.Learnt, put-byte-reads.Asked, put-byte-reads.Learnt, put-decimal-below t, put-decimal.Post)
 
--- src/lib.rt:49:9
 put-decimal-returns : (t : ℕ) → put-decimal-lts.Need-returns (put-decimal-calls t) (put-decimal-at t) put-decimal.Post
 put-decimal-returns t c =
     let a = c .before .before .args in sym (decimal-none (a .k) (a .n) (now (a .out), a .at) (c .if1 .taken))
 
--- src/lib.rt:52:34
 put-decimal-digit-requires : (t : ℕ) → put-decimal-lts.Need-digit-requires (put-decimal-calls t) (put-decimal-at t) put-decimal.Post
 put-decimal-digit-requires t c κs = search needs
 
--- src/lib.rt:52:9
 put-decimal-put-byte-requires : (t : ℕ) → put-decimal-lts.Need-put-byte-requires (put-decimal-calls t) (put-decimal-at t) put-decimal.Post
 put-decimal-put-byte-requires t c κs = search needs
 
--- src/lib.rt:52:9
 put-decimal-same-length : (t : ℕ) → put-decimal-lts.Need-same-length (put-decimal-calls t) (put-decimal-at t) put-decimal.Post
 put-decimal-same-length t c = search needs
 
--- src/lib.rt:52:9
 put-decimal-returns-2 : (t : ℕ) → put-decimal-lts.Need-returns-2 (put-decimal-calls t) (put-decimal-at t) put-decimal.Post
 put-decimal-returns-2 t c =
     let a = c .before .before .before .before .before .before .before .before .args in
     let page : Page = (now (a .out), a .at) in
     c .before .before .put-byte .ensures ∙ ap (λ b. put1 b page) (c .before .before .before .digit .ensures) ∙ sym (decimal-one (a .k) (a .n) page (omega arith) (c .before .before .before .before .before .if2 .taken))
 
--- src/lib.rt:54:45
 put-decimal-sub-put-decimal : (t : ℕ) → put-decimal-lts.Need-sub-put-decimal (put-decimal-calls t) (put-decimal-at t) put-decimal.Post
 put-decimal-sub-put-decimal t c = search needs
 
--- src/lib.rt:54:9
 put-decimal-put-decimal-requires : (t : ℕ) → put-decimal-lts.Need-put-decimal-requires (put-decimal-calls t) (put-decimal-at t) put-decimal.Post
 put-decimal-put-decimal-requires t c κs = search needs
 
--- src/lib.rt:55:25
 put-decimal-digit-requires-2 : (t : ℕ) → put-decimal-lts.Need-digit-requires-2 (put-decimal-calls t) (put-decimal-at t) put-decimal.Post
 put-decimal-digit-requires-2 t c κs = search needs
 
--- src/lib.rt:55:5
 put-decimal-put-byte-requires-2 : (t : ℕ) → put-decimal-lts.Need-put-byte-requires-2 (put-decimal-calls t) (put-decimal-at t) put-decimal.Post
 put-decimal-put-byte-requires-2 t c κs = search needs
 
--- src/lib.rt:45:1
 put-decimal-same-length-2 : (t : ℕ) → put-decimal-lts.Need-same-length-2 (put-decimal-calls t) (put-decimal-at t) put-decimal.Post
 put-decimal-same-length-2 t c = search needs
 
--- src/lib.rt:45:1
 put-decimal-returns-3 : (t : ℕ) → put-decimal-lts.Need-returns-3 (put-decimal-calls t) (put-decimal-at t) put-decimal.Post
 put-decimal-returns-3 t c =
     let a = c .before .before .before .before .before .before .before .before .before .before .before .before .args in

@@ -16,39 +16,30 @@ use Rattle.little_endian.proofs.front.Reads as front-reads
 use Rattle.run_text.proofs.put_last.Reads as put-last-reads
 use Rattle.run_text.proofs.put_trace.Reads as put-trace-reads
 
--- src/lib.rt:172:51
 front-requires : tie.Need-front-requires
 front-requires c κs = search needs
 
--- src/lib.rt:172:9
 advance-requires : tie.Need-advance-requires
 advance-requires c κs = search needs
 
--- src/lib.rt:173:35
 front-requires-2 : tie.Need-front-requires-2
 front-requires-2 c κs = search needs
 
--- src/lib.rt:173:9
 put-trace-requires : tie.Need-put-trace-requires
 put-trace-requires c κs = search needs
 
--- src/lib.rt:174:5
 put-last-requires : tie.Need-put-last-requires
 put-last-requires c κs = search needs
 
--- src/lib.rt:169:1
 same-length : tie.Need-same-length
 same-length c = search needs
 
--- src/lib.rt:169:1
 same-length-2 : tie.Need-same-length-2
 same-length-2 c = search needs
 
--- src/lib.rt:169:1
 same-length-3 : tie.Need-same-length-3
 same-length-3 c = search needs
 
--- src/lib.rt:169:1
 returns : tie.Need-returns
 returns c =
     let a = c .before .before .before .before .before .before .before .before .before .before .before .before .before .before .before .before .before .before .before .before .before .before .before .args in
@@ -60,14 +51,4 @@ returns c =
 
 pub put-advanced-spec : {M : Type 1} → statement M
 put-advanced-spec =
-    tie.close
-    (tie.spec
-    front-requires
-    advance-requires
-    front-requires-2
-    put-trace-requires
-    put-last-requires
-    same-length
-    same-length-2
-    same-length-3
-    returns)
+    tie.close (tie.spec front-requires advance-requires front-requires-2 put-trace-requires put-last-requires same-length same-length-2 same-length-3 returns)

@@ -10,25 +10,20 @@ use Rattle.run_text.proofs.put_byte.Tie as tie
 use Rattle.run_text.proofs.put_byte.Reads as reads
 use Rattle.run_text.proofs.put_byte.Lts as lts
 
--- src/lib.rt:37:9
 slice-write-out : tie.Need-slice-write-out
 slice-write-out c = search needs
 
--- src/lib.rt:38:9
 add-result : tie.Need-add-result
 add-result c = search needs
 
--- src/lib.rt:33:1
 same-length : tie.Need-same-length
 same-length c = search needs
 
--- src/lib.rt:33:1
 returns : tie.Need-returns
 unfolding put1
 returns c =
     simp (lt-ltb _ _ (c .if1 .taken))
 
--- src/lib.rt:33:1
 returns-2 : tie.Need-returns-2
 unfolding put1
 returns-2 c =

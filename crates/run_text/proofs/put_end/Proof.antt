@@ -11,36 +11,28 @@ use Rattle.run_text.proofs.put_end.Lts as lts
 use Rattle.run_text.proofs.put_field.Reads as put-field-reads
 use Rattle.run_text.proofs.put_text.Reads as put-text-reads
 
--- src/lib.rt:146:31
 slice-aggregate-put-text : tie.Need-slice-aggregate-put-text
 slice-aggregate-put-text c = search needs
 
--- src/lib.rt:146:9
 put-text-requires : tie.Need-put-text-requires
 put-text-requires c κs = search needs
 
--- src/lib.rt:147:9
 put-field-requires : tie.Need-put-field-requires
 put-field-requires c κs = search needs
 
--- src/lib.rt:148:30
 slice-aggregate-put-text-2 : tie.Need-slice-aggregate-put-text-2
 slice-aggregate-put-text-2 c = search needs
 
--- src/lib.rt:148:9
 put-text-requires-2 : tie.Need-put-text-requires-2
 put-text-requires-2 c κs = search needs
 
--- src/lib.rt:149:5
 put-field-requires-2 : tie.Need-put-field-requires-2
 put-field-requires-2 c κs = search needs
 
--- src/lib.rt:143:1
 same-length : tie.Need-same-length
 same-length c =
     c .before .before .put-field2 .kept .0 ∙ c .before .before .before .before .before .before .put-text2 .kept .0 ∙ c .before .before .before .before .before .before .before .before .before .before .before .put-field .kept .0 ∙ c .before .before .before .before .before .before .before .before .before .before .before .before .before .before .before .put-text .kept .0
 
--- src/lib.rt:143:1
 returns : tie.Need-returns
 returns c =
     let a = c .before .before .before .before .before .before .before .before .before .before .before .before .before .before .before .before .before .before .before .args in
@@ -49,13 +41,4 @@ returns c =
 
 pub put-end-spec : {M : Type 1} → statement M
 put-end-spec =
-    tie.close
-    (tie.spec
-    slice-aggregate-put-text
-    put-text-requires
-    put-field-requires
-    slice-aggregate-put-text-2
-    put-text-requires-2
-    put-field-requires-2
-    same-length
-    returns)
+    tie.close (tie.spec slice-aggregate-put-text put-text-requires put-field-requires slice-aggregate-put-text-2 put-text-requires-2 put-field-requires-2 same-length returns)

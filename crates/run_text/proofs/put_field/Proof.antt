@@ -13,19 +13,15 @@ use Rattle.run_text.proofs.put_field.Lts as lts
 use Rattle.run_text.proofs.put_byte.Reads as put-byte-reads
 use Rattle.run_text.proofs.put_decimal.Reads as put-decimal-reads
 
--- src/lib.rt:79:9
 put-decimal-requires : tie.Need-put-decimal-requires
 put-decimal-requires c κs = search needs
 
--- src/lib.rt:80:5
 put-byte-requires : tie.Need-put-byte-requires
 put-byte-requires c κs = search needs
 
--- src/lib.rt:76:1
 same-length : tie.Need-same-length
 same-length c = search needs
 
--- src/lib.rt:76:1
 returns : tie.Need-returns
 unfolding field
 returns c =

@@ -12,36 +12,29 @@ use Rattle.little_endian.proofs.u64_at.Reads as u64-at-reads
 use Rattle.run_text.proofs.put_end.Reads as put-end-reads
 use Rattle.run_text.proofs.put_refused.Reads as put-refused-reads
 
--- src/lib.rt:163:26
 u64-at-requires : tie.Need-u64-at-requires
 u64-at-requires c κs = search needs
 
--- src/lib.rt:163:9
 put-end-requires : tie.Need-put-end-requires
 put-end-requires c κs = search needs
 
--- src/lib.rt:165:9
 put-refused-requires : tie.Need-put-refused-requires
 put-refused-requires c κs = search needs
 
--- src/lib.rt:159:1
 same-length : tie.Need-same-length
 same-length c =
     c .before .before .put-end .kept .0
 
--- src/lib.rt:159:1
 returns : tie.Need-returns
 unfolding lastLine
 returns c =
     let a = c .before .before .before .before .before .before .before .before .args in
     rw (c .before .before .put-end .ensures, c .before .before .before .u64-at .ensures, eq-eqb (a .refusal) 0 (c .before .before .before .before .before .if1 .taken))
 
--- src/lib.rt:159:1
 same-length-2 : tie.Need-same-length-2
 same-length-2 c =
     c .before .before .put-refused .kept .0
 
--- src/lib.rt:159:1
 returns-2 : tie.Need-returns-2
 unfolding lastLine
 returns-2 c =
@@ -50,12 +43,4 @@ returns-2 c =
 
 pub put-last-spec : {M : Type 1} → statement M
 put-last-spec =
-    tie.close
-    (tie.spec
-    u64-at-requires
-    put-end-requires
-    put-refused-requires
-    same-length
-    returns
-    same-length-2
-    returns-2)
+    tie.close (tie.spec u64-at-requires put-end-requires put-refused-requires same-length returns same-length-2 returns-2)

@@ -24,47 +24,37 @@ Inv-loop out₀ at moment step count rows n k₀ to₀ out k to = (length out �
 abbrev μ-loop : tie.MeasureT-loop
 μ-loop out₀ at moment step count rows n k₀ to₀ out k to = n - k
 
--- src/lib.rt:108:9
 size16-requires : tie.Need-size16-requires Inv-loop μ-loop
 size16-requires c κs = search needs
 
--- src/lib.rt:111:5
 loop-holds : tie.Need-loop-holds Inv-loop μ-loop
 loop-holds c =
     (refl, omega arith, rw (c .size16 .ensures, sub-zero))
 
--- src/lib.rt:112:60
 mul-rest : tie.Need-mul-rest Inv-loop μ-loop
 mul-rest c = search needs
 
--- src/lib.rt:112:49
 rest-requires : tie.Need-rest-requires Inv-loop μ-loop
 rest-requires c κs = search needs
 
--- src/lib.rt:112:9
 put-message-requires : tie.Need-put-message-requires Inv-loop μ-loop
 put-message-requires c κs = search needs
 
--- src/lib.rt:113:13
 add-k : tie.Need-add-k Inv-loop μ-loop
 add-k c = search needs
 
--- src/lib.rt:111:5
 loop-less : tie.Need-loop-less Inv-loop μ-loop
 loop-less c = search needs
 
--- src/lib.rt:111:5
 loop-again : tie.Need-loop-again Inv-loop μ-loop
 loop-again c =
     let a = c .before .before .before .before .before .before .before .before .before .before .args in let l = c .before .before .before .before .before .before .loop in
     (c .before .before .put-message .kept .0 ∙ l .inv .0, omega arith, rw (c .before .before .put-message .ensures, c .before .before .before .rest .ensures) (messages-more (c .before .before .before .before .before .before .before .size16 .result) (l .k) (a .moment) (a .step) (now (a .rows)) (l .out, l .to) (omega arith) ∙ l .inv .2))
 
--- src/lib.rt:105:1
 same-length : tie.Need-same-length Inv-loop μ-loop
 same-length c =
     c .before .loop .inv .0
 
--- src/lib.rt:105:1
 returns : tie.Need-returns Inv-loop μ-loop
 returns c =
     let a = c .before .before .before .before .before .args in let l = c .before .loop in
@@ -73,17 +63,4 @@ returns c =
 
 pub put-messages-spec : {M : Type 1} → statement M
 put-messages-spec =
-    tie.close
-    (tie.spec
-    Inv-loop
-    μ-loop
-    size16-requires
-    loop-holds
-    mul-rest
-    rest-requires
-    put-message-requires
-    add-k
-    loop-less
-    loop-again
-    same-length
-    returns)
+    tie.close (tie.spec Inv-loop μ-loop size16-requires loop-holds mul-rest rest-requires put-message-requires add-k loop-less loop-again same-length returns)

@@ -11,32 +11,25 @@ use Rattle.little_endian.proofs.u16_at.Reads as u16-at-reads
 use Rattle.little_endian.proofs.u64_at.Reads as u64-at-reads
 use Rattle.run_text.proofs.put_messages.Reads as put-messages-reads
 
--- src/lib.rt:122:27
 u64-at-requires : tie.Need-u64-at-requires
 u64-at-requires c κs = search needs
 
--- src/lib.rt:122:45
 u16-at-requires : tie.Need-u16-at-requires
 u16-at-requires c κs = search needs
 
--- src/lib.rt:122:63
 u16-at-requires-2 : tie.Need-u16-at-requires-2
 u16-at-requires-2 c κs = search needs
 
--- src/lib.rt:122:82
 rest-requires : tie.Need-rest-requires
 rest-requires c κs = search needs
 
--- src/lib.rt:122:5
 put-messages-requires : tie.Need-put-messages-requires
 put-messages-requires c κs = search needs
 
--- src/lib.rt:119:1
 same-length : tie.Need-same-length
 same-length c =
     c .before .before .put-messages .kept .0
 
--- src/lib.rt:119:1
 returns : tie.Need-returns
 unfolding recordLines
 returns c =
@@ -44,12 +37,4 @@ returns c =
 
 pub put-record-spec : {M : Type 1} → statement M
 put-record-spec =
-    tie.close
-    (tie.spec
-    u64-at-requires
-    u16-at-requires
-    u16-at-requires-2
-    rest-requires
-    put-messages-requires
-    same-length
-    returns)
+    tie.close (tie.spec u64-at-requires u16-at-requires u16-at-requires-2 rest-requires put-messages-requires same-length returns)

@@ -11,24 +11,19 @@ use Rattle.run_text.proofs.put_refused.Lts as lts
 use Rattle.run_text.proofs.put_field.Reads as put-field-reads
 use Rattle.run_text.proofs.put_text.Reads as put-text-reads
 
--- src/lib.rt:155:34
 slice-aggregate-put-text : tie.Need-slice-aggregate-put-text
 slice-aggregate-put-text c = search needs
 
--- src/lib.rt:155:9
 put-text-requires : tie.Need-put-text-requires
 put-text-requires c κs = search needs
 
--- src/lib.rt:156:5
 put-field-requires : tie.Need-put-field-requires
 put-field-requires c κs = search needs
 
--- src/lib.rt:152:1
 same-length : tie.Need-same-length
 same-length c =
     c .before .before .put-field .kept .0 ∙ c .before .before .before .before .before .before .put-text .kept .0
 
--- src/lib.rt:152:1
 returns : tie.Need-returns
 returns c =
     let a = c .before .before .before .before .before .before .before .before .before .before .args in

@@ -14,31 +14,24 @@ use Rattle.engine.proofs.start.Reads as start-reads
 use Rattle.run_text.proofs.put_advanced.Reads as put-advanced-reads
 use Rattle.run_text.proofs.put_refused.Reads as put-refused-reads
 
--- src/lib.rt:180:9
 start-requires : tie.Need-start-requires
 start-requires c κs = search needs
 
--- src/lib.rt:182:9
 put-advanced-requires : tie.Need-put-advanced-requires
 put-advanced-requires c κs = search needs
 
--- src/lib.rt:184:9
 put-refused-requires : tie.Need-put-refused-requires
 put-refused-requires c κs = search needs
 
--- src/lib.rt:177:1
 same-length : tie.Need-same-length
 same-length c = search needs
 
--- src/lib.rt:177:1
 same-length-2 : tie.Need-same-length-2
 same-length-2 c = search needs
 
--- src/lib.rt:177:1
 same-length-3 : tie.Need-same-length-3
 same-length-3 c = search needs
 
--- src/lib.rt:177:1
 returns : tie.Need-returns
 returns c =
     let a = c .before .before .before .before .before .before .before .before .before .before .before .before .before .before .before .before .before .before .before .before .args in
@@ -46,15 +39,12 @@ returns c =
     let e : wroteOf (s .last .1 .0) (s .result) ≡ start (now (a .model)) (now (a .run)) = s .ensures in
     rw (← e, started-on (now (a .model)) (a .end) (now (a .trace)) (s .last .1 .0) (s .result) (c .before .before .before .before .before .before .before .before .before .before .if1 .taken)) (c .before .before .before .before .before .before .put-advanced .ensures)
 
--- src/lib.rt:177:1
 same-length-4 : tie.Need-same-length-4
 same-length-4 c = search needs
 
--- src/lib.rt:177:1
 same-length-5 : tie.Need-same-length-5
 same-length-5 c = search needs
 
--- src/lib.rt:177:1
 returns-2 : tie.Need-returns-2
 returns-2 c =
     let a = c .before .before .before .before .before .before .before .before .before .before .before .before .before .before .args in
@@ -64,15 +54,4 @@ returns-2 c =
 
 pub put-run-spec : {M : Type 1} → statement M
 put-run-spec =
-    tie.close
-    (tie.spec
-    start-requires
-    put-advanced-requires
-    put-refused-requires
-    same-length
-    same-length-2
-    same-length-3
-    returns
-    same-length-4
-    same-length-5
-    returns-2)
+    tie.close (tie.spec start-requires put-advanced-requires put-refused-requires same-length same-length-2 same-length-3 returns same-length-4 same-length-5 returns-2)

@@ -23,71 +23,56 @@ Inv-loop out₀ at trace turns₀ from₀ to₀ out turns from to = (length out 
 abbrev μ-loop : tie.MeasureT-loop
 μ-loop out₀ at trace turns₀ from₀ to₀ out turns from to = turns
 
--- src/lib.rt:131:5
 loop-holds : tie.Need-loop-holds Inv-loop μ-loop
 unfolding traceLines
 loop-holds c =
     (refl, refl)
 
--- src/lib.rt:133:13
 same-length : tie.Need-same-length Inv-loop μ-loop
 same-length c =
     c .before .before .loop .inv .0
 
--- src/lib.rt:133:13
 returns : tie.Need-returns Inv-loop μ-loop
 returns c =
     let a = c .before .before .before .before .before .args in let l = c .before .before .loop in
     sym (lines-past (l .turns) (l .from) (now (a .trace)) (l .out, l .to) (c .if1 .taken)) ∙ l .inv .1
 
--- src/lib.rt:135:13
 rest-requires : tie.Need-rest-requires Inv-loop μ-loop
 rest-requires c κs = search needs
 
--- src/lib.rt:136:9
 put-record-requires : tie.Need-put-record-requires Inv-loop μ-loop
 put-record-requires c κs = search needs
 
--- src/lib.rt:137:60
 u16-at-requires : tie.Need-u16-at-requires Inv-loop μ-loop
 u16-at-requires c κs = search needs
 
--- src/lib.rt:137:53
 size16-requires : tie.Need-size16-requires Inv-loop μ-loop
 size16-requires c κs = search needs
 
--- src/lib.rt:137:38
 mul-from : tie.Need-mul-from Inv-loop μ-loop
 mul-from c = search needs
 
--- src/lib.rt:137:24
 add-from : tie.Need-add-from Inv-loop μ-loop
 add-from c = search needs
 
--- src/lib.rt:137:16
 add-from-2 : tie.Need-add-from-2 Inv-loop μ-loop
 add-from-2 c = search needs
 
--- src/lib.rt:138:17
 sub-turns : tie.Need-sub-turns Inv-loop μ-loop
 sub-turns c = search needs
 
--- src/lib.rt:131:5
 loop-less : tie.Need-loop-less Inv-loop μ-loop
 loop-less c = search needs
 
--- src/lib.rt:131:5
 loop-again : tie.Need-loop-again Inv-loop μ-loop
 loop-again c =
     let a = c .before .before .before .before .before .before .before .before .before .before .before .before .args in let l = c .before .before .before .before .before .before .before .before .before .loop in
     (c .before .before .before .before .put-record .kept .0 ∙ l .inv .0, rw (c .size16 .ensures, c .before .u16-at .ensures, c .before .before .before .before .put-record .ensures, c .before .before .before .before .before .before .rest .ensures) (lines-more (l .turns) (l .from) (now (a .trace)) (l .out, l .to) (omega arith) (omega arith) ∙ l .inv .1))
 
--- src/lib.rt:125:1
 same-length-2 : tie.Need-same-length-2 Inv-loop μ-loop
 same-length-2 c =
     c .before .loop .inv .0
 
--- src/lib.rt:125:1
 returns-2 : tie.Need-returns-2 Inv-loop μ-loop
 returns-2 c =
     let a = c .before .before .before .before .args in let l = c .before .loop in

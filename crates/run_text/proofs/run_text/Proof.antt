@@ -8,23 +8,18 @@ use Rattle.run_text.proofs.run_text.Reads as reads
 use Rattle.run_text.proofs.run_text.Lts as lts
 use Rattle.run_text.proofs.put_input.Reads as put-input-reads
 
--- src/lib.rt:205:27
 slice-aggregate-put-input : tie.Need-slice-aggregate-put-input
 slice-aggregate-put-input c = search needs
 
--- src/lib.rt:205:37
 slice-aggregate-put-input-2 : tie.Need-slice-aggregate-put-input-2
 slice-aggregate-put-input-2 c = search needs
 
--- src/lib.rt:205:5
 put-input-requires : tie.Need-put-input-requires
 put-input-requires c κs = search needs
 
--- src/lib.rt:200:1
 same-length : tie.Need-same-length
 same-length c = search needs
 
--- src/lib.rt:200:1
 returns : tie.Need-returns
 unfolding runText
 returns c =
@@ -32,10 +27,4 @@ returns c =
 
 pub run-text-spec : {M : Type 1} → statement M
 run-text-spec =
-    tie.close
-    (tie.spec
-    slice-aggregate-put-input
-    slice-aggregate-put-input-2
-    put-input-requires
-    same-length
-    returns)
+    tie.close (tie.spec slice-aggregate-put-input slice-aggregate-put-input-2 put-input-requires same-length returns)

@@ -20,39 +20,31 @@ Inv-loop components n k₀ c₀ k c = (c ≤ n) × (k ≤ c) × (k ≡ length (k
 abbrev μ-loop : tie.MeasureT-loop
 μ-loop components n k₀ c₀ k c = n - c
 
--- src/lib.rt:46:9
 component-count-requires : tie.Need-component-count-requires Inv-loop μ-loop
 component-count-requires c κs = search needs
 
--- src/lib.rt:49:5
 loop-holds : tie.Need-loop-holds Inv-loop μ-loop
 unfolding keep upFrom
 loop-holds c =
     (omega arith, omega arith, refl)
 
--- src/lib.rt:50:24
 is-atomic-requires : tie.Need-is-atomic-requires Inv-loop μ-loop
 is-atomic-requires c κs = search needs
 
--- src/lib.rt:50:17
 one-if-requires : tie.Need-one-if-requires Inv-loop μ-loop
 one-if-requires c κs = search needs
 
--- src/lib.rt:50:13
 add-k : tie.Need-add-k Inv-loop μ-loop
 add-k c =
     let b = one-most (c .before .is-atomic .result) in
     search needs
 
--- src/lib.rt:51:13
 add-c : tie.Need-add-c Inv-loop μ-loop
 add-c c = search needs
 
--- src/lib.rt:49:5
 loop-less : tie.Need-loop-less Inv-loop μ-loop
 loop-less c = search needs
 
--- src/lib.rt:49:5
 loop-again : tie.Need-loop-again Inv-loop μ-loop
 loop-again c =
     let l = c .before .before .before .loop in
@@ -62,7 +54,6 @@ loop-again c =
       ap₂ _+_ (l .inv .2) (c .one-if .ensures ∙ ap (λ (b : Bool). cond b 1 0) (c .before .is-atomic .ensures)) ∙ kept-more (isAtomic (componentsIn (c .before .before .before .before .before .before .args .components .now))) (l .c),
     )
 
--- src/lib.rt:43:1
 returns : tie.Need-returns Inv-loop μ-loop
 unfolding atomics
 returns c =
@@ -72,16 +63,4 @@ returns c =
 
 pub atomic-count-spec : {M : Type 1} → statement M
 atomic-count-spec =
-    tie.close
-    (tie.spec
-    Inv-loop
-    μ-loop
-    component-count-requires
-    loop-holds
-    is-atomic-requires
-    one-if-requires
-    add-k
-    add-c
-    loop-less
-    loop-again
-    returns)
+    tie.close (tie.spec Inv-loop μ-loop component-count-requires loop-holds is-atomic-requires one-if-requires add-k add-c loop-less loop-again returns)

@@ -24,37 +24,29 @@ Inv-loop components phases run opening n k₀ first₀ c₀ k first c = (c ≤ n
 abbrev μ-loop : tie.MeasureT-loop
 μ-loop components phases run opening n k₀ first₀ c₀ k first c = n - c
 
--- src/lib.rt:115:9
 opening-of-requires : tie.Need-opening-of-requires Inv-loop μ-loop
 opening-of-requires c κs = search needs
 
--- src/lib.rt:116:9
 component-count-requires : tie.Need-component-count-requires Inv-loop μ-loop
 component-count-requires c κs = search needs
 
--- src/lib.rt:120:5
 loop-holds : tie.Need-loop-holds Inv-loop μ-loop
 loop-holds c =
     let a = c .before .before .before .before .before .args in
     (omega arith, omega arith, omega arith, sym (before-none (componentsIn (a .components .now))), omega (arith, ap length (from-first (componentsIn (a .components .now)))), sym (fit-first (a .components .now) (a .phases .now) (a .run .now)))
 
--- src/lib.rt:121:13
 component-at-requires : tie.Need-component-at-requires Inv-loop μ-loop
 component-at-requires c κs = search needs
 
--- src/lib.rt:122:13
 entry-at-requires : tie.Need-entry-at-requires Inv-loop μ-loop
 entry-at-requires c κs = search needs
 
--- src/lib.rt:123:35
 entry-due-requires : tie.Need-entry-due-requires Inv-loop μ-loop
 entry-due-requires c κs = search needs
 
--- src/lib.rt:123:13
 entry-fits-requires : tie.Need-entry-fits-requires Inv-loop μ-loop
 entry-fits-requires c κs = search needs
 
--- src/lib.rt:126:13
 returns : tie.Need-returns Inv-loop μ-loop
 returns c =
     let a = c .before .before .before .before .before .before .before .before .before .before .before .before .before .args in
@@ -66,33 +58,26 @@ returns c =
     let h : l .c < length (componentsIn (a .components .now)) = omega (arith, c .before .before .before .before .before .before .before .before .component-count .ensures) in
     sym (fit-fails (a .components .now) (a .phases .now) s (l .c) (l .k) h (l .inv .4) (sym e ∙ c .if1 .taken)) ∙ l .inv .5
 
--- src/lib.rt:128:17
 one-if-requires : tie.Need-one-if-requires Inv-loop μ-loop
 one-if-requires c κs = search needs
 
--- src/lib.rt:128:13
 add-k : tie.Need-add-k Inv-loop μ-loop
 add-k c =
     let b = one-most (eqb (c .before .before .before .before .before .before .component-at .result .kind) 1) in
     search needs
 
--- src/lib.rt:129:25
 size-requires : tie.Need-size-requires Inv-loop μ-loop
 size-requires c κs = search needs
 
--- src/lib.rt:129:17
 add-first : tie.Need-add-first Inv-loop μ-loop
 add-first c = search needs
 
--- src/lib.rt:130:13
 add-c : tie.Need-add-c Inv-loop μ-loop
 add-c c = search needs
 
--- src/lib.rt:120:5
 loop-less : tie.Need-loop-less Inv-loop μ-loop
 loop-less c = search needs
 
--- src/lib.rt:120:5
 loop-again : tie.Need-loop-again Inv-loop μ-loop
 loop-again c =
     let a = c .before .before .before .before .before .before .before .before .before .before .before .before .before .before .before .args in
@@ -111,7 +96,6 @@ loop-again c =
       rw o (fit-more (a .components .now) (a .phases .now) s (l .c) (l .k) h (l .inv .4) (sym e ∙ c .before .before .if1 .left)) ∙ l .inv .5,
     )
 
--- src/lib.rt:111:1
 returns-2 : tie.Need-returns-2 Inv-loop μ-loop
 returns-2 c =
     let l = c .before .loop in

@@ -4,27 +4,21 @@ use Rattle.saved_run.proofs.Entries.{entry-place}
 use Rattle.saved_run.proofs.entry_at.Statement.{statement}
 use Rattle.saved_run.proofs.entry_at.Tie as tie
 
--- src/lib.rt:68:26
 mul-at : tie.Need-mul-at
 mul-at c = search needs
 
--- src/lib.rt:68:14
 add-at : tie.Need-add-at
 add-at c = search needs
 
--- src/lib.rt:70:16
 byte-at-requires : tie.Need-byte-at-requires
 byte-at-requires c κs = search needs
 
--- src/lib.rt:71:49
 add-u64-at : tie.Need-add-u64-at
 add-u64-at c = search needs
 
--- src/lib.rt:71:22
 u64-at-requires : tie.Need-u64-at-requires
 u64-at-requires c κs = search needs
 
--- src/lib.rt:64:1
 returns : tie.Need-returns
 returns c =
     rw (c .before .byte-at .ensures, c .u64-at .ensures) (entry-place (c .before .before .before .args .run .now) (c .before .before .before .args .i))

@@ -9,23 +9,18 @@ use mathlib.Core.Path.{_∙_, ap}
 use Rattle.saved_run.proofs.entry_due.Statement.{statement}
 use Rattle.saved_run.proofs.entry_due.Tie as tie
 
--- src/lib.rt:97:57
 size-requires : tie.Need-size-requires
 size-requires c κs = search needs
 
--- src/lib.rt:97:49
 add-phase-at : tie.Need-add-phase-at
 add-phase-at c = search needs
 
--- src/lib.rt:97:9
 phase-at-requires : tie.Need-phase-at-requires
 phase-at-requires c κs = search needs
 
--- src/lib.rt:98:5
 due-after-requires : tie.Need-due-after-requires
 due-after-requires c κs = search needs
 
--- src/lib.rt:93:1
 returns : tie.Need-returns
 returns c =
     let a = c .before .before .before .before .args in

@@ -3,15 +3,12 @@ use borrow.Author.Needs.{needs}
 use Rattle.saved_run.proofs.entry_fits.Statement.{statement}
 use Rattle.saved_run.proofs.entry_fits.Tie as tie
 
--- src/lib.rt:107:17
 is-before-requires : tie.Need-is-before-requires
 is-before-requires c κs = search needs
 
--- src/lib.rt:108:38
 not-before-requires : tie.Need-not-before-requires
 not-before-requires c κs = search needs
 
--- src/lib.rt:102:1
 returns : tie.Need-returns
 returns c =
     rw (c .before .before .before .before .before .is-before .ensures, c .not-before .ensures)

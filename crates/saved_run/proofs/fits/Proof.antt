@@ -5,41 +5,33 @@ use Rattle.model_records.specs.Values.{componentsIn}
 use Rattle.saved_run.proofs.fits.Statement.{statement}
 use Rattle.saved_run.proofs.fits.Tie as tie
 
--- src/lib.rt:140:9
 atomic-count-requires : tie.Need-atomic-count-requires
 atomic-count-requires c κs = search needs
 
--- src/lib.rt:141:9
 opening-of-requires : tie.Need-opening-of-requires
 opening-of-requires c κs = search needs
 
--- src/lib.rt:142:28
 mul-long : tie.Need-mul-long
 mul-long c =
     let b = atomics-most (componentsIn (c .before .before .before .before .before .args .components .now)) in
     let e = c .before .atomic-count .ensures in
     search needs
 
--- src/lib.rt:142:16
 add-long : tie.Need-add-long
 add-long c =
     let b = atomics-most (componentsIn (c .before .before .before .before .before .args .components .now)) in
     let e = c .before .atomic-count .ensures in
     search needs
 
--- src/lib.rt:143:41
 u16-at-requires : tie.Need-u16-at-requires
 u16-at-requires c κs = search needs
 
--- src/lib.rt:143:19
 size16-requires : tie.Need-size16-requires
 size16-requires c κs = search needs
 
--- src/lib.rt:145:32
 entries-fit-requires : tie.Need-entries-fit-requires
 entries-fit-requires c κs = search needs
 
--- src/lib.rt:136:1
 returns : tie.Need-returns
 returns c =
     let a = c .before .before .before .before .before .before .before .before .before .args in
@@ -48,13 +40,4 @@ returns c =
 
 pub fits-spec : {M : Type 1} → statement M
 fits-spec =
-    tie.close
-    (tie.spec
-    atomic-count-requires
-    opening-of-requires
-    mul-long
-    add-long
-    u16-at-requires
-    size16-requires
-    entries-fit-requires
-    returns)
+    tie.close (tie.spec atomic-count-requires opening-of-requires mul-long add-long u16-at-requires size16-requires entries-fit-requires returns)

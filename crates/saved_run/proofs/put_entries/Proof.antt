@@ -52,14 +52,4 @@ returns c =
 
 pub put-entries-spec : {M : Type 1} → statement M
 put-entries-spec =
-    tie.close
-    (tie.spec
-    Inv-loop
-    μ-loop
-    loop-holds
-    put-entry-requires
-    add-i
-    loop-less
-    loop-again
-    same-length
-    returns)
+    tie.close (tie.spec Inv-loop μ-loop loop-holds put-entry-requires add-i loop-less loop-again same-length returns)

@@ -43,15 +43,4 @@ returns c =
 
 pub put-entry-spec : {M : Type 1} → statement M
 put-entry-spec =
-    tie.close
-    (tie.spec
-    mul-at
-    add-at
-    last-at-requires
-    phase-at-requires
-    wide-requires
-    put-number-requires
-    add-put-number
-    put-number-requires-2
-    same-length
-    returns)
+    tie.close (tie.spec mul-at add-at last-at-requires phase-at-requires wide-requires put-number-requires add-put-number put-number-requires-2 same-length returns)

@@ -5,15 +5,12 @@ use mathlib.Core.Path.{refl}
 use Rattle.saved_run.proofs.run_size.Statement.{statement}
 use Rattle.saved_run.proofs.run_size.Tie as tie
 
--- src/lib.rt:37:17
 mul-result : tie.Need-mul-result
 mul-result c = search needs
 
--- src/lib.rt:37:5
 add-result : tie.Need-add-result
 add-result c = search needs
 
--- src/lib.rt:33:1
 returns : tie.Need-returns
 unfolding runLength
 returns c =

@@ -77,17 +77,4 @@ returns c =
 
 pub start-state-spec : {M : Type 1} → statement M
 start-state-spec =
-    tie.close
-    (tie.spec
-    Inv-loop
-    μ-loop
-    component-count-requires
-    loop-holds
-    component-at-requires
-    put-at-requires
-    one-if-requires
-    add-k
-    add-c
-    loop-less
-    loop-again
-    returns)
+    tie.close (tie.spec Inv-loop μ-loop component-count-requires loop-holds component-at-requires put-at-requires one-if-requires add-k add-c loop-less loop-again returns)

@@ -27,10 +27,4 @@ returns c =
 
 pub store-spec : {M : Type 1} → statement M
 store-spec =
-    tie.close
-    (tie.spec
-    put-number-requires
-    put-number-requires-2
-    put-entries-requires
-    same-length
-    returns)
+    tie.close (tie.spec put-number-requires put-number-requires-2 put-entries-requires same-length returns)

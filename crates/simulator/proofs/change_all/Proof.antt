@@ -75,17 +75,4 @@ returns c =
 
 pub change-all-spec : {M : Type 1} → statement M
 change-all-spec =
-    tie.close
-    (tie.spec
-    Inv-loop
-    μ-loop
-    whole-requires
-    loop-holds
-    cast-row-in
-    row-in-requires
-    change-one-requires
-    add-i
-    loop-less
-    loop-again
-    same-length
-    returns)
+    tie.close (tie.spec Inv-loop μ-loop whole-requires loop-holds cast-row-in row-in-requires change-one-requires add-i loop-less loop-again same-length returns)

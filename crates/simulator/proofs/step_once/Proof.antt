@@ -51,12 +51,4 @@ returns c =
 
 pub step-once-spec : {M : Type 1} → statement M
 step-once-spec =
-    tie.close
-    (tie.spec
-    front-requires
-    mark-requires
-    reach-requires
-    step-marked-requires
-    same-length
-    same-length-2
-    returns)
+    tie.close (tie.spec front-requires mark-requires reach-requires step-marked-requires same-length same-length-2 returns)

@@ -53,18 +53,4 @@ returns-2 c =
 
 pub link-spec : {M : Type 1} → statement M
 link-spec =
-    tie.close
-    (tie.spec
-    add-t
-    mul-t
-    slice-read-t
-    size16-requires
-    add-t-2
-    mul-t-2
-    slice-write-t
-    add-t-3
-    mul-t-3
-    slice-write-t-2
-    same-length
-    returns
-    returns-2)
+    tie.close (tie.spec add-t mul-t slice-read-t size16-requires add-t-2 mul-t-2 slice-write-t add-t-3 mul-t-3 slice-write-t-2 same-length returns returns-2)

@@ -59,17 +59,4 @@ returns c =
 
 pub link-all-spec : {M : Type 1} → statement M
 link-all-spec =
-    tie.close
-    (tie.spec
-    Inv-loop
-    μ-loop
-    loop-holds
-    size16-requires
-    word-at-requires
-    size16-requires-2
-    link-requires
-    sub-j
-    loop-less
-    loop-again
-    same-length
-    returns)
+    tie.close (tie.spec Inv-loop μ-loop loop-holds size16-requires word-at-requires size16-requires-2 link-requires sub-j loop-less loop-again same-length returns)

@@ -53,18 +53,4 @@ returns c =
 
 pub put-four-spec : {M : Type 1} → statement M
 put-four-spec =
-    tie.close
-    (tie.spec
-    mul-t
-    slice-write-t
-    add-t
-    mul-t-2
-    slice-write-t-2
-    add-t-2
-    mul-t-3
-    slice-write-t-3
-    add-t-3
-    mul-t-4
-    slice-write-t-4
-    same-length
-    returns)
+    tie.close (tie.spec mul-t slice-write-t add-t mul-t-2 slice-write-t-2 add-t-2 mul-t-3 slice-write-t-3 add-t-3 mul-t-4 slice-write-t-4 same-length returns)

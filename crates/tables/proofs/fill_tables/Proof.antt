@@ -53,12 +53,4 @@ returns c =
 
 pub fill-tables-spec : {M : Type 1} → statement M
 fill-tables-spec =
-    tie.close
-    (tie.spec
-    fill-components-requires
-    fill-rules-requires
-    fill-children-requires
-    fill-linked-requires
-    count-word-requires
-    element-write-tables
-    returns)
+    tie.close (tie.spec fill-components-requires fill-rules-requires fill-children-requires fill-linked-requires count-word-requires element-write-tables returns)

@@ -8,40 +8,31 @@ use Rattle.trace_records.proofs.Records.{record-puts}
 use Rattle.trace_records.proofs.put_record.Statement.{statement}
 use Rattle.trace_records.proofs.put_record.Tie as tie
 
--- src/lib.rt:49:5
 put-number-requires : tie.Need-put-number-requires
 put-number-requires c κs = search needs
 
--- src/lib.rt:50:21
 add-put-number : tie.Need-add-put-number
 add-put-number c = search needs
 
--- src/lib.rt:50:5
 put-number-requires-2 : tie.Need-put-number-requires-2
 put-number-requires-2 c κs = search needs
 
--- src/lib.rt:51:21
 add-put-number-2 : tie.Need-add-put-number-2
 add-put-number-2 c = search needs
 
--- src/lib.rt:51:5
 put-number-requires-3 : tie.Need-put-number-requires-3
 put-number-requires-3 c κs = search needs
 
--- src/lib.rt:52:23
 add-put-messages : tie.Need-add-put-messages
 add-put-messages c = search needs
 
--- src/lib.rt:52:5
 put-messages-requires : tie.Need-put-messages-requires
 put-messages-requires c κs = search needs
 
--- src/lib.rt:45:1
 same-length : tie.Need-same-length
 same-length c =
     c .before .before .put-messages .kept .0 ∙ c .before .before .before .before .before .before .put-number3 .kept .0 ∙ c .before .before .before .before .before .before .before .before .before .before .put-number2 .kept .0 ∙ c .before .before .before .before .before .before .before .before .before .before .before .before .before .before .put-number .kept .0
 
--- src/lib.rt:45:1
 returns : tie.Need-returns
 returns c =
     let a = c .before .before .before .before .before .before .before .before .before .before .before .before .before .before .before .before .before .before .args in
@@ -51,14 +42,4 @@ returns c =
 
 pub put-record-spec : {M : Type 1} → statement M
 put-record-spec =
-    tie.close
-    (tie.spec
-    put-number-requires
-    add-put-number
-    put-number-requires-2
-    add-put-number-2
-    put-number-requires-3
-    add-put-messages
-    put-messages-requires
-    same-length
-    returns)
+    tie.close (tie.spec put-number-requires add-put-number put-number-requires-2 add-put-number-2 put-number-requires-3 add-put-messages put-messages-requires same-length returns)

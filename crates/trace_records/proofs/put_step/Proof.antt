@@ -7,36 +7,29 @@ use Rattle.trace_records.proofs.Records.{size-none, size-some, put-none
 use Rattle.trace_records.proofs.put_step.Statement.{statement}
 use Rattle.trace_records.proofs.put_step.Tie as tie
 
--- src/lib.rt:61:9
 returns : tie.Need-returns
 returns c =
     let a = c .before .before .before .args in
     let e = size-none (a .count) (c .if1 .taken) in
     (omega arith, put-none (a .moment .0) (a .step) (a .count) (a .used) (now (a .keys)) (now (a .out)) (c .if1 .taken))
 
--- src/lib.rt:63:15
 add-end : tie.Need-add-end
 add-end c = search needs
 
--- src/lib.rt:63:36
 mul-end : tie.Need-mul-end
 mul-end c = search needs
 
--- src/lib.rt:63:15
 add-end-2 : tie.Need-add-end-2
 add-end-2 c = search needs
 
--- src/lib.rt:66:13
 put-record-requires : tie.Need-put-record-requires
 put-record-requires c κs =
     let l = c .before .before .before .before .before .before .pre .0 (c .before .before .if2 .taken) in
     (l, omega arith)
 
--- src/lib.rt:56:1
 same-length : tie.Need-same-length
 same-length c = search needs
 
--- src/lib.rt:56:1
 returns-2 : tie.Need-returns-2
 returns-2 c =
     let a = c .before .before .before .before .before .before .before .before .before .args in
@@ -45,7 +38,6 @@ returns-2 c =
     let e = size-some (a .count) z in
     (omega arith, c .before .before .put-record .ensures ∙ put-fits (a .moment .0) (a .step) (a .count) (a .used) (now (a .keys)) (now (a .out)) z h (c .before .before .before .before .before .before .before .before .before .pre .0 h) (c .before .before .before .before .if3 .taken))
 
--- src/lib.rt:56:1
 returns-3 : tie.Need-returns-3
 returns-3 c =
     let a = c .before .before .before .before .before .args in
@@ -53,7 +45,6 @@ returns-3 c =
     let e = size-some (a .count) z in
     (omega arith, put-out (a .moment .0) (a .step) (a .count) (a .used) (now (a .keys)) (now (a .out)) z (c .before .if2 .taken) (c .if3 .left))
 
--- src/lib.rt:56:1
 returns-4 : tie.Need-returns-4
 returns-4 c =
     let a = c .before .before .before .before .args in
@@ -62,14 +53,4 @@ returns-4 c =
 
 pub put-step-spec : {M : Type 1} → statement M
 put-step-spec =
-    tie.close
-    (tie.spec
-    returns
-    add-end
-    mul-end
-    add-end-2
-    put-record-requires
-    same-length
-    returns-2
-    returns-3
-    returns-4)
+    tie.close (tie.spec returns add-end mul-end add-end-2 put-record-requires same-length returns-2 returns-3 returns-4)

@@ -36,13 +36,4 @@ returns-2 c =
 
 pub confluent-spec : {M : Type 1} → statement M
 confluent-spec =
-    tie.close
-    (tie.spec
-    row-in-requires
-    next-of-requires
-    decided-requires
-    returns
-    advance-of-requires
-    decided-requires-2
-    next-of-requires-2
-    returns-2)
+    tie.close (tie.spec row-in-requires next-of-requires decided-requires returns advance-of-requires decided-requires-2 next-of-requires-2 returns-2)

@@ -49,10 +49,4 @@ returns c =
 
 pub count-ways-spec : {M : Type 1} → statement M
 count-ways-spec =
-    tie.close
-    (tie.spec
-    start-ways-requires
-    coupling-count-requires
-    ways-down-requires
-    ways-up-requires
-    returns)
+    tie.close (tie.spec start-ways-requires coupling-count-requires ways-down-requires ways-up-requires returns)

@@ -49,16 +49,4 @@ returns-2 c =
 
 pub take-down-spec : {M : Type 1} → statement M
 take-down-spec =
-    tie.close
-    (tie.spec
-    add-size16
-    mul-size16
-    element-copy-out-size16
-    size16-requires
-    is-output-requires
-    returns
-    mul-size16-2
-    element-copy-out-size16-2
-    size16-requires-2
-    take-link-requires
-    returns-2)
+    tie.close (tie.spec add-size16 mul-size16 element-copy-out-size16 size16-requires is-output-requires returns mul-size16-2 element-copy-out-size16-2 size16-requires-2 take-link-requires returns-2)

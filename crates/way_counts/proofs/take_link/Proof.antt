@@ -31,13 +31,4 @@ returns c = rw (c .capped .ensures)
 
 pub take-link-spec : {M : Type 1} → statement M
 take-link-spec =
-    tie.close
-    (tie.spec
-    mul-capped
-    element-copy-out-capped
-    mul-capped-2
-    element-copy-out-capped-2
-    capped-requires
-    mul-ways
-    element-write-ways
-    returns)
+    tie.close (tie.spec mul-capped element-copy-out-capped mul-capped-2 element-copy-out-capped-2 capped-requires mul-ways element-write-ways returns)

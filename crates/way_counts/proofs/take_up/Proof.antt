@@ -49,16 +49,4 @@ returns c =
 
 pub take-up-spec : {M : Type 1} → statement M
 take-up-spec =
-    tie.close
-    (tie.spec
-    add-size16
-    mul-size16
-    element-copy-out-size16
-    size16-requires
-    is-output-requires
-    mul-size16-2
-    element-copy-out-size16-2
-    size16-requires-2
-    take-link-requires
-    returns
-    returns-2)
+    tie.close (tie.spec add-size16 mul-size16 element-copy-out-size16 size16-requires is-output-requires mul-size16-2 element-copy-out-size16-2 size16-requires-2 take-link-requires returns returns-2)
