@@ -7,4 +7,5 @@ pub mod Kin
 pub mod Holding
 pub mod Sources
 pub mod Tables
+pub mod Allowed
 pub mod Ranged

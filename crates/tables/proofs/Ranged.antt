@@ -32,6 +32,7 @@ use Rattle.coupling_tables.proofs.Begun.{zeros-at}
 use Rattle.coupling_tables.proofs.Nodes.{src-in}
 use Rattle.coupling_tables.specs.Links.{zeros, begun, linkEnd, sourceFlag, spread, spreadUp, spreadDown, byLink, byCoupling}
 use Rattle.tables.specs.Filled.{filled}
+use Rattle.tables.proofs.Allowed.{Allowed, none, small, free, linking, kin, begin, total}
 use Rattle.tables.proofs.Rows.{atomics-few}
 use Rattle.tables.proofs.Holding as H
 use Rattle.tables.proofs.Tables.{tables-hold}
@@ -39,114 +40,6 @@ use Rattle.tables.proofs.Tables.{tables-hold}
 root-parent : (cs : List Component) → componentFits cs 0 ≡ true → componentAt cs 0 .parent ≡ 0
 unfolding componentFits rootFields
 root-parent cs e = eqb-true (componentAt cs 0 .parent) 0 (and-right (eqb (componentAt cs 0 .kind) 0) _ (and-right (kindFields (componentAt cs 0)) _ e))
-
--- What may stand at place x of tables of m components.
-pub record Allowed (m x v : ℕ) : Type 0 where
-  pub numbers : x < kindsAt → v < maxComponents
-  pub kinds : kindsAt + m ≤ x → x < ordersAt → v ≡ 0
-  pub parents : parentsAt ≤ x → x < rulesFromAt → v < maxComponents
-  pub children : childAt ≤ x → x < siblingAt → (v < maxComponents) × (0 < v → x < childAt + v)
-  pub siblings : siblingAt ≤ x → x < firstAt → (v < maxComponents) × (0 < v → x < siblingAt + v)
-  pub firsts : firstAt ≤ x → x < liveAt → v ≤ maxCouplings
-  pub nexts : nextAt ≤ x → x < sourceAt → v ≤ maxCouplings
-  pub sources : sourceAt ≤ x → x < countAt → v < maxNodes
-  pub count : x ≡ countAt → v ≤ maxComponents
-
-module _ (m : ℕ) where
-  none : (x : ℕ) → Allowed m x 0
-  none x = record {
-    numbers = λ a. omega arith;
-    kinds = λ a b. refl;
-    parents = λ a b. omega arith;
-    children = λ a b. (omega arith, λ p. absurd (omega arith));
-    siblings = λ a b. (omega arith, λ p. absurd (omega arith));
-    firsts = λ a b. omega arith;
-    nexts = λ a b. omega arith;
-    sources = λ a b. omega arith;
-    count = λ e. omega arith;
-  }
-
-  -- a component or a position, by component or by position
-  small : (x v : ℕ) → x < rulesFromAt → (kindsAt ≤ x → parentsAt ≤ x) → v < maxComponents → Allowed m x v
-  small x v l h b = record {
-    numbers = λ a. b;
-    kinds = λ a c. absurd (omega (arith, h (omega arith)));
-    parents = λ a c. b;
-    children = λ a c. absurd (omega arith);
-    siblings = λ a c. absurd (omega arith);
-    firsts = λ a c. absurd (omega arith);
-    nexts = λ a c. absurd (omega arith);
-    sources = λ a c. absurd (omega arith);
-    count = λ e. absurd (omega arith);
-  }
-
-  -- a place of which nothing is asked
-  free : (x v : ℕ) → kindsAt ≤ x → (kindsAt + m ≤ x → ordersAt ≤ x) → (parentsAt ≤ x → rulesFromAt ≤ x) → (childAt ≤ x → liveAt ≤ x) → x < nextAt → Allowed m x v
-  free x v l k p c h = record {
-    numbers = λ a. absurd (omega arith);
-    kinds = λ a b. absurd (omega (arith, k a));
-    parents = λ a b. absurd (omega (arith, p a));
-    children = λ a b. absurd (omega (arith, c a));
-    siblings = λ a b. absurd (omega (arith, c (omega arith)));
-    firsts = λ a b. absurd (omega (arith, c (omega arith)));
-    nexts = λ a b. absurd (omega arith);
-    sources = λ a b. absurd (omega arith);
-    count = λ e. absurd (omega arith);
-  }
-
-  -- a link, first or next
-  linking : (x v : ℕ) → firstAt ≤ x → x < sourceAt → v ≤ maxCouplings → Allowed m x v
-  linking x v l h b = record {
-    numbers = λ a. absurd (omega arith);
-    kinds = λ a c. absurd (omega arith);
-    parents = λ a c. absurd (omega arith);
-    children = λ a c. absurd (omega arith);
-    siblings = λ a c. absurd (omega arith);
-    firsts = λ a c. b;
-    nexts = λ a c. b;
-    sources = λ a c. absurd (omega arith);
-    count = λ e. absurd (omega arith);
-  }
-
-  -- a child or a sibling, above its row
-  kin : (at c v : ℕ) → childAt ≤ at → at ≤ siblingAt → (at < siblingAt → at ≡ childAt) → c < maxComponents → v < maxComponents → (0 < v → c < v) → Allowed m (at + c) v
-  kin at c v l h e k b r = record {
-    numbers = λ a. absurd (omega arith);
-    kinds = λ a d. absurd (omega arith);
-    parents = λ a d. absurd (omega arith);
-    children = λ a d. (b, λ p. omega (arith, r p, e (omega arith)));
-    siblings = λ a d. (b, λ p. omega (arith, r p));
-    firsts = λ a d. absurd (omega arith);
-    nexts = λ a d. absurd (omega arith);
-    sources = λ a d. absurd (omega arith);
-    count = λ q. absurd (omega arith);
-  }
-
-  begin : (x v : ℕ) → sourceAt ≤ x → x < countAt → v < maxNodes → Allowed m x v
-  begin x v l h b = record {
-    numbers = λ a. absurd (omega arith);
-    kinds = λ a d. absurd (omega arith);
-    parents = λ a d. absurd (omega arith);
-    children = λ a d. absurd (omega arith);
-    siblings = λ a d. absurd (omega arith);
-    firsts = λ a d. absurd (omega arith);
-    nexts = λ a d. absurd (omega arith);
-    sources = λ a d. b;
-    count = λ q. absurd (omega arith);
-  }
-
-  total : (v : ℕ) → v ≤ maxComponents → Allowed m countAt v
-  total v b = record {
-    numbers = λ a. absurd (omega arith);
-    kinds = λ a d. absurd (omega arith);
-    parents = λ a d. absurd (omega arith);
-    children = λ a d. absurd (omega arith);
-    siblings = λ a d. absurd (omega arith);
-    firsts = λ a d. absurd (omega arith);
-    nexts = λ a d. absurd (omega arith);
-    sources = λ a d. absurd (omega arith);
-    count = λ q. b;
-  }
 
 -- ---- each way of writing
 
