@@ -80,7 +80,8 @@ pub fn advance_on(
     requires { ⌜ Lent (length (now work)) (length (now keys)) × (t .0 ≤ maxMoment) × (from .used ≤ length (now trace))
         × (from .instants + suc (t .0) ≤ latest) × (from .steps + maxSteps * suc (t .0) ≤ latest) × Fit n (now tables)
         × Carried (phasesIn (now phases)) (now tables) n (held (now phase) (now last)) (now ends) ⌝ }
-    ensures { λ r. ⌜ (endedOf (now (trace .exit)) (held (now (phase .exit)) (now (last .exit))) r ≡ advancing (simOf (now (phases .entry)) (now (rules .entry)) (now (tables .entry)) n (length (now (work .entry))))
+    ensures { λ r. ⌜ (endedOf (now (trace .exit)) (held (now (phase .exit)) (now (last .exit))) r
+        ≡ advancing (simOf (now (phases .entry)) (now (rules .entry)) (now (tables .entry)) n (length (now (work .entry))))
         (suc (t .0)) (length (now (trace .entry))) (t .0) (toBag (now (bag .entry))) (progressOf (now (trace .entry)) (held (now (phase .entry)) (now (last .entry))) from))
         × Beyond (now (trace .entry)) (now (trace .exit)) (r .going .used) ⌝ }
 {

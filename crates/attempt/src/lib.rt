@@ -97,7 +97,8 @@ pub fn attempt(
         × (at .0 < latest) × (g .instants < latest) × (g .steps + maxSteps ≤ latest) × Fit n (now tables)
         × Ready (now phases) (now tables) n (held (now phase) (now last)) (now ends) due ⌝ }
     ensures { λ r. ⌜ Attempted (at .0) g (held (now (phase .entry)) (now (last .entry))) (held (now (phase .exit)) (now (last .exit))) (now (trace .entry)) (now (trace .exit))
-        (instant (simOf (now (phases .entry)) (now (rules .entry)) (now (tables .entry)) n (length (now (work .entry)))) (at .0) (toBag (take len (now (bag .entry)))) (held (now (phase .entry)) (now (last .entry)))) r
+        (instant (simOf (now (phases .entry)) (now (rules .entry)) (now (tables .entry)) n (length (now (work .entry))))
+        (at .0) (toBag (take len (now (bag .entry)))) (held (now (phase .entry)) (now (last .entry)))) r
         × Ready (now (phases .entry)) (now (tables .entry)) n (held (now (phase .exit)) (now (last .exit))) (now (ends .exit)) (r .due) ⌝ }
 {
     let old_phase = *phase;

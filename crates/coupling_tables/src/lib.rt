@@ -167,7 +167,8 @@ pub fn fill_linked(
     targets: &[u16; LINKS],
     t: &mut [u16; TABLE_SIZE],
 )
-    requires { ⌜ (length (componentsIn (now components)) ≤ maxComponents) × (length (couplingsIn (now couplings)) ≤ maxCouplings) × Joined (componentsIn (now components)) (couplingsIn (now couplings)) (now targets) (now t) ⌝ }
+    requires { ⌜ (length (componentsIn (now components)) ≤ maxComponents) × (length (couplingsIn (now couplings)) ≤ maxCouplings)
+        × Joined (componentsIn (now components)) (couplingsIn (now couplings)) (now targets) (now t) ⌝ }
     ensures { λ _. ⌜ now (t .exit) ≡ byCoupling (componentsIn (now (components .entry))) (couplingsIn (now (couplings .entry))) (now (t .entry)) ⌝ }
 {
     let n = link_count(couplings);

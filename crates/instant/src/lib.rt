@@ -69,7 +69,8 @@ pub fn instant(
     requires { ⌜ Lent (length (now work)) (length (now keys)) × (from ≤ length (now out)) × (at .0 < latest) × Fit n (now tables)
         × Ready (now phases) (now tables) n (held (now phase) (now last)) (now ends) due ⌝ }
     ensures { λ r. ⌜ Judged (at .0) from (now (out .entry)) (now (out .exit)) (held (now (phase .exit)) (now (last .exit)))
-        (instant (simOf (now (phases .entry)) (now (rules .entry)) (now (tables .entry)) n (length (now (work .entry)))) (at .0) (toBag (take len (now (bag .entry)))) (held (now (phase .entry)) (now (last .entry)))) r
+        (instant (simOf (now (phases .entry)) (now (rules .entry)) (now (tables .entry)) n (length (now (work .entry))))
+        (at .0) (toBag (take len (now (bag .entry)))) (held (now (phase .entry)) (now (last .entry)))) r
         × (r .verdict ≡ VV.Stands → Ready (now (phases .entry)) (now (tables .entry)) n (held (now (phase .exit)) (now (last .exit))) (now (ends .exit)) (r .due)) ⌝ }
 {
     let mut next = due;

@@ -206,7 +206,8 @@ pub fn mark(
     marks: &mut [u32; MAX_COMPONENTS],
 )
     requires { ⌜ (n ≤ maxComponents) × InRange (now tables) ⌝ }
-    ensures { λ _. ⌜ now (marks .exit) ≡ raised [] (now (tables .entry)) (getD (now (tables .entry)) countAt 0 - 1) (endMarked (now (tables .entry)) (at .0) (now (phase .entry)) (now (ends .entry)) n 0 (now (marks .entry))) ⌝ }
+    ensures { λ _. ⌜ now (marks .exit) ≡ raised [] (now (tables .entry)) (getD (now (tables .entry)) countAt 0 - 1)
+        (endMarked (now (tables .entry)) (at .0) (now (phase .entry)) (now (ends .entry)) n 0 (now (marks .entry))) ⌝ }
 {
     mark_atomics(tables, n, phase, ends, at, marks);
     mark_parents(tables, marks);

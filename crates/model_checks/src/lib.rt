@@ -71,7 +71,8 @@ fn component_fits(
     phase_counts: &[u8; MAX_COMPONENTS],
     depths: &[u8; MAX_COMPONENTS],
 ) -> bool
-    requires { ⌜ (i < length (componentsIn (now components))) × Accepted (componentsIn (now components)) i × PhaseCounts (componentsIn (now components)) i (now «phase_counts») × Depths (componentsIn (now components)) i (now depths) ⌝ }
+    requires { ⌜ (i < length (componentsIn (now components))) × Accepted (componentsIn (now components)) i × PhaseCounts (componentsIn (now components)) i (now «phase_counts»)
+        × Depths (componentsIn (now components)) i (now depths) ⌝ }
     ensures { λ r. ⌜ r ≡ componentFits (componentsIn (now (components .entry))) i ⌝ }
 {
     let k = component_in(components, i);
@@ -94,7 +95,8 @@ pub fn read_component(
     phase_counts: &[u8; MAX_COMPONENTS],
     depths: &[u8; MAX_COMPONENTS],
 ) -> ComponentRead
-    requires { ⌜ (i < length (componentsIn (now components))) × Accepted (componentsIn (now components)) i × PhaseCounts (componentsIn (now components)) i (now «phase_counts») × Depths (componentsIn (now components)) i (now depths) ⌝ }
+    requires { ⌜ (i < length (componentsIn (now components))) × Accepted (componentsIn (now components)) i × PhaseCounts (componentsIn (now components)) i (now «phase_counts»)
+        × Depths (componentsIn (now components)) i (now depths) ⌝ }
     ensures { λ r. ⌜ componentRead r ≡ checked (componentFits (componentsIn (now (components .entry))) i) 4 (componentAt (componentsIn (now (components .entry))) i) ⌝ }
 {
     if component_fits(components, i, phase_counts, depths) {
@@ -112,8 +114,10 @@ pub fn keep_component(
     phase_counts: &mut [u8; MAX_COMPONENTS],
     depths: &mut [u8; MAX_COMPONENTS],
 )
-    requires { ⌜ (i < length (componentsIn (now components))) × Accepted (componentsIn (now components)) (i + 1) × Parents (componentsIn (now components)) i (now parents) × PhaseCounts (componentsIn (now components)) i (now «phase_counts») × Depths (componentsIn (now components)) i (now depths) ⌝ }
-    ensures { λ _. ⌜ Parents (componentsIn (now (components .entry))) (i + 1) (now (parents .exit)) × PhaseCounts (componentsIn (now (components .entry))) (i + 1) (now («phase_counts» .exit)) × Depths (componentsIn (now (components .entry))) (i + 1) (now (depths .exit)) ⌝ }
+    requires { ⌜ (i < length (componentsIn (now components))) × Accepted (componentsIn (now components)) (i + 1) × Parents (componentsIn (now components)) i (now parents)
+        × PhaseCounts (componentsIn (now components)) i (now «phase_counts») × Depths (componentsIn (now components)) i (now depths) ⌝ }
+    ensures { λ _. ⌜ Parents (componentsIn (now (components .entry))) (i + 1) (now (parents .exit))
+        × PhaseCounts (componentsIn (now (components .entry))) (i + 1) (now («phase_counts» .exit)) × Depths (componentsIn (now (components .entry))) (i + 1) (now (depths .exit)) ⌝ }
 {
     let k = component_in(components, i);
     parents[i] = k.parent;

@@ -56,7 +56,11 @@ fn change_one(
 )
     requires { ⌜ (i < maxComponents) × (c < maxComponents) × InRange (now tables) × (c ≡ getD (now tables) (numbersAt + i) 0)
         × (getD (now ends) i 0 ≡ dueNumber (dueAtPosition (phasesIn (now phases)) (now tables) (held (now phase) (now last)) i)) ⌝ }
-    ensures { λ _. ⌜ (held (now (phase .exit)) (now (last .exit)) ≡ changedBy (phasesIn (now (phases .entry))) (now (tables .entry)) (rulesIn (now (rules .entry))) (at .0) (held (now (phase .entry)) (now (last .entry))) i c (isUp (now (marks .entry)) c) (map messageOf (take (length (now (work .entry))) (keysInto (phasesIn (now (phases .entry))) (now (tables .entry)) (now (marks .entry)) (now (reached .entry)) (toBag (now (given .entry))) c))))
+    ensures { λ _. ⌜ (held (now (phase .exit)) (now (last .exit))
+        ≡ changedBy (phasesIn (now (phases .entry))) (now (tables .entry)) (rulesIn (now (rules .entry)))
+        (at .0) (held (now (phase .entry)) (now (last .entry))) i c (isUp (now (marks .entry)) c)
+        (map messageOf (take (length (now (work .entry)))
+        (keysInto (phasesIn (now (phases .entry))) (now (tables .entry)) (now (marks .entry)) (now (reached .entry)) (toBag (now (given .entry))) c))))
         × (now (ends .exit) ≡ set (now (ends .entry)) i (dueNumber (dueAtPosition (phasesIn (now (phases .entry))) (now (tables .entry)) (held (now (phase .exit)) (now (last .exit))) i))) ⌝ }
 {
     if is_still(marks, reached, c) {
@@ -86,7 +90,9 @@ fn change_all(
 )
     requires { ⌜ (n ≤ maxComponents) × InRange (now tables)
         × Carried (phasesIn (now phases)) (now tables) n (held (now phase) (now last)) (now ends) ⌝ }
-    ensures { λ _. ⌜ (held (now (phase .exit)) (now (last .exit)) ≡ changedFrom (phasesIn (now (phases .entry))) (now (tables .entry)) (rulesIn (now (rules .entry))) (now (marks .entry)) (now (reached .entry)) (length (now (work .entry))) (at .0) (toBag (now (given .entry))) n 0 (held (now (phase .entry)) (now (last .entry))))
+    ensures { λ _. ⌜ (held (now (phase .exit)) (now (last .exit))
+        ≡ changedFrom (phasesIn (now (phases .entry))) (now (tables .entry)) (rulesIn (now (rules .entry))) (now (marks .entry)) (now (reached .entry))
+        (length (now (work .entry))) (at .0) (toBag (now (given .entry))) n 0 (held (now (phase .entry)) (now (last .entry))))
         × Carried (phasesIn (now (phases .entry))) (now (tables .entry)) n (held (now (phase .exit)) (now (last .exit))) (now (ends .exit)) ⌝ }
 {
     dues::whole(ends);
@@ -148,7 +154,9 @@ fn step_marked(
 ) -> usize
     requires { ⌜ (n ≤ maxComponents) × InRange (now tables) × (length (now keys) ≤ length (now work))
         × Carried (phasesIn (now phases)) (now tables) n (held (now phase) (now last)) (now ends) ⌝ }
-    ensures { λ r. ⌜ (held (now (phase .exit)) (now (last .exit)) ≡ changedFrom (phasesIn (now (phases .entry))) (now (tables .entry)) (rulesIn (now (rules .entry))) (now (marks .entry)) (now (reached .entry)) (length (now (work .entry))) (at .0) (toBag (now (given .entry))) n 0 (held (now (phase .entry)) (now (last .entry))))
+    ensures { λ r. ⌜ (held (now (phase .exit)) (now (last .exit))
+        ≡ changedFrom (phasesIn (now (phases .entry))) (now (tables .entry)) (rulesIn (now (rules .entry))) (now (marks .entry)) (now (reached .entry))
+        (length (now (work .entry))) (at .0) (toBag (now (given .entry))) n 0 (held (now (phase .entry)) (now (last .entry))))
         × Carried (phasesIn (now (phases .entry))) (now (tables .entry)) n (held (now (phase .exit)) (now (last .exit))) (now (ends .exit))
         × (r ≡ min (length (now (keys .entry))) (length (rootKeys (phasesIn (now (phases .entry))) (now (tables .entry)) (now (marks .entry)) (now (reached .entry)))))
         × (map messageOf (take r (now (keys .exit))) ≡ sortBy messageLe (map messageOf (take (length (now (keys .entry))) (rootKeys (phasesIn (now (phases .entry))) (now (tables .entry)) (now (marks .entry)) (now (reached .entry)))))) ⌝ }

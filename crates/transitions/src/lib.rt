@@ -121,7 +121,9 @@ pub fn transition(
     bag: &[u32],
 ) -> u8
     requires { ⌜ (i < maxComponents) × (c < maxComponents) ⌝ }
-    ensures { λ r. ⌜ (held (now (phase .exit)) (now (last .exit)) ≡ changedBy (phasesIn (now (phases .entry))) (now (tables .entry)) (rulesIn (now (rules .entry))) (at .0) (held (now (phase .entry)) (now (last .entry))) i c due (map messageOf (now (bag .entry))))
+    ensures { λ r. ⌜ (held (now (phase .exit)) (now (last .exit))
+        ≡ changedBy (phasesIn (now (phases .entry))) (now (tables .entry)) (rulesIn (now (rules .entry)))
+        (at .0) (held (now (phase .entry)) (now (last .entry))) i c due (map messageOf (now (bag .entry))))
         × (r ≡ getD (now (phase .exit)) i 0) ⌝ }
 {
     whole(phase);
