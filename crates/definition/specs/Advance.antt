@@ -1,14 +1,14 @@
 -- Advance: the verdict on one instant, and the instants of a call in turn; over anything that takes steps. Assumes nothing.
 use Prim.Native.Nat.{ℕ, zero, suc, _+_}
-use mathlib.Core.List.{List, [], _∷_, _++_}
+use mathlib.Core.List.{[], _∷_, _++_}
 use mathlib.Core.Bool.{Bool, false, cond}
 use lib.Dec.{ltb}
 use lib.ListN.{length}
 use Rattle.definition.specs.Bytes.{Bytes, Result, ok, refused, _>>=_, refuseIf}
 use Rattle.definition.specs.Model.{Bag}
-use Rattle.definition.specs.Devs.{Time, finite, never}
+use Rattle.definition.specs.Devs.{Time, finite, never, ticks}
 use Rattle.definition.specs.Step.{Simulator}
-use Rattle.definition.specs.Instant.{Instant, done, jammed, instant, over, records}
+use Rattle.definition.specs.Instant.{Instant, done, jammed, instant, over, instantTrace}
 
 -- How far a call has come: the open moment, the state, the instants and steps done, and the trace bytes written.
 pub record Progress (S : Type 0) : Type 0 where
@@ -28,19 +28,19 @@ ended n p = record { number = n; progress = p }
 
 -- "13 something still due there after 1,024 steps; then 14 a step's root bag over 4,096 messages; then 15 records pass the end of
 -- the lent trace", which has `room` bytes: the progress with the instant at `now`, or the number that leaves it undone.
--- "A moment without a step is no instant."
+-- "A moment without a step is no instant and is not counted."
 unfoldable pub tried : {S : Type 0} → ℕ → ℕ → Progress S → Instant S → Result (Progress S)
 tried room now p jammed = refused 13
 tried room now p (done [] s) = ok p
 tried room now p (done (x ∷ xs) s) = do
   _ ← refuseIf (over (x ∷ xs)) 14
-  _ ← refuseIf (ltb room (length (p .trace ++ records now (x ∷ xs)))) 15
+  _ ← refuseIf (ltb room (length (p .trace ++ instantTrace now (x ∷ xs)))) 15
   ok (record {
     opening = suc now;
     state = s;
     instants = suc (p .instants);
     steps = p .steps + length (x ∷ xs);
-    trace = p .trace ++ records now (x ∷ xs);
+    trace = p .trace ++ instantTrace now (x ∷ xs);
   })
 
 -- "When an instant is left undone the open moment is one past the last instant done in this call, or as before if none."
@@ -56,22 +56,17 @@ unfoldable pub isBefore : Time → ℕ → Bool
 isBefore (finite a) t = ltb a t
 isBefore never t = false
 
-unfoldable pub moment : Time → ℕ
-moment (finite a) = a
-moment never = 0
-
 -- "It does every instant due before t, then t with the bag." Each instant opens a later moment, so that t + 1 turns are enough
 -- (demand 1 says so).
-module _ {S : Type 0} (k : Simulator S) where
-  unfoldable pub advancing : ℕ → ℕ → ℕ → Bag → Progress S → Ended S
-  advancing zero room t x p = ended 0 p
-  advancing (suc turns) room t x p =
+module _ {S : Type 0} (k : Simulator S) (room t : ℕ) (given : Bag) where
+  unfoldable pub advancing : (turns : ℕ) → Progress S → Ended S
+  advancing zero p = ended 0 p
+  advancing (suc turns) p =
       let u = k .next (p .state) in
-      let earlier = continued (λ q. advancing turns room t x q) p (tried room (moment u) p (instant k (moment u) [] (p .state))) in
-      let last = continued (succeeded t) p (tried room t p (instant k t x (p .state))) in
-      cond (isBefore u t) earlier last
+      let on = continued (λ q. advancing turns q) p (tried room (ticks u) p (instant k (ticks u) [] (p .state))) in
+      let last = continued (succeeded t) p (tried room t p (instant k t given (p .state))) in
+      cond (isBefore u t) on last
 
   -- The instants of a call from an open moment and a state.
-  unfoldable pub advanceFrom : ℕ → S → ℕ → ℕ → Bag → Ended S
-  advanceFrom opening s room t x =
-      advancing (suc t) room t x (record { opening = opening; state = s; instants = 0; steps = 0; trace = [] })
+  unfoldable pub advanceFrom : (opening : ℕ) → S → Ended S
+  advanceFrom opening s = advancing (suc t) (record { opening = opening; state = s; instants = 0; steps = 0; trace = [] })

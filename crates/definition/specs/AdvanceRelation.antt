@@ -9,7 +9,7 @@ use Rattle.definition.specs.Limits.{maxSteps}
 use Rattle.definition.specs.Model.{Bag}
 use Rattle.definition.specs.Devs.{finite}
 use Rattle.definition.specs.Step.{Simulator}
-use Rattle.definition.specs.Instant.{goesOn, over, records}
+use Rattle.definition.specs.Instant.{goesOn, over, instantTrace}
 use Rattle.definition.specs.Advance.{Progress, Ended, ended, succeeded, isBefore}
 
 -- The given bag belongs to the first step: what is still to be given after the steps with root bags xs.
@@ -44,9 +44,9 @@ module _ {S : Type 0} (k : Simulator S) where
       at-end : isBefore (k .next s) t ≡ false → Next s t given
 
     -- The records of the instant pass no end, and no root bag is over its limit.
-    pub record Fits (p : Progress S) (now : ℕ) (xs : List Bag) : Type 0 where
+    pub record WithinLimits (p : Progress S) (now : ℕ) (xs : List Bag) : Type 0 where
       pub bags : over xs ≡ false
-      pub trace : length (p .trace ++ records now xs) ≤ room
+      pub trace : length (p .trace ++ instantTrace now xs) ≤ room
 
     -- The instant at `now` stands.
     abbrev pub withInstant : Progress S → ℕ → List Bag → S → Progress S
@@ -55,7 +55,7 @@ module _ {S : Type 0} (k : Simulator S) where
       state = s';
       instants = suc (p .instants);
       steps = p .steps + length xs;
-      trace = p .trace ++ records now xs;
+      trace = p .trace ++ instantTrace now xs;
     }
 
     -- How the call ends from p on.
@@ -65,12 +65,12 @@ module _ {S : Type 0} (k : Simulator S) where
       oversize : (p : Progress S) (now : ℕ) (x : Bag) (xs : List Bag) (s' : S) → Next (p .state) now x → Whole now x (p .state) xs s'
           → over xs ≡ true → Ends p (ended 14 p)
       overruns : (p : Progress S) (now : ℕ) (x : Bag) (y : Bag) (ys : List Bag) (s' : S) → Next (p .state) now x → Whole now x (p .state) (y ∷ ys) s'
-          → over (y ∷ ys) ≡ false → room < length (p .trace ++ records now (y ∷ ys)) → Ends p (ended 15 p)
+          → over (y ∷ ys) ≡ false → room < length (p .trace ++ instantTrace now (y ∷ ys)) → Ends p (ended 15 p)
       -- an instant before t is done, and the call goes on
       goes-on : (p : Progress S) (u : ℕ) (xs : List Bag) (s' : S) (e : Ended S) → k .next (p .state) ≡ finite u → u < t → Whole u [] (p .state) xs s'
-          → Fits p u xs → Ends (withInstant p u xs s') e → Ends p e
+          → WithinLimits p u xs → Ends (withInstant p u xs s') e → Ends p e
       -- the instant at t is done
       succeeds : (p : Progress S) (y : Bag) (ys : List Bag) (s' : S) → isBefore (k .next (p .state)) t ≡ false → Whole t given (p .state) (y ∷ ys) s'
-          → Fits p t (y ∷ ys) → Ends p (succeeded t (withInstant p t (y ∷ ys) s'))
+          → WithinLimits p t (y ∷ ys) → Ends p (succeeded t (withInstant p t (y ∷ ys) s'))
       -- nothing happens at t: "A moment without a step is no instant and is not counted."
       idle : (p : Progress S) → isBefore (k .next (p .state)) t ≡ false → goesOn k t given (p .state) ≡ false → Ends p (succeeded t p)

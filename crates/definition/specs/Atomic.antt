@@ -1,9 +1,9 @@
 -- The atomic model of document 01, "One step": phases, rules and the two orders; and the model of every component of a nest.
 -- Assumes nothing.
-use Prim.Native.Nat.{ℕ, suc, _+_}
+use Prim.Native.Nat.{ℕ, suc}
 use mathlib.Core.List.{List, [], _∷_}
 use mathlib.Core.Option.{Option, none, some}
-use mathlib.Core.Bool.{Bool, true, _&&_, _||_, cond}
+use mathlib.Core.Bool.{Bool, _&&_, _||_, cond}
 use lib.Dec.{leb, eqb}
 use lib.ListN.{getD}
 use Rattle.definition.specs.Lists.{count}
@@ -26,12 +26,12 @@ withinElapsed k e = leb (k .lowElapsed) e && (leb e (k .highElapsed) || eqb (k .
 unfoldable pub holds : ℕ → ℕ → ℕ → Bag → Rule → Bool
 holds c p e x k = eqb (k .component) c && eqb (k .phase) p && withinElapsed k e && leb (k .least) (count (meets k) x)
 
--- "The first rule in file order whose conditions all hold decides": its position, where the rules given stand from `at` on.
+-- "the first rule in file order whose conditions all hold decides": its position, where the rules given stand from `at` on.
 unfoldable pub deciding : (Rule → Bool) → ℕ → List Rule → Option ℕ
 deciding test at [] = none
 deciding test at (k ∷ ks) = let rest = deciding test (suc at) ks in cond (test k) (some at) rest
 
--- Where the rule at a position leads; "where no rule holds the phase stays".
+-- Where the rule at a position leads; "Where no rule holds the phase stays".
 unfoldable pub ledTo : List Rule → ℕ → Option ℕ → ℕ
 ledTo ks p none = p
 ledTo ks p (some i) = getD ks i noRule .next

@@ -1,4 +1,4 @@
--- Bytes as lists of numbers; little-endian numbers over a width; rows; a value or the number of a refusal. Assumes nothing.
+-- Bytes as lists of numbers; little-endian numbers over a width; layouts; a value or the number of a refusal. Assumes nothing.
 use mathlib.Core.Path.{_≡_}
 use Prim.Native.Nat.{ℕ, zero, suc, _+_, _*_, _/_, _%_}
 use mathlib.Core.List.{List, [], _∷_, _++_}
@@ -15,27 +15,31 @@ pub data AllBytes : Bytes → Type 0 where
   more : {b : ℕ} {bs : Bytes} → ltb b 256 ≡ true → AllBytes bs → AllBytes (b ∷ bs)
 
 -- "All multi-byte numbers are little-endian": the number that the bytes spell.
-unfoldable pub le : Bytes → ℕ
-le [] = 0
-le (b ∷ bs) = b + 256 * le bs
+unfoldable pub littleEndian : Bytes → ℕ
+littleEndian [] = 0
+littleEndian (b ∷ bs) = b + 256 * littleEndian bs
 
 -- The number of the given width at a position; bytes past the end count as 0.
-unfoldable pub number : ℕ → ℕ → Bytes → ℕ
-number width at s = le (take width (drop at s))
+unfoldable pub numberAt : ℕ → ℕ → Bytes → ℕ
+numberAt width at s = littleEndian (take width (drop at s))
 
 -- The low `width` bytes of n.
 unfoldable pub bytesOf : ℕ → ℕ → Bytes
 bytesOf zero n = []
 bytesOf (suc width) n = n % 256 ∷ bytesOf width (n / 256)
 
+-- A record's layout: its fields in file order, each with its width in bytes.
+abbrev pub Layout : Type 0
+Layout = List (ℕ × ℕ)
+
+unfoldable pub laidOut : Layout → Bytes
+laidOut [] = []
+laidOut (f ∷ fs) = bytesOf (f .0) (f .1) ++ laidOut fs
+
 -- n rows of `size` bytes each.
 unfoldable pub chunks : ℕ → ℕ → Bytes → List Bytes
 chunks zero size s = []
 chunks (suc n) size s = take size s ∷ chunks n size (drop size s)
-
--- Row k of them.
-unfoldable pub row : ℕ → ℕ → Bytes → Bytes
-row size k s = take size (drop (size * k) s)
 
 -- The buffer with new bytes at its front; the bytes beyond them stay.
 unfoldable pub stored : Bytes → Bytes → Bytes

@@ -1,31 +1,35 @@
--- The three demands as statements about the definitions; crate `theory` proves them. Each part has the sentence that it states.
--- Elements of a list that stands for bytes are below 256 (`AllBytes`), and nothing else is assumed of a buffer.
--- Assumes nothing.
+-- The three demands as statements about the definitions, and what the C header promises besides; crate `theory` proves them. Each part
+-- has the sentence that it states. Elements of a list that stands for bytes are below 256 (`AllBytes`), and nothing else is assumed of a
+-- buffer. Assumes nothing.
 use mathlib.Core.Path.{_≡_}
 use mathlib.Core.Logic.{_⊎_}
 use Prim.Native.Nat.{ℕ, _+_, _≤_, _<_}
-use mathlib.Core.List.{List, []}
+use mathlib.Core.List.{List, _++_}
 use mathlib.Core.Bool.{true, false}
 use lib.ListN.{length, take}
 use Rattle.definition.specs.Lists.{Same}
-use Rattle.definition.specs.Bytes.{Bytes, AllBytes, Result, ok, refused, stored}
-use Rattle.definition.specs.Limits.{maxMoment}
-use Rattle.definition.specs.Model.{Bag, Model, Tree, Forest, leaf, node, stop, more, tree}
+use Rattle.definition.specs.Bytes.{Bytes, AllBytes, ok, stored}
+use Rattle.definition.specs.Limits.{maxMoment, longestModel, longestRun}
+use Rattle.definition.specs.Model.{Bag, Model, Tree}
 use Rattle.definition.specs.File.{modelBytes}
-use Rattle.definition.specs.Routes.{accepted, checkModel}
-use Rattle.definition.specs.Devs.{Devs, Totals, Since, devsDue, devsStep}
-use Rattle.definition.specs.Atomic.{devsOf, partsOf}
-use Rattle.definition.specs.SavedRun.{Entry, runLength, atomicCount, runOf, runBytes, entryOf, nextDue, fits}
-use Rattle.definition.specs.Step.{Simulator, nested, load}
-use Rattle.definition.specs.Advance.{Progress, Ended, advanceFrom}
+use Rattle.definition.specs.Pinned.Decoder.{accepted, checkModel}
+use Rattle.definition.specs.Sound.{Sound}
+use Rattle.definition.specs.Refusals.{Judged}
+use Rattle.definition.specs.Devs.{Since}
+use Rattle.definition.specs.Atomic.{external, devsOf}
+use Rattle.definition.specs.SavedRun.{Entry, runLength, atomicCount, runOf, runBytes, nextDue, runFits}
+use Rattle.definition.specs.Clauses.{RunFits, BagFits, Decides}
+use Rattle.definition.specs.Step.{nested}
+use Rattle.definition.specs.Advance.{Ended}
 use Rattle.definition.specs.AdvanceRelation.{Ends}
 use Rattle.definition.specs.Engine.{Wrote, Advanced, WasRead, startRun, start, toBag, bagFits, advanced, advance, readAt, reading}
 use Rattle.definition.specs.Flatten.{flat, flatten}
 use Rattle.definition.specs.Calls.{Call, runCalls, engine, flatMachine}
+use Rattle.definition.specs.Carrying.{carried, rootOf, StandsFor, BetweenCalls, atStart, begins, Saved, Through}
 
 -- ---- Demand 1
 
--- "refused by its listed number, and that call changes no lent byte": zeros in every other number.
+-- "zeros in every other number of the outcome and no byte written"
 abbrev pub refusedWrite : ℕ → Bytes → Wrote
 refusedWrite n buffer = record { number = n; written = 0; buffer = buffer }
 
@@ -41,112 +45,142 @@ openingOf m run = runOf m run .opening
 
 -- The arguments of an advance that no row of the table before "each instant" refuses.
 pub record MayAdvance (m : Model) (run : Bytes) (t : ℕ) (bag : Bytes) : Type 0 where
-  pub run-fits : fits m run ≡ true
+  pub run-fits : runFits m run ≡ true
   pub not-early : openingOf m run ≤ t
   pub not-late : t ≤ maxMoment
   pub bag-fits : bagFits bag ≡ true
 
--- How far an advance has come before its first instant.
-abbrev pub atFirst : Model → Bytes → Progress (List Entry)
-atFirst m run = record { opening = openingOf m run; state = runOf m run .entries; instants = 0; steps = 0; trace = [] }
+-- The rows of the table for each call, the rows before having passed; those of a model are in `Judged`.
+
+-- "start, flatten, any later writer": what it writes for a model has `long` bytes.
+pub data WriterRefusal (long : Model → ℕ) (file buffer : Bytes) : ℕ → Type 0 where
+  writer-refuses-model : (n : ℕ) → 0 < n → Judged file n → WriterRefusal long file buffer n
+  -- "15 lent buffer too short"
+  writer-refuses-buffer : (m : Model) → accepted file ≡ ok m → length buffer < long m → WriterRefusal long file buffer 15
+
+abbrev pub StartRefusal : Bytes → Bytes → ℕ → Type 0
+StartRefusal = WriterRefusal (λ m. runLength (atomicCount m))
+
+abbrev pub FlattenRefusal : Bytes → Bytes → ℕ → Type 0
+FlattenRefusal = WriterRefusal (λ m. length (modelBytes (flat m)))
+
+pub data ReadingRefusal (file run : Bytes) (position : ℕ) : ℕ → Type 0 where
+  reading-refuses-model : (n : ℕ) → 0 < n → Judged file n → ReadingRefusal file run position n
+  -- "10 too short or does not fit"
+  reading-refuses-run : (m : Model) → accepted file ≡ ok m → runFits m run ≡ false → ReadingRefusal file run position 10
+  -- "16 position at or above the number of atomics"
+  reading-refuses-position : (m : Model) → accepted file ≡ ok m → runFits m run ≡ true → atomicCount m ≤ position → ReadingRefusal file run position 16
+
+-- Before any instant.
+pub data AdvanceRefusal (file run : Bytes) (t : ℕ) (bag : Bytes) : ℕ → Type 0 where
+  advance-refuses-model : (n : ℕ) → 0 < n → Judged file n → AdvanceRefusal file run t bag n
+  advance-refuses-run : (m : Model) → accepted file ≡ ok m → runFits m run ≡ false → AdvanceRefusal file run t bag 10
+  -- "11 before the open moment, or above 1,000,000,000,000"
+  advance-refuses-time : (m : Model) → accepted file ≡ ok m → runFits m run ≡ true → (t < openingOf m run) ⊎ (maxMoment < t) → AdvanceRefusal file run t bag 11
+  -- "12 length not a multiple of 3, over 16 messages, or a port above 3"
+  advance-refuses-bag : (m : Model) → accepted file ≡ ok m → runFits m run ≡ true → openingOf m run ≤ t → t ≤ maxMoment → bagFits bag ≡ false
+      → AdvanceRefusal file run t bag 12
+
+-- The number of any advance: that of a row, or the one with which its instants end: 0, 13, 14 or 15, each by its case of `Ends`.
+pub data AdvanceNumber (file run : Bytes) (t : ℕ) (bag trace : Bytes) : ℕ → Type 0 where
+  by-row : (n : ℕ) → AdvanceRefusal file run t bag n → AdvanceNumber file run t bag trace n
+  by-instants : (m : Model) (e : Ended (List Entry)) → accepted file ≡ ok m → MayAdvance m run t bag
+      → Ends (nested m) (length trace) t (toBag bag) (begins (openingOf m run) (runOf m run .entries)) e → AdvanceNumber file run t bag trace (e .number)
 
 pub record Demand1 : Type 0 where
-  -- "A model .. outside the layouts .. is refused by its listed number, and that call changes no lent byte": the same number from
-  -- every call, and it is never 0.
-  pub model-number : (file : Bytes) (n : ℕ) → accepted file ≡ refused n → (checkModel file ≡ n) × (0 < n)
-  pub start-model : (file buffer : Bytes) (n : ℕ) → accepted file ≡ refused n → start file buffer ≡ refusedWrite n buffer
-  pub flatten-model : (file buffer : Bytes) (n : ℕ) → accepted file ≡ refused n → flatten file buffer ≡ refusedWrite n buffer
-  pub reading-model : (file run : Bytes) (position n : ℕ) → accepted file ≡ refused n → reading file run position ≡ refusedReading n
-  pub advance-model : (file run : Bytes) (t : ℕ) (bag trace : Bytes) (n : ℕ) → accepted file ≡ refused n
+  -- A model outside the layouts is refused by its listed number: the number of a file is that of the table, and no other.
+  pub model-judged : (file : Bytes) → AllBytes file → Judged file (checkModel file)
+  pub model-only : (file : Bytes) (n : ℕ) → AllBytes file → Judged file n → checkModel file ≡ n
+  pub model-numbers : (file : Bytes) (n : ℕ) → Judged file n → n ≤ 9
+  -- Everything else is accepted: each model within the layouts by its bytes, and nothing else; so a model has one file.
+  pub sound-accepted : (m : Model) → Sound m → accepted (modelBytes m) ≡ ok m
+  pub accepted-sound : (file : Bytes) (m : Model) → AllBytes file → accepted file ≡ ok m → Sound m × (file ≡ modelBytes m)
+  -- The engine's tests of a run and of a bag are document 01's lines on them.
+  pub fits-run : (m : Model) (run : Bytes) → runFits m run ≡ true → RunFits m run
+  pub run-fits : (m : Model) (run : Bytes) → RunFits m run → runFits m run ≡ true
+  pub fits-bag : (bag : Bytes) → AllBytes bag → bagFits bag ≡ true → BagFits bag (toBag bag)
+  pub bag-fits : (bag : Bytes) (x : Bag) → BagFits bag x → (bagFits bag ≡ true) × (toBag bag ≡ x)
+  -- A call is refused by its listed number and changes no lent byte; each number is given "on its condition and never otherwise".
+  pub start-refused : (file buffer : Bytes) (n : ℕ) → AllBytes file → StartRefusal file buffer n → start file buffer ≡ refusedWrite n buffer
+  pub start-number : (file buffer : Bytes) → AllBytes file → 0 < start file buffer .number → StartRefusal file buffer (start file buffer .number)
+  pub flatten-refused : (file buffer : Bytes) (n : ℕ) → AllBytes file → FlattenRefusal file buffer n → flatten file buffer ≡ refusedWrite n buffer
+  pub flatten-number : (file buffer : Bytes) → AllBytes file → 0 < flatten file buffer .number → FlattenRefusal file buffer (flatten file buffer .number)
+  pub reading-refused : (file run : Bytes) (position n : ℕ) → AllBytes file → ReadingRefusal file run position n
+      → reading file run position ≡ refusedReading n
+  pub reading-number : (file run : Bytes) (position : ℕ) → AllBytes file → 0 < reading file run position .number
+      → ReadingRefusal file run position (reading file run position .number)
+  pub advance-refused : (file run : Bytes) (t : ℕ) (bag trace : Bytes) (n : ℕ) → AllBytes file → AdvanceRefusal file run t bag n
       → advance file run t bag trace ≡ refusedAdvance n run trace
-  -- "a buffer too short for a start or a flat model"
-  pub start-short : (file buffer : Bytes) (m : Model) → accepted file ≡ ok m → length buffer < runLength (atomicCount m)
-      → start file buffer ≡ refusedWrite 15 buffer
-  pub flatten-short : (file buffer : Bytes) (m : Model) → accepted file ≡ ok m → length buffer < length (modelBytes (flat m))
-      → flatten file buffer ≡ refusedWrite 15 buffer
-  -- "saved run, time, bag or reading position outside the layouts"
-  pub advance-run : (file run : Bytes) (t : ℕ) (bag trace : Bytes) (m : Model) → accepted file ≡ ok m → fits m run ≡ false
-      → advance file run t bag trace ≡ refusedAdvance 10 run trace
-  pub advance-time : (file run : Bytes) (t : ℕ) (bag trace : Bytes) (m : Model) → accepted file ≡ ok m → fits m run ≡ true
-      → (t < openingOf m run) ⊎ (maxMoment < t) → advance file run t bag trace ≡ refusedAdvance 11 run trace
-  pub advance-bag : (file run : Bytes) (t : ℕ) (bag trace : Bytes) (m : Model) → accepted file ≡ ok m → fits m run ≡ true
-      → openingOf m run ≤ t → t ≤ maxMoment → bagFits bag ≡ false → advance file run t bag trace ≡ refusedAdvance 12 run trace
-  pub reading-run : (file run : Bytes) (position : ℕ) (m : Model) → accepted file ≡ ok m → fits m run ≡ false
-      → reading file run position ≡ refusedReading 10
-  pub reading-position : (file run : Bytes) (position : ℕ) (m : Model) → accepted file ≡ ok m → fits m run ≡ true
-      → atomicCount m ≤ position → reading file run position ≡ refusedReading 16
-  -- "Everything else is accepted."
+  pub advance-number : (file run : Bytes) (t : ℕ) (bag trace : Bytes) → AllBytes file
+      → AdvanceNumber file run t bag trace (advance file run t bag trace .number)
+  -- Everything else is accepted.
   pub start-done : (file buffer : Bytes) (m : Model) → accepted file ≡ ok m → runLength (atomicCount m) ≤ length buffer
       → start file buffer ≡ record { number = 0; written = runLength (atomicCount m); buffer = stored (runBytes (startRun m)) buffer }
   pub flatten-done : (file buffer : Bytes) (m : Model) → accepted file ≡ ok m → length (modelBytes (flat m)) ≤ length buffer
       → flatten file buffer ≡ record { number = 0; written = length (modelBytes (flat m)); buffer = stored (modelBytes (flat m)) buffer }
-  pub reading-done : (file run : Bytes) (position : ℕ) (m : Model) → accepted file ≡ ok m → fits m run ≡ true → position < atomicCount m
+  pub reading-done : (file run : Bytes) (position : ℕ) (m : Model) → accepted file ≡ ok m → runFits m run ≡ true → position < atomicCount m
       → reading file run position ≡ readAt (runOf m run .entries) position (nextDue m (runOf m run .entries))
-  -- "An instant that needs over 1,024 steps, or whose records overrun the lent trace, is left undone whole; the instants before it
-  -- stand": an advance that is not refused ends as `Ends` tells, and in no other way.
+  -- An instant that needs over 1,024 steps, or whose records overrun the lent trace, is left undone whole, and the instants before it
+  -- stand: an advance that is not refused ends as `Ends` tells, and in no other way.
   pub advance-ends : (file run : Bytes) (t : ℕ) (bag trace : Bytes) (m : Model) → AllBytes file → accepted file ≡ ok m → MayAdvance m run t bag
-      → (e : Ended (List Entry)) × Ends (nested m) (length trace) t (toBag bag) (atFirst m run) e × (advance file run t bag trace ≡ advanced run trace (ok e))
+      → (e : Ended (List Entry)) × Ends (nested m) (length trace) t (toBag bag) (begins (openingOf m run) (runOf m run .entries)) e
+      × (advance file run t bag trace ≡ advanced run trace (ok e))
   pub advance-only : (file run : Bytes) (t : ℕ) (bag trace : Bytes) (m : Model) → AllBytes file → accepted file ≡ ok m → MayAdvance m run t bag
-      → (e : Ended (List Entry)) → Ends (nested m) (length trace) t (toBag bag) (atFirst m run) e → advance file run t bag trace ≡ advanced run trace (ok e)
+      → (e : Ended (List Entry)) → Ends (nested m) (length trace) t (toBag bag) (begins (openingOf m run) (runOf m run .entries)) e
+      → advance file run t bag trace ≡ advanced run trace (ok e)
   -- Where no instant stands and the call did not succeed, no lent byte has changed.
   pub nothing-done : (file run : Bytes) (t : ℕ) (bag trace : Bytes) (m : Model) → AllBytes file → AllBytes run → accepted file ≡ ok m
       → 0 < advance file run t bag trace .number → advance file run t bag trace .instants ≡ 0
       → (advance file run t bag trace .run ≡ run) × (advance file run t bag trace .trace ≡ trace)
   -- A start and an advance, whatever its number, leave a run that fits.
   pub start-fits : (file buffer : Bytes) (m : Model) → AllBytes file → accepted file ≡ ok m → runLength (atomicCount m) ≤ length buffer
-      → fits m (start file buffer .buffer) ≡ true
-  pub advance-fits : (file run : Bytes) (t : ℕ) (bag trace : Bytes) (m : Model) → AllBytes file → accepted file ≡ ok m → fits m run ≡ true
-      → fits m (advance file run t bag trace .run) ≡ true
+      → runFits m (start file buffer .buffer) ≡ true
+  pub advance-fits : (file run : Bytes) (t : ℕ) (bag trace : Bytes) (m : Model) → AllBytes file → accepted file ≡ ok m → runFits m run ≡ true
+      → runFits m (advance file run t bag trace .run) ≡ true
 
 -- ---- Demand 2
 
--- A model carried from event to event by document 001's own bookkeeping: its state, and the moment of its last event.
-abbrev pub carried : (d : Devs) → Simulator (Since d)
-carried d = record { next = devsDue d; step = λ now x q. let r = devsStep d now x q in record { out = r .0; state = r .1 } }
-
--- A state stands for entries at a moment: each atomic is in its phase, and its last moment plus the elapsed times on the way to it
--- is that moment. How they are split over the levels is left open; e is what the levels above have.
-module _ (m : Model) (at : ℕ → Entry) (now : ℕ) where
-  abbrev mutual
-    pub Stands : ℕ → (t : Tree) → devsOf m t .State → Type 0
-    Stands e (leaf c) s = (s ≡ at c .phase) × (at c .last + e ≡ now)
-    Stands e (node c f) s = StandsAll e f s
-
-    pub StandsAll : ℕ → (f : Forest) → Totals (partsOf m f) → Type 0
-    StandsAll e stop s = Unit {0}
-    StandsAll e (more t f) s = Stands (e + s .0 .1) t (s .0 .0) × StandsAll e f (s .1)
-
--- The root's resultant.
-abbrev pub rootOf : Model → Devs
-rootOf m = devsOf m (tree m)
-
--- It stands for the entries, as they were after its last event, which was not after the open moment.
-pub record StandsFor (m : Model) (opening : ℕ) (q : Since (rootOf m)) (rs : List Entry) : Type 0 where
-  pub stands : Stands m (entryOf m rs) (q .event) 0 (tree m) (q .state)
-  pub in-time : q .event ≤ opening
-
--- Two calls end alike: the carried resultant, and the saved entries that it stands for.
-pub record EndAlike (m : Model) (a : Ended (Since (rootOf m))) (b : Ended (List Entry)) : Type 0 where
-  pub number : a .number ≡ b .number
-  pub opening : a .progress .opening ≡ b .progress .opening
-  pub instants : a .progress .instants ≡ b .progress .instants
-  pub steps : a .progress .steps ≡ b .progress .steps
-  pub trace : a .progress .trace ≡ b .progress .trace
-  pub state : StandsFor m (b .progress .opening) (a .progress .state) (b .progress .state)
+-- The answer and both buffers of an advance are those of the carried resultant, where its instants end at e.
+pub record Shows (m : Model) (run trace : Bytes) (e : Ended (Since (rootOf m))) (a : Advanced) : Type 0 where
+  pub number : a .number ≡ e .number
+  pub instants : a .instants ≡ e .progress .instants
+  pub steps : a .steps ≡ e .progress .steps
+  pub used : a .used ≡ length (e .progress .trace)
+  pub whole-trace : a .trace ≡ stored (e .progress .trace) trace
+  pub opening : openingOf m (a .run) ≡ e .progress .opening
+  pub entries : StandsFor m (e .progress .opening) (e .progress .state) (runOf m (a .run) .entries)
+  pub whole-run : a .run ≡ stored (runBytes (runOf m (a .run))) run
 
 pub record Demand2 : Type 0 where
-  -- "Trace, step count and saved run are those of the Parallel DEVS definition": an advance is the root's resultant carried through all
-  -- instants of the call by its own elapsed times, from any state that stands for the saved run; so it is from call to call.
+  -- Trace, step count and saved run are those of the Parallel DEVS definition: from any state that stands for the saved run, the
+  -- root's resultant carried by its own elapsed times ends the call, and wherever it ends, that is what the advance shows.
+  pub carried-ends : (file run : Bytes) (t : ℕ) (bag trace : Bytes) (m : Model) → AllBytes file → accepted file ≡ ok m → MayAdvance m run t bag
+      → (q : Since (rootOf m)) → StandsFor m (openingOf m run) q (runOf m run .entries)
+      → (e : Ended (Since (rootOf m))) × Ends (carried (rootOf m)) (length trace) t (toBag bag) (begins (openingOf m run) q) e
   pub as-defined : (file run : Bytes) (t : ℕ) (bag trace : Bytes) (m : Model) → AllBytes file → accepted file ≡ ok m → MayAdvance m run t bag
       → (q : Since (rootOf m)) → StandsFor m (openingOf m run) q (runOf m run .entries)
-      → (b : Ended (List Entry)) × (advance file run t bag trace ≡ advanced run trace (ok b))
-      × EndAlike m (advanceFrom (carried (rootOf m)) (openingOf m run) q (length trace) t (toBag bag)) b
-  -- There is such a state: after a start all elapsed times are 0, and every run that fits has one.
-  pub at-start : (file : Bytes) (m : Model) → AllBytes file → accepted file ≡ ok m
-      → StandsFor m 0 (record { state = load m (entryOf m (startRun m .entries)) 0 (tree m); event = 0 }) (startRun m .entries)
-  pub at-any : (file run : Bytes) (m : Model) → AllBytes file → accepted file ≡ ok m → fits m run ≡ true
-      → StandsFor m (openingOf m run) (record { state = load m (entryOf m (runOf m run .entries)) (openingOf m run) (tree m); event = openingOf m run }) (runOf m run .entries)
-  -- "The order of messages in a bag changes nothing": of a given bag, and of a bag that reaches any component of a nest.
+      → (e : Ended (Since (rootOf m))) → Ends (carried (rootOf m)) (length trace) t (toBag bag) (begins (openingOf m run) q) e
+      → Shows m run trace e (advance file run t bag trace)
+  -- There is such a state: a start saves the initial phases, for which the resultant with all elapsed times 0 stands, and every run
+  -- that fits has one.
+  pub start-saves : (file buffer : Bytes) (m : Model) → AllBytes file → accepted file ≡ ok m → start file buffer .number ≡ 0
+      → runOf m (start file buffer .buffer) ≡ startRun m
+  pub at-start : (file : Bytes) (m : Model) → AllBytes file → accepted file ≡ ok m → StandsFor m 0 (atStart m .since) (startRun m .entries)
+  pub at-any : (file run : Bytes) (m : Model) → AllBytes file → AllBytes run → accepted file ≡ ok m → runFits m run ≡ true
+      → (q : BetweenCalls m) × Saved m q run
+  -- It stands for one list of entries.
+  pub stands-for-one : (file : Bytes) (m : Model) → AllBytes file → accepted file ≡ ok m → (opening : ℕ) (q : Since (rootOf m)) (rs qs : List Entry)
+      → StandsFor m opening q rs → StandsFor m opening q qs → rs ≡ qs
+  -- From call to call: through every list of calls, from any saved run, and from any successful start on, the resultant stands for the
+  -- saved run after each call and gives its answer and its trace.
+  pub through-calls : (file run : Bytes) (m : Model) → AllBytes file → accepted file ≡ ok m → (q : BetweenCalls m) → Saved m q run
+      → (calls : List Call) → Through m (engine file) q run calls
+  pub from-start : (file run : Bytes) (m : Model) → AllBytes file → accepted file ≡ ok m → (before calls : List Call)
+      → start file (runCalls (engine file) run before .1) .number ≡ 0
+      → Through m (engine file) (atStart m) (start file (runCalls (engine file) run before .1) .buffer) calls
+  -- The atomic's external transition is by the first rule whose conditions all hold.
+  pub external-decides : (m : Model) (c p e : ℕ) (x : Bag) → Decides (m .rules) c p e x (external m c p e x)
+  -- The order of messages in a bag changes nothing: of a given bag, and of a bag that reaches any component of a nest.
   pub given-order : (file run : Bytes) (t : ℕ) (b c trace : Bytes) → AllBytes file → length b ≡ length c → Same (toBag b) (toBag c)
       → advance file run t b trace ≡ advance file run t c trace
   pub external-order : (m : Model) (t : Tree) (s : devsOf m t .State) (e : ℕ) (x y : Bag) → Same x y → devsOf m t .ext s e x ≡ devsOf m t .ext s e y
@@ -158,16 +192,51 @@ pub record Demand2 : Type 0 where
 unfoldable pub flatForm : Bytes → Bytes → Bytes
 flatForm file buffer = let w = flatten file buffer in take (w .written) (w .buffer)
 
--- "For every list of start, advance and reading calls, refused ones included, whatever the times, bags, positions, lent traces and first
--- bytes of the run buffer: an accepted model and its flat form give the same answers and refusals in the same order, the same bytes in each
--- lent trace and in the whole run buffer; these are .. those of the flat machine. The flat form is itself accepted and flattens to itself."
+-- "a single claim about the whole list of calls": for every list of start, advance and reading calls, refused ones included, whatever the
+-- times, bags, positions, lent traces and first bytes of the run buffer, an accepted model and its flat form give the same answers and
+-- refusals in the same order, the same bytes in each lent trace and in the whole run buffer, and these are those that demands 1 and 2
+-- name and those of the flat machine. The flat form is itself accepted and flattens to itself.
 pub record Alike (file flatFile : Bytes) : Type 0 where
   pub accepts : checkModel flatFile ≡ 0
   pub itself : (buffer : Bytes) → flatten flatFile buffer .number ≡ 0 → flatForm flatFile buffer ≡ flatFile
   pub calls-alike : (run : Bytes) (calls : List Call) → AllBytes run
       → (runCalls (engine file) run calls ≡ runCalls (engine flatFile) run calls)
       × (runCalls (engine flatFile) run calls ≡ runCalls (flatMachine flatFile) run calls)
+  -- and what they give is what the resultant of the nested model gives, through the whole list
+  pub calls-defined : (m : Model) → accepted file ≡ ok m → (q : BetweenCalls m) (run : Bytes) → AllBytes run → Saved m q run → (calls : List Call)
+      → Through m (engine flatFile) q run calls × Through m (flatMachine flatFile) q run calls
 
 -- Flattening answers 0 exactly where the model is accepted and the buffer is long enough (demand 1).
 unfoldable pub Demand3 : Type 0
 Demand3 = (file buffer : Bytes) → AllBytes file → flatten file buffer .number ≡ 0 → Alike file (flatForm file buffer)
+
+-- ---- what the C header says besides
+
+-- The answer of a call that goes on after another: both together are what one call answers whose trace is the first call's records and
+-- then the second's trace.
+pub record Together (a b one : Advanced) : Type 0 where
+  pub number : one .number ≡ b .number
+  pub instants : one .instants ≡ a .instants + b .instants
+  pub steps : one .steps ≡ a .steps + b .steps
+  pub used : one .used ≡ a .used + b .used
+  pub run : one .run ≡ b .run
+  pub trace : one .trace ≡ take (a .used) (a .trace) ++ b .trace
+
+pub record Header : Type 0 where
+  -- PDEVS_MAX_MODEL and PDEVS_MAX_RUN suffice for every model, flat ones too.
+  pub model-length : (file : Bytes) (m : Model) → AllBytes file → accepted file ≡ ok m
+      → (length file ≤ longestModel) × (length (modelBytes (flat m)) ≤ longestModel)
+  pub run-length : (file : Bytes) (m : Model) → AllBytes file → accepted file ≡ ok m → runLength (atomicCount m) ≤ longestRun
+  -- After 15 the same call, with the trace anew, goes on where this one stopped.
+  pub resumes : (file run : Bytes) (t : ℕ) (bag trace anew : Bytes) (m : Model) → AllBytes file → accepted file ≡ ok m
+      → advance file run t bag trace .number ≡ 15
+      → Together (advance file run t bag trace) (advance file (advance file run t bag trace .run) t bag anew)
+      (advance file run t bag (take (advance file run t bag trace .used) (advance file run t bag trace .trace) ++ anew))
+  -- Where it did no instant, the next one needs a longer trace.
+  pub needs-longer : (file run : Bytes) (t : ℕ) (bag trace anew : Bytes) (m : Model) → AllBytes file → AllBytes run → accepted file ≡ ok m
+      → advance file run t bag trace .number ≡ 15 → advance file run t bag trace .instants ≡ 0 → length anew ≤ length trace
+      → advance file run t bag anew ≡ refusedAdvance 15 run anew
+  -- After 13 and 14 the same call is refused so again, whatever its trace.
+  pub refused-again : (file run : Bytes) (t : ℕ) (bag trace anew : Bytes) (n : ℕ) (m : Model) → AllBytes file → accepted file ≡ ok m
+      → (n ≡ 13) ⊎ (n ≡ 14) → advance file run t bag trace .number ≡ n
+      → advance file (advance file run t bag trace .run) t bag anew ≡ refusedAdvance n (advance file run t bag trace .run) anew

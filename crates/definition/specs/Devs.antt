@@ -1,11 +1,10 @@
 -- Parallel DEVS as source document 001 has it: a model, the resultant of a coupled model, and a transition at a moment.
 -- Assumes nothing.
 use Prim.Native.Nat.{ℕ, _+_, _-_, min}
-use mathlib.Core.List.{List, [], _∷_, _++_, map}
-use mathlib.Core.Bool.{Bool, true, false, cond}
+use mathlib.Core.List.{List, [], _∷_, _++_}
+use mathlib.Core.Bool.{Bool, true, false, _&&_, cond}
 use lib.Dec.{eqb}
 use Rattle.definition.specs.Model.{Message, Bag, Coupling}
-use Rattle.definition.specs.Routes.{portsTo}
 
 -- ---- times
 
@@ -21,9 +20,9 @@ earlier never (finite b) = finite b
 earlier never never = never
 
 -- What is left of a time advance after some elapsed time.
-unfoldable pub left : Time → ℕ → Time
-left (finite a) e = finite (a - e)
-left never e = never
+unfoldable pub remaining : Time → ℕ → Time
+remaining (finite a) e = finite (a - e)
+remaining never e = never
 
 -- So much later.
 unfoldable pub later : ℕ → Time → Time
@@ -63,21 +62,24 @@ Totals [] = Unit {0}
 Totals (d ∷ ds) = (d .model .State × ℕ) × Totals ds
 
 -- Z_{i,d}: "Couplings translate the port and keep the value"; a message goes along every coupling from its port.
-unfoldable pub through : List Coupling → ℕ → ℕ → Message → Bag
-through ks i d x = map (λ q. record { port = q; value = x .value }) (portsTo ks i d (x .port))
+unfoldable pub translateOne : List Coupling → ℕ → ℕ → Message → Bag
+translateOne [] i d x = []
+translateOne (k ∷ ks) i d x =
+    let rest = translateOne ks i d x in
+    cond (eqb (k .source) i && eqb (k .target) d && eqb (k .sourcePort) (x .port)) (record { port = k .targetPort; value = x .value } ∷ rest) rest
 
 unfoldable pub translate : List Coupling → ℕ → ℕ → Bag → Bag
 translate ks i d [] = []
-translate ks i d (x ∷ xs) = through ks i d x ++ translate ks i d xs
+translate ks i d (x ∷ xs) = translateOne ks i d x ++ translate ks i d xs
 
 -- σ_d = ta(s_d) - e_d
 unfoldable pub sigma : (d : Devs) → d .State × ℕ → Time
-sigma d s = left (d .ta (s .0)) (s .1)
+sigma d s = remaining (d .ta (s .0)) (s .1)
 
 -- ta(s) = minimum { σ_d | d ∈ D }
-unfoldable pub least : (ds : List Part) → Totals ds → Time
-least [] s = never
-least (d ∷ ds) s = earlier (sigma (d .model) (s .0)) (least ds (s .1))
+unfoldable pub leastSigma : (ds : List Part) → Totals ds → Time
+leastSigma [] s = never
+leastSigma (d ∷ ds) s = earlier (sigma (d .model) (s .0)) (leastSigma ds (s .1))
 
 -- { Z_{d,to}(λ_d(s_d)) | d ∈ IMM(s) }, where IMM(s) = { d | σ_d = t } and t = ta(s)
 unfoldable pub outputsTo : List Coupling → ℕ → Time → (ds : List Part) → Totals ds → Bag
@@ -101,12 +103,12 @@ changedAll imminent input e (d ∷ ds) s =
 -- The resultant of the coupled model n with components ds.
 module _ (ks : List Coupling) (n : ℕ) (ds : List Part) where
   unfoldable pub resultantOut : Totals ds → Bag
-  resultantOut s = outputsTo ks n (least ds s) ds s
+  resultantOut s = outputsTo ks n (leastSigma ds s) ds s
 
   -- x_d = { Z_{i,d}(λ_i(s_i)) | i ∈ IMM(s) }
   unfoldable pub resultantInt : Totals ds → Totals ds
   resultantInt s =
-      let t = least ds s in
+      let t = leastSigma ds s in
       changedAll (λ u. sameTime u t) (λ d. outputsTo ks d t ds s) (ticks t) ds s
 
   -- x_d = { Z_{N,d}(x) | x ∈ x^b }
@@ -116,11 +118,11 @@ module _ (ks : List Coupling) (n : ℕ) (ds : List Part) where
   -- x_d = { Z_{i,d}(λ_i(s_i)) | i ∈ IMM(s) } ∪ { Z_{N,d}(x) | x ∈ x^b }
   unfoldable pub resultantCon : Totals ds → Bag → Totals ds
   resultantCon s x =
-      let t = least ds s in
+      let t = leastSigma ds s in
       changedAll (λ u. sameTime u t) (λ d. outputsTo ks d t ds s ++ translate ks n d x) (ticks t) ds s
 
   abbrev pub resultant : Devs
-  resultant = record { State = Totals ds; ta = least ds; out = resultantOut; int = resultantInt; ext = resultantExt; con = resultantCon }
+  resultant = record { State = Totals ds; ta = leastSigma ds; out = resultantOut; int = resultantInt; ext = resultantExt; con = resultantCon }
 
 -- ---- a transition at a moment
 

@@ -10,11 +10,11 @@ use Rattle.definition.specs.Bytes.{Bytes, Result, ok, refused, _>>=_, re
 use Rattle.definition.specs.Limits.{messageSize, maxGiven, maxMoment, neverMoment}
 use Rattle.definition.specs.Model.{Bag, Model, componentAt, atomics}
 use Rattle.definition.specs.Records.{messageAt, portFits}
-use Rattle.definition.specs.Routes.{accepted}
+use Rattle.definition.specs.Pinned.Decoder.{accepted}
 use Rattle.definition.specs.Devs.{Time, finite, never}
-use Rattle.definition.specs.SavedRun.{Entry, Run, noEntry, atomicCount, runOf, runBytes, nextDue, fits}
+use Rattle.definition.specs.SavedRun.{Entry, Run, noEntry, atomicCount, runOf, runBytes, nextDue, runFits}
 use Rattle.definition.specs.Step.{nested}
-use Rattle.definition.specs.Advance.{Progress, Ended, advanceFrom}
+use Rattle.definition.specs.Advance.{Ended, advanceFrom}
 
 -- ---- what a call answers
 
@@ -24,7 +24,7 @@ pub record Wrote : Type 0 where
   pub written : ℕ
   pub buffer : Bytes
 
--- "Advance answers number, instants done, steps, trace bytes."
+-- "Advance answers number, instants done, steps, trace bytes"
 pub record Advanced : Type 0 where
   pub number : ℕ
   pub instants : ℕ
@@ -33,7 +33,7 @@ pub record Advanced : Type 0 where
   pub run : Bytes
   pub trace : Bytes
 
--- "Reading gives phase, last moment, and the whole model's next due moment."
+-- "Reading gives phase, last moment, and the whole model's next due moment"
 pub record WasRead : Type 0 where
   pub number : ℕ
   pub phase : ℕ
@@ -68,10 +68,10 @@ toBag b = map (messageAt 0) (chunks (length b / messageSize) messageSize b)
 unfoldable pub bagFits : Bytes → Bool
 bagFits b = eqb (length b % messageSize) 0 && leb (length b) (messageSize * maxGiven) && all portFits (toBag b)
 
--- "10 too short or does not fit; 11 before the open moment, or above 1,000,000,000,000; 12"
+-- "10 too short or does not fit"; "11 before the open moment, or above 1,000,000,000,000"; 12
 unfoldable pub advanceChecks : Model → Bytes → ℕ → Bytes → Result (Unit {0})
 advanceChecks m run t bag = do
-  _ ← refuseIf (not (fits m run)) 10
+  _ ← refuseIf (not (runFits m run)) 10
   _ ← refuseIf (ltb t (runOf m run .opening) || ltb maxMoment t) 11
   refuseIf (not (bagFits bag)) 12
 
@@ -93,7 +93,7 @@ unfoldable pub advance : Bytes → Bytes → ℕ → Bytes → Bytes → Advance
 advance file run t bag trace = advanced run trace (do
   m ← accepted file
   _ ← advanceChecks m run t bag
-  ok (advanceFrom (nested m) (runOf m run .opening) (runOf m run .entries) (length trace) t (toBag bag)))
+  ok (advanceFrom (nested m) (length trace) t (toBag bag) (runOf m run .opening) (runOf m run .entries)))
 
 -- ---- reading
 
@@ -106,10 +106,10 @@ unfoldable pub wasRead : Result WasRead → WasRead
 wasRead (ok r) = r
 wasRead (refused n) = record { number = n; phase = 0; last = 0; due = 0 }
 
--- "10 too short or does not fit; 16 position at or above the number of atomics"
+-- "10 too short or does not fit"; "16 position at or above the number of atomics"
 unfoldable pub readingChecks : Model → Bytes → ℕ → Result (Unit {0})
 readingChecks m run position = do
-  _ ← refuseIf (not (fits m run)) 10
+  _ ← refuseIf (not (runFits m run)) 10
   refuseIf (leb (atomicCount m) position) 16
 
 -- What is read at a position, where the next due moment is `next`.

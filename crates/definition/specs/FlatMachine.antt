@@ -1,20 +1,23 @@
--- The flat machine, from its own section of document 01 and with loops of its own: it shares with the engine only the lines for one
--- atomic, the byte forms, and the table's checks. Assumes nothing.
+-- The flat machine, from its own section of document 01, with its own steps, instants, trace records and loop over the instants. It
+-- shares with the engine: the model and its acceptance; the lines for one atomic (its output, next phase, external and confluent
+-- transition, when it is due); times and limits; the bytes of a message, of a saved run and of a given bag; the run that start writes;
+-- the checks of a call's arguments; what a refused call answers, what a writer writes and what a reading shows of an entry.
+-- Assumes nothing.
 use Prim.Native.Nat.{ℕ, zero, suc, _+_, _-_}
 use mathlib.Core.List.{List, [], _∷_, _++_, map}
 use mathlib.Core.Bool.{Bool, true, false, _&&_, _||_, not, cond}
 use lib.Dec.{leb, ltb, eqb}
 use lib.ListN.{length, take, drop}
 use Rattle.definition.specs.Lists.{concat, all, isEmpty}
-use Rattle.definition.specs.Bytes.{Bytes, Result, ok, refused, _>>=_, stored}
+use Rattle.definition.specs.Bytes.{Bytes, Result, ok, refused, _>>=_, bytesOf, stored}
 use Rattle.definition.specs.Limits.{maxSteps, maxRootBag}
 use Rattle.definition.specs.Model.{Message, Bag, Coupling, Model, atomics, phaseAt, outputs}
-use Rattle.definition.specs.Routes.{accepted}
-use Rattle.definition.specs.Devs.{Time, finite, never, earlier, sameTime}
+use Rattle.definition.specs.Records.{messageBytes}
+use Rattle.definition.specs.Pinned.Decoder.{accepted}
+use Rattle.definition.specs.Devs.{Time, finite, never, earlier, sameTime, ticks}
 use Rattle.definition.specs.Atomic.{internal, external, confluent}
 use Rattle.definition.specs.SavedRun.{Entry, runBytes, runOf, dueOf}
 use Rattle.definition.specs.Step.{Stepped}
-use Rattle.definition.specs.Instant.{records}
 use Rattle.definition.specs.Engine.{Wrote, wrote, startRun, Advanced, advanceChecks, toBag, WasRead, wasRead, readingChecks, readAt}
 
 -- ---- a step
@@ -55,7 +58,7 @@ module _ (m : Model) (now : ℕ) where
   moved c false [] r = r
   moved c false (x ∷ xs) r = record { phase = external m c (r .phase) (now - r .last) (x ∷ xs); last = now }
 
-  -- "Then all atomics change together."
+  -- "Then all atomics change together"
   unfoldable pub movedAll : List Sent → List ℕ → List Entry → List Entry
   movedAll xs [] rs = []
   movedAll xs (c ∷ cs) [] = []
@@ -90,6 +93,27 @@ firstDue m (c ∷ cs) (r ∷ rs) = earlier (dueOf m c r) (firstDue m cs rs)
 unfoldable pub flatDue : Model → List Entry → Time
 flatDue m rs = firstDue m (atomics (m .components)) rs
 
+-- ---- the trace
+
+-- "in rising order of port, then value, equal ones repeated"
+unfoldable pub notAfter : Message → Message → Bool
+notAfter x y = ltb (x .port) (y .port) || (eqb (x .port) (y .port) && leb (x .value) (y .value))
+
+unfoldable pub placed : Message → Bag → Bag
+placed x [] = x ∷ []
+placed x (y ∷ ys) = let on = y ∷ placed x ys in cond (notAfter x y) (x ∷ y ∷ ys) on
+
+unfoldable pub inOrder : Bag → Bag
+inOrder [] = []
+inOrder (x ∷ xs) = placed x (inOrder xs)
+
+-- "A trace record stands for each step with output at the root: moment (8), step in the instant from 0 (2), message count (2), messages
+-- of 3 bytes": the records of the steps from step k on.
+unfoldable pub recorded : ℕ → ℕ → List Bag → Bytes
+recorded now k [] = []
+recorded now k (x ∷ xs) =
+    cond (isEmpty x) [] (bytesOf 8 now ++ bytesOf 2 k ++ bytesOf 2 (length x) ++ concat (map messageBytes (inOrder x))) ++ recorded now (suc k) xs
+
 -- ---- advance
 
 -- The state is the run buffer's bytes; beside it the lent trace and the counts of the instants that stand.
@@ -106,7 +130,7 @@ entriesIn m g = runOf m (g .state) .entries
 -- "otherwise the copy is the new state and the records are written on in the lent trace"
 unfoldable pub standing : ℕ → Stage → List Bag × List Entry → Stage
 standing now g c =
-    let new = records now (c .0) in
+    let new = recorded now 0 (c .0) in
     record {
       state = stored (runBytes (record { opening = suc now; entries = c .1 })) (g .state);
       trace = take (g .used) (g .trace) ++ new ++ drop (g .used + length new) (g .trace);
@@ -115,17 +139,17 @@ standing now g c =
       used = g .used + length new;
     }
 
--- "A number from the row `each instant` drops the copy with its records and ends the call."
-unfoldable pub judged : Model → ℕ → Stage → List Bag × List Entry → Result Stage
-judged m now g c =
+-- A number from the row "each instant" "drops the copy with its records and ends the call".
+unfoldable pub verdictOn : Model → ℕ → Stage → List Bag × List Entry → Result Stage
+verdictOn m now g c =
     cond (anyDue m now (atomics (m .components)) (c .1)) (refused 13)
     (cond (isEmpty (c .0)) (ok g)
     (cond (not (all (λ x. leb (length x) maxRootBag) (c .0))) (refused 14)
-    (cond (ltb (length (g .trace)) (g .used + length (records now (c .0)))) (refused 15) (ok (standing now g c)))))
+    (cond (ltb (length (g .trace)) (g .used + length (recorded now 0 (c .0)))) (refused 15) (ok (standing now g c)))))
 
 -- The instant at `now`, "on a copy of the state".
 unfoldable pub attempt : Model → ℕ → Bag → Stage → Result Stage
-attempt m now x g = judged m now g (takeSteps m now maxSteps x (entriesIn m g))
+attempt m now x g = verdictOn m now g (takeSteps m now maxSteps x (entriesIn m g))
 
 -- "the open moment moves as above": one past t on success.
 unfoldable pub openedPast : Model → ℕ → Stage → Stage
@@ -137,26 +161,23 @@ openedPast m t g = record {
   used = g .used;
 }
 
-unfoldable pub goOn : (Stage → ℕ × Stage) → Stage → Result Stage → ℕ × Stage
-goOn on before (ok g) = on g
-goOn on before (refused n) = (n, before)
+unfoldable pub orEnd : (Stage → ℕ × Stage) → Stage → Result Stage → ℕ × Stage
+orEnd on before (ok g) = on g
+orEnd on before (refused n) = (n, before)
 
 unfoldable pub dueBefore : Time → ℕ → Bool
 dueBefore (finite a) t = ltb a t
 dueBefore never t = false
 
-unfoldable pub dueMoment : Time → ℕ
-dueMoment (finite a) = a
-dueMoment never = 0
-
 -- "Advance takes its instants in turn": those due before t, then t with the bag.
-unfoldable pub inTurn : ℕ → Model → ℕ → Bag → Stage → ℕ × Stage
-inTurn zero m t x g = (0, g)
-inTurn (suc turns) m t x g =
-    let u = flatDue m (entriesIn m g) in
-    let one = goOn (λ h. inTurn turns m t x h) g (attempt m (dueMoment u) [] g) in
-    let last = goOn (λ h. (0, openedPast m t h)) g (attempt m t x g) in
-    cond (dueBefore u t) one last
+module _ (m : Model) (t : ℕ) (given : Bag) where
+  unfoldable pub inTurn : (turns : ℕ) → Stage → ℕ × Stage
+  inTurn zero g = (0, g)
+  inTurn (suc turns) g =
+      let u = flatDue m (entriesIn m g) in
+      let one = orEnd (λ h. inTurn turns h) g (attempt m (ticks u) [] g) in
+      let last = orEnd (λ h. (0, openedPast m t h)) g (attempt m t given g) in
+      cond (dueBefore u t) one last
 
 -- "The answer counts the instants that stand, their steps and their trace bytes"; a call refused before any instant "gets that
 -- number, with zeros, and changes nothing".
@@ -170,7 +191,7 @@ unfoldable pub flatAdvance : Bytes → Bytes → ℕ → Bytes → Bytes → Adv
 flatAdvance file run t bag trace = answered run trace (do
   m ← accepted file
   _ ← advanceChecks m run t bag
-  ok (inTurn (suc t) m t (toBag bag) (record { state = run; trace = trace; instants = 0; steps = 0; used = 0 })))
+  ok (inTurn m t (toBag bag) (suc t) (record { state = run; trace = trace; instants = 0; steps = 0; used = 0 })))
 
 -- ---- start and reading
 

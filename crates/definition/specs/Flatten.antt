@@ -1,14 +1,15 @@
 -- Flattening: "a model of the root and the atomics in file order, phases and rules kept in order with components renumbered, and each
 -- route as a coupling, the rows sorted." Assumes nothing.
-use Prim.Native.Nat.{ℕ, zero, suc}
+use Prim.Native.Nat.{ℕ, suc}
 use mathlib.Core.List.{List, [], _∷_, map}
 use mathlib.Core.Bool.{cond}
 use lib.Dec.{eqb}
 use Rattle.definition.specs.Lists.{sortBy}
-use Rattle.definition.specs.Bytes.{Bytes, ok, refused, _>>=_}
+use Rattle.definition.specs.Bytes.{Bytes, ok, _>>=_}
 use Rattle.definition.specs.Model.{Component, Rule, Coupling, Model, noComponent, componentAt, atomics, couplingLe}
 use Rattle.definition.specs.File.{modelBytes}
-use Rattle.definition.specs.Routes.{routes, accepted}
+use Rattle.definition.specs.Routes.{routes}
+use Rattle.definition.specs.Pinned.Decoder.{accepted}
 use Rattle.definition.specs.Engine.{Wrote, wrote}
 
 -- The place of c in a list of component numbers.

@@ -10,7 +10,7 @@ use Rattle.definition.specs.Limits.{maxSteps, maxRootBag}
 use Rattle.definition.specs.Model.{Bag, messageLe}
 use Rattle.definition.specs.Records.{messageBytes}
 use Rattle.definition.specs.Devs.{finite, sameTime}
-use Rattle.definition.specs.Step.{Stepped, Simulator}
+use Rattle.definition.specs.Step.{Simulator}
 
 -- ---- steps
 
@@ -27,11 +27,11 @@ module _ {S : Type 0} (k : Simulator S) where
   unfoldable pub isDue : ℕ → S → Bool
   isDue now s = sameTime (k .next s) (finite now)
 
-  -- "A step is taken if something is due or the given bag is not empty."
+  -- "A step is taken if something is due or the given bag is not empty"
   unfoldable pub goesOn : ℕ → Bag → S → Bool
   goesOn now x s = isDue now s || not (isEmpty x)
 
-  -- At most n steps; "a given bag belongs to the first of them".
+  -- At most n steps; "A given bag belongs to the first of them.".
   unfoldable pub stepsAt : ℕ → ℕ → Bag → S → Instant S
   stepsAt zero now x s = cond (goesOn now x s) jammed (done [] s)
   stepsAt (suc n) now x s =
@@ -70,5 +70,5 @@ recordsFrom now k (x ∷ xs) =
     cond (isEmpty x) rest (record { moment = now; step = k; messages = sortBy messageLe x } ∷ rest)
 
 -- The bytes of an instant's records.
-unfoldable pub records : ℕ → List Bag → Bytes
-records now xs = traceBytes (recordsFrom now 0 xs)
+unfoldable pub instantTrace : ℕ → List Bag → Bytes
+instantTrace now xs = traceBytes (recordsFrom now 0 xs)

@@ -1,4 +1,4 @@
--- The definitions in the order of document 01.
+-- The definitions: bytes and models, Parallel DEVS, runs, calls, and the statements about them.
 pub mod Lists
 pub mod Bytes
 pub mod Limits
@@ -6,9 +6,13 @@ pub mod Model
 pub mod Records
 pub mod File
 pub mod Routes
+pub mod Sound
+pub mod Refusals
+pub mod Pinned
 pub mod Devs
 pub mod Atomic
 pub mod SavedRun
+pub mod Clauses
 pub mod Step
 pub mod Instant
 pub mod Advance
@@ -17,4 +21,5 @@ pub mod Flatten
 pub mod FlatMachine
 pub mod Calls
 pub mod AdvanceRelation
+pub mod Carrying
 pub mod Demands

@@ -9,7 +9,7 @@ maxComponents = 64
 abbrev pub maxAncestors : ℕ
 maxAncestors = 8
 
--- "An atomic has 1 to 64 phases."
+-- "An atomic has 1 to 64 phases"
 abbrev pub maxOwnPhases : ℕ
 maxOwnPhases = 64
 
@@ -30,7 +30,7 @@ maxCouplings = 1024
 abbrev pub maxRoutes : ℕ
 maxRoutes = 1024
 
--- "Ports are 0 to 3."
+-- "Ports are 0 to 3"
 abbrev pub portCount : ℕ
 portCount = 4
 
@@ -88,3 +88,12 @@ maxRootBag = 4096
 -- "18,446,744,073,709,551,615 for never"
 abbrev pub neverMoment : ℕ
 neverMoment = 18446744073709551615
+
+-- ---- lengths that suffice for every model
+-- The longest model file: four counts, 64 components, 512 phases, 1,024 rules, 1,024 couplings.
+abbrev pub longestModel : ℕ
+longestModel = 32072
+
+-- The longest saved run: that of 63 atomics.
+abbrev pub longestRun : ℕ
+longestRun = 577

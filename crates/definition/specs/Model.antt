@@ -24,17 +24,17 @@ pub record Component : Type 0 where
   pub initial : ℕ
   pub order : ℕ
 
--- "advance, next phase, output count, four slots of port and value"
+-- "advance .., next phase (1), output count .., four slots of port (1) and value (2)"
 pub record Phase : Type 0 where
   pub advance : ℕ
   pub next : ℕ
-  pub count : ℕ
+  pub outputCount : ℕ
   pub slot0 : Message
   pub slot1 : Message
   pub slot2 : Message
   pub slot3 : Message
 
--- "atomic component, phase, next phase, port, low and high value, least count, low and high elapsed"
+-- "atomic component (1), phase (1), next phase (1), port (1), low and high value .., least count (2), low and high elapsed .."
 pub record Rule : Type 0 where
   pub component : ℕ
   pub phase : ℕ
@@ -68,7 +68,7 @@ unfoldable pub noComponent : Component
 noComponent = record { kind = 0; parent = 0; phases = 0; initial = 0; order = 0 }
 
 unfoldable pub noPhase : Phase
-noPhase = record { advance = 0; next = 0; count = 0; slot0 = noMessage; slot1 = noMessage; slot2 = noMessage; slot3 = noMessage }
+noPhase = record { advance = 0; next = 0; outputCount = 0; slot0 = noMessage; slot1 = noMessage; slot2 = noMessage; slot3 = noMessage }
 
 unfoldable pub noRule : Rule
 noRule = record { component = 0; phase = 0; next = 0; port = 0; low = 0; high = 0; least = 0; lowElapsed = 0; highElapsed = 0 }
@@ -101,7 +101,7 @@ slots p = p .slot0 ∷ p .slot1 ∷ p .slot2 ∷ p .slot3 ∷ []
 
 -- The bag that the phase puts out: its used slots.
 unfoldable pub outputs : Phase → Bag
-outputs p = take (p .count) (slots p)
+outputs p = take (p .outputCount) (slots p)
 
 -- ---- kinship
 

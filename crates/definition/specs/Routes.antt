@@ -1,15 +1,12 @@
--- Routes: the ways along couplings from an atomic's output port or a root input port to an atomic's input port or a root output
--- port, repeats counted; and the acceptance of a model. Assumes nothing.
+-- Routes: "one way along couplings from an atomic's output port or a root input port to an atomic's input port or a root output port,
+-- repeats counted". Assumes nothing.
 use Prim.Native.Nat.{ℕ}
 use mathlib.Core.List.{List, [], _∷_, _++_, map}
 use mathlib.Core.Bool.{_&&_, cond}
-use lib.Dec.{ltb, eqb}
-use lib.ListN.{length}
+use lib.Dec.{eqb}
 use Rattle.definition.specs.Lists.{concat, upFrom}
-use Rattle.definition.specs.Bytes.{Bytes, Result, ok, refused, _>>=_, refuseIf, numberOf}
-use Rattle.definition.specs.Limits.{portCount, maxRoutes}
+use Rattle.definition.specs.Limits.{portCount}
 use Rattle.definition.specs.Model.{Coupling, Model, Tree, Forest, leaf, node, stop, more, nameOf, tree}
-use Rattle.definition.specs.File.{decode}
 
 -- The target ports of the couplings from port p of i to d, in file order. Which of i's two ports p is meant, input or output, is
 -- settled by d: its input where d is a child of i, its output where d is a sibling or the parent.
@@ -22,12 +19,12 @@ portsTo (k ∷ ks) i d p =
 -- An end of a way: an input port of an atomic, or an output port of the root, component 0.
 pub record Port : Type 0 where
   pub component : ℕ
-  pub number : ℕ
+  pub port : ℕ
 
 -- The ends of the ways on from input port q of a component; and of the ways from port q of i to the components of a forest.
 unfoldable mutual
   pub endsIn : List Coupling → Tree → ℕ → List Port
-  endsIn ks (leaf c) q = record { component = c; number = q } ∷ []
+  endsIn ks (leaf c) q = record { component = c; port = q } ∷ []
   endsIn ks (node c f) q = endsFrom ks c f q
 
   pub endsFrom : List Coupling → ℕ → Forest → ℕ → List Port
@@ -36,7 +33,7 @@ unfoldable mutual
 
 -- A way from its first port to its last, as a coupling.
 unfoldable pub joined : ℕ → ℕ → Port → Coupling
-joined c p e = record { source = c; sourcePort = p; target = e .component; targetPort = e .number }
+joined c p e = record { source = c; sourcePort = p; target = e .component; targetPort = e .port }
 
 -- All ways from the ports of c, where `ends p` has the ends of those from port p.
 unfoldable pub joinedAll : ℕ → (ℕ → List Port) → List Coupling
@@ -55,18 +52,7 @@ unfoldable mutual
 
 -- The root's output port q is an end itself.
 unfoldable pub rootEnds : ℕ → List Port
-rootEnds q = record { component = 0; number = q } ∷ []
+rootEnds q = record { component = 0; port = q } ∷ []
 
 unfoldable pub routes : Model → List Coupling
 routes m = joinedAll 0 (endsIn (m .couplings) (tree m)) ++ waysFrom (m .couplings) rootEnds (tree m)
-
--- "A model is accepted when no number of the table down to routes applies to its bytes": 1 to 8 and 2, then 9.
-unfoldable pub accepted : Bytes → Result Model
-accepted file = do
-  m ← decode file
-  _ ← refuseIf (ltb maxRoutes (length (routes m))) 9
-  ok m
-
--- The number by which a model file is refused, or 0.
-unfoldable pub checkModel : Bytes → ℕ
-checkModel file = numberOf (accepted file)

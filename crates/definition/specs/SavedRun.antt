@@ -5,18 +5,18 @@ use mathlib.Core.Bool.{Bool, true, false, _&&_, _||_, cond}
 use lib.Dec.{leb, ltb, eqb}
 use lib.ListN.{length, drop}
 use Rattle.definition.specs.Lists.{concat}
-use Rattle.definition.specs.Bytes.{Bytes, number, bytesOf, chunks}
+use Rattle.definition.specs.Bytes.{Bytes, numberAt, bytesOf, chunks}
 use Rattle.definition.specs.Limits.{headSize, entrySize, maxMoment}
 use Rattle.definition.specs.Model.{Model, componentAt, atomics, Tree, Forest, leaf, node, stop, more, tree}
 use Rattle.definition.specs.Devs.{Time, finite, never, earlier, later}
 use Rattle.definition.specs.Atomic.{advanceOf}
 
--- "The state of an atomic is its phase and the moment of its last transition."
+-- "The state of an atomic is its phase and the moment of its last transition"
 pub record Entry : Type 0 where
   pub phase : ℕ
   pub last : ℕ
 
--- "earliest open moment, .. then per atomic phase and last moment, in file order"
+-- "earliest open moment (8 bytes), atomic count (2), then per atomic phase (1) and last moment (8), in file order"
 pub record Run : Type 0 where
   pub opening : ℕ
   pub entries : List Entry
@@ -33,11 +33,11 @@ unfoldable pub runLength : ℕ → ℕ
 runLength n = headSize + entrySize * n
 
 unfoldable pub toEntry : Bytes → Entry
-toEntry r = record { phase = number 1 0 r; last = number 8 1 r }
+toEntry r = record { phase = numberAt 1 0 r; last = numberAt 8 1 r }
 
 -- The run of n atomics that the bytes hold.
 unfoldable pub toRun : ℕ → Bytes → Run
-toRun n s = record { opening = number 8 0 s; entries = map toEntry (chunks n entrySize (drop headSize s)) }
+toRun n s = record { opening = numberAt 8 0 s; entries = map toEntry (chunks n entrySize (drop headSize s)) }
 
 unfoldable pub runOf : Model → Bytes → Run
 runOf m s = toRun (atomicCount m) s
@@ -63,7 +63,7 @@ lookUp (a ∷ cs) (r ∷ rs) c = cond (eqb a c) r (lookUp cs rs c)
 unfoldable pub entryOf : Model → List Entry → ℕ → Entry
 entryOf m rs c = lookUp (atomics (m .components)) rs c
 
--- "A coupled component's earliest due moment is the least among its children, never if it has none."
+-- "A coupled component's earliest due moment is the least among its children, never if it has none"
 unfoldable mutual
   pub dueAt : Model → (ℕ → Entry) → Tree → Time
   dueAt m at (leaf c) = dueOf m c (at c)
@@ -95,7 +95,7 @@ entriesFit m opening (c ∷ cs) [] = false
 entriesFit m opening (c ∷ cs) (r ∷ rs) = entryFits m opening c r && entriesFit m opening cs rs
 
 -- "A run fits when the count and phases agree with the model, the open moment is at most 1,000,000,000,001, .." and it is long enough.
-unfoldable pub fits : Model → Bytes → Bool
-fits m s =
-    leb (runLength (atomicCount m)) (length s) && eqb (number 2 8 s) (atomicCount m) && leb (runOf m s .opening) (suc maxMoment)
+unfoldable pub runFits : Model → Bytes → Bool
+runFits m s =
+    leb (runLength (atomicCount m)) (length s) && eqb (numberAt 2 8 s) (atomicCount m) && leb (runOf m s .opening) (suc maxMoment)
     && entriesFit m (runOf m s .opening) (atomics (m .components)) (runOf m s .entries)

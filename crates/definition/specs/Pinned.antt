@@ -1,0 +1,2 @@
+-- What computes and is pinned by theorems: nobody needs to believe it.
+pub mod Decoder
