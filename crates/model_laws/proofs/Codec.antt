@@ -8,7 +8,7 @@ use lib.ListN.{length, take, drop, length-append, length-take, length-drop}
 use lib.Seq.{take-at, drop-at}
 use borrow.Author.Tests.{ltb-true, lt-ltb}
 use Rattle.definition.specs.Lists.{concat}
-use Rattle.definition.specs.Bytes.{Bytes, AllBytes, none, more, le, number, bytesOf, chunks}
+use Rattle.definition.specs.Bytes.{Bytes, AllBytes, none, more, littleEndian, numberAt, bytesOf, chunks}
 
 -- ---- buffers of bytes
 
@@ -39,46 +39,46 @@ number-bytes zero n = none
 number-bytes (suc w) n = more (lt-ltb (n % 256) 256 (omega arith)) (number-bytes w (n / 256))
 
 -- .. and read back: alone, at the front, and behind a front of known length
-pub le-bytes : (w n : ℕ) → n < 256 ^ w → le (bytesOf w n) ≡ n
-unfolding bytesOf le
+pub le-bytes : (w n : ℕ) → n < 256 ^ w → littleEndian (bytesOf w n) ≡ n
+unfolding bytesOf littleEndian
 le-bytes zero n h = omega arith
 le-bytes (suc w) n h = let i = le-bytes w (n / 256) (omega arith) in omega arith
 
-pub number-front : (w n : ℕ) (rest : Bytes) → n < 256 ^ w → number w 0 (bytesOf w n ++ rest) ≡ n
-unfolding number
+pub number-front : (w n : ℕ) (rest : Bytes) → n < 256 ^ w → numberAt w 0 (bytesOf w n ++ rest) ≡ n
+unfolding numberAt
 number-front w n rest h = rw (take-at (bytesOf w n) rest w (length-bytes w n)) (le-bytes w n h)
 
-pub number-behind : (w at : ℕ) (front rest : Bytes) → length front ≡ at → number w at (front ++ rest) ≡ number w 0 rest
-unfolding number
+pub number-behind : (w at : ℕ) (front rest : Bytes) → length front ≡ at → numberAt w at (front ++ rest) ≡ numberAt w 0 rest
+unfolding numberAt
 number-behind w at front rest e = rw (drop-at front rest at e)
 
 -- ---- a number read
 
-le-small : (w : ℕ) {s : Bytes} → AllBytes s → le (take w s) < 256 ^ w
-unfolding le
+pub le-small : (w : ℕ) {s : Bytes} → AllBytes s → littleEndian (take w s) < 256 ^ w
+unfolding littleEndian
 le-small zero h = omega arith
 le-small (suc w) none = let i = le-small w none in omega arith
 le-small (suc w) (more {b = b} h t) = let i = le-small w t in omega (arith, ltb-true b 256 h)
 
 -- so that writing it again gives it back
-pub number-kept : (w at : ℕ) {s : Bytes} → AllBytes s → le (bytesOf w (number w at s)) ≡ number w at s
-unfolding number
-number-kept w at {s} h = le-bytes w (le (take w (drop at s))) (le-small w (drop-bytes at h))
+pub number-kept : (w at : ℕ) {s : Bytes} → AllBytes s → littleEndian (bytesOf w (numberAt w at s)) ≡ numberAt w at s
+unfolding numberAt
+number-kept w at {s} h = le-bytes w (littleEndian (take w (drop at s))) (le-small w (drop-bytes at h))
 
-bytes-of-le : (w : ℕ) {s : Bytes} → length s ≡ w → AllBytes s → bytesOf w (le s) ≡ s
-unfolding bytesOf le
+bytes-of-le : (w : ℕ) {s : Bytes} → length s ≡ w → AllBytes s → bytesOf w (littleEndian s) ≡ s
+unfolding bytesOf littleEndian
 bytes-of-le zero e none = refl
 bytes-of-le zero e (more h t) = absurd (omega arith)
 bytes-of-le (suc w) e none = absurd (omega arith)
 bytes-of-le (suc w) e (more {b = b} {bs = bs} h t) =
     let l = ltb-true b 256 h in
-    let p : (b + 256 * le bs) % 256 ≡ b = omega arith in
-    let q : (b + 256 * le bs) / 256 ≡ le bs = omega arith in
+    let p : (b + 256 * littleEndian bs) % 256 ≡ b = omega arith in
+    let q : (b + 256 * littleEndian bs) / 256 ≡ littleEndian bs = omega arith in
     ap₂ _∷_ p (ap (bytesOf w) q ∙ bytes-of-le w (omega arith) t)
 
 -- .. and, where the buffer is long enough, the very bytes
-pub number-written : (w at : ℕ) {s : Bytes} → at + w ≤ length s → AllBytes s → bytesOf w (number w at s) ≡ take w (drop at s)
-unfolding number
+pub number-written : (w at : ℕ) {s : Bytes} → at + w ≤ length s → AllBytes s → bytesOf w (numberAt w at s) ≡ take w (drop at s)
+unfolding numberAt
 number-written w at {s} l h = bytes-of-le w (length-take w (drop at s) ∙ omega (arith, length-drop at s)) (take-bytes w (drop-bytes at h))
 
 -- ---- records of one size in a row

@@ -1,6 +1,6 @@
 -- Laws of the model file and the saved run: what the decoder checked, reading and writing.
 pub mod Codec
-pub mod Sound
+pub mod WellFormed
 pub mod Sections
 pub mod Reading
 pub mod Writing

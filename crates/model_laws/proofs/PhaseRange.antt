@@ -13,14 +13,15 @@ use borrow.Author.Tests.{ltb-true, ltb-false, eqb-true}
 use Rattle.definition.specs.Lists.{concat, sum, all}
 use Rattle.definition.specs.Limits.{maxOutputs, portCount}
 use Rattle.definition.specs.Model.{Bag, Component, Phase, Rule, Model, noComponent, noPhase, noRule, componentAt, isAtomic, phasesBefore, phaseAt, outputs}
-use Rattle.definition.specs.Records.{portFits, advanceFits, usedFit, phaseFields, bounds, phaseFits, ruleFields}
+use Rattle.definition.specs.Records.{portFits}
 use Rattle.definition.specs.File.{phaseTotal}
+use Rattle.definition.specs.Pinned.Decoder.{advanceFits, usedFit, phaseFields, bounds, phaseFits, ruleFields}
 use Rattle.definition.specs.Devs.{ticks}
 use Rattle.definition.specs.Atomic.{withinElapsed, holds, deciding, ledTo, advanceOf, internal, external, confluent}
 use Rattle.definition.specs.SavedRun.{Entry}
 use Rattle.definition.specs.FlatMachine.{moved}
 use Rattle.laws.proofs.Sorting.{and-left, and-right}
-use Rattle.model_laws.proofs.Sound.{Sound, rules-fit}
+use Rattle.model_laws.proofs.WellFormed.{WellFormed, rules-fit}
 
 -- ---- the bounds of the phase records
 
@@ -30,7 +31,7 @@ length-bounds [] = refl
 length-bounds (k ∷ cs) = length-append (replicate (k .phases) (k .phases)) _ ∙ ap₂ _+_ (length-replicate (k .phases) (k .phases)) (length-bounds cs)
 
 -- the bound that stands beside a component's own phase
-bound-at : (cs : List Component) (c p : ℕ) → p < componentAt cs c .phases
+pub bound-at : (cs : List Component) (c p : ℕ) → p < componentAt cs c .phases
     → (getD (bounds cs) (phasesBefore cs c + p) 0 ≡ componentAt cs c .phases) × (phasesBefore cs c + p < length (bounds cs))
 unfolding bounds phasesBefore componentAt noComponent concat sum
 bound-at [] c p l = absurd (omega arith)
@@ -56,16 +57,16 @@ unfolding phaseFields
 next-below bound k h =
     let a = advanceFits (k .advance) in
     let b = ltb (k .next) bound in
-    let c = leb (k .count) maxOutputs in
+    let c = leb (k .outputCount) maxOutputs in
     ltb-true (k .next) bound (and-right a b (and-left (a && b) c (and-left (a && b && c) _ (and-left (a && b && c && usedFit k) _ h))))
 
 used-ports : (bound : ℕ) (k : Phase) → phaseFields bound k ≡ true → all portFits (outputs k) ≡ true
 unfolding phaseFields usedFit
 used-ports bound k h =
-    let a = advanceFits (k .advance) && ltb (k .next) bound && leb (k .count) maxOutputs in
+    let a = advanceFits (k .advance) && ltb (k .next) bound && leb (k .outputCount) maxOutputs in
     and-left (all portFits (outputs k)) _ (and-right a (usedFit k) (and-left (a && usedFit k) _ h))
 
-pub outputs-fit : (m : Model) → Sound m → (c p : ℕ) → all portFits (outputs (phaseAt m c p)) ≡ true
+pub outputs-fit : (m : Model) → WellFormed m → (c p : ℕ) → all portFits (outputs (phaseAt m c p)) ≡ true
 unfolding phaseAt phaseFits
 outputs-fit m w c p = go (ltb i (length (m .phases))) refl
   where
@@ -78,7 +79,7 @@ outputs-fit m w c p = go (ltb i (length (m .phases))) refl
 
 -- ---- transitions
 
-module _ (m : Model) (w : Sound m) (c : ℕ) where
+module _ (m : Model) (w : WellFormed m) (c : ℕ) where
   -- p is a phase of c
   abbrev pub Own : ℕ → Type 0
   Own p = p < componentAt (m .components) c .phases

@@ -8,32 +8,33 @@ use lib.Dec.{ltb, eqb}
 use lib.ListN.{length}
 use borrow.Author.Tests.{ltb-false, eqb-true}
 use Rattle.definition.specs.Lists.{concat}
-use Rattle.definition.specs.Bytes.{Bytes, AllBytes, ok, _>>=_, le, number, bytesOf}
+use Rattle.definition.specs.Bytes.{Bytes, AllBytes, ok, _>>=_, littleEndian, numberAt, bytesOf, laidOut}
 use Rattle.definition.specs.Limits.{maxComponents, maxPhases, maxRules, maxCouplings, maxRoutes, componentSize, phaseSize, ruleSize, couplingSize}
 use Rattle.definition.specs.Model.{Model, slots}
-use Rattle.definition.specs.Records.{messageAt, messageBytes, toComponent, componentBytes, componentFits, toPhase, phaseBytes, phaseFits, toRule, ruleBytes, ruleFits, toCoupling, couplingBytes, couplingFits}
-use Rattle.definition.specs.File.{componentCount, phaseCount, atMost, phaseTotal, componentSection, phaseSection, ruleSection, couplingSection, endOfFile, decode}
-use Rattle.definition.specs.Routes.{routes, accepted}
+use Rattle.definition.specs.Records.{messageAt, componentBytes, phaseBytes, ruleBytes, couplingBytes}
+use Rattle.definition.specs.File.{phaseTotal}
+use Rattle.definition.specs.Routes.{routes}
+use Rattle.definition.specs.Pinned.Decoder.{toComponent, componentFits, toPhase, phaseFits, toRule, ruleFits, toCoupling, couplingFits, componentCountRefusal, phaseCountRefusal, limitRefusal, componentSection, phaseSection, ruleSection, couplingSection, endOfFile, decode, accepted}
 use Rattle.model_laws.proofs.Codec.{number-kept}
-use Rattle.model_laws.proofs.Sound.{Sound, Accepted}
+use Rattle.model_laws.proofs.WellFormed.{WellFormed, Accepted}
 use Rattle.model_laws.proofs.Sections.{ok-same, bind-ok, refuse-ok, section-given}
 
 -- ---- a record read of bytes is kept by its bytes
 
 module _ (r : Bytes) (b : AllBytes r) where
-  kept : (w at : ℕ) → le (bytesOf w (number w at r)) ≡ number w at r
+  kept : (w at : ℕ) → littleEndian (bytesOf w (numberAt w at r)) ≡ numberAt w at r
   kept w at = number-kept w at b
 
   component-kept : toComponent (componentBytes (toComponent r)) ≡ toComponent r
-  unfolding toComponent componentBytes number le bytesOf concat
+  unfolding toComponent componentBytes numberAt littleEndian laidOut bytesOf
   component-kept = λ i. record { kind = kept 1 0 i; parent = kept 1 1 i; phases = kept 1 2 i; initial = kept 1 3 i; order = kept 1 4 i }
 
   phase-kept : toPhase (phaseBytes (toPhase r)) ≡ toPhase r
-  unfolding toPhase phaseBytes slots messageAt messageBytes number le bytesOf concat
+  unfolding toPhase phaseBytes slots messageAt numberAt littleEndian laidOut bytesOf concat
   phase-kept = λ i. record {
     advance = kept 4 0 i;
     next = kept 1 4 i;
-    count = kept 1 5 i;
+    outputCount = kept 1 5 i;
     slot0 = record { port = kept 1 6 i; value = kept 2 7 i };
     slot1 = record { port = kept 1 9 i; value = kept 2 10 i };
     slot2 = record { port = kept 1 12 i; value = kept 2 13 i };
@@ -41,7 +42,7 @@ module _ (r : Bytes) (b : AllBytes r) where
   }
 
   rule-kept : toRule (ruleBytes (toRule r)) ≡ toRule r
-  unfolding toRule ruleBytes number le bytesOf
+  unfolding toRule ruleBytes numberAt littleEndian laidOut bytesOf
   rule-kept = λ i. record {
     component = kept 1 0 i;
     phase = kept 1 1 i;
@@ -55,34 +56,34 @@ module _ (r : Bytes) (b : AllBytes r) where
   }
 
   coupling-kept : toCoupling (couplingBytes (toCoupling r)) ≡ toCoupling r
-  unfolding toCoupling couplingBytes number le bytesOf concat
+  unfolding toCoupling couplingBytes numberAt littleEndian laidOut bytesOf
   coupling-kept = λ i. record { source = kept 1 0 i; sourcePort = kept 1 1 i; target = kept 1 2 i; targetPort = kept 1 3 i }
 
 -- ---- a count that gets no number
 
-most-within : (limit n : ℕ) → atMost limit n ≡ 0 → n ≤ limit
-unfolding atMost
+most-within : (limit n : ℕ) → limitRefusal limit n ≡ 0 → n ≤ limit
+unfolding limitRefusal
 most-within limit n e = go (ltb limit n) refl
   where
     go : (t : Bool) → ltb limit n ≡ t → n ≤ limit
     go true f = absurd (let g = rw f at e in omega arith)
     go false f = ltb-false limit n f
 
-components-within : (n : ℕ) → componentCount n ≡ 0 → n ≤ maxComponents
-unfolding componentCount
+components-within : (n : ℕ) → componentCountRefusal n ≡ 0 → n ≤ maxComponents
+unfolding componentCountRefusal
 components-within n e = go (ltb maxComponents n) refl
   where
     go : (t : Bool) → ltb maxComponents n ≡ t → n ≤ maxComponents
     go true f = absurd (let g = rw f at e in omega arith)
     go false f = ltb-false maxComponents n f
 
-components-some : (n : ℕ) → componentCount n ≡ 0 → 0 < n
-unfolding componentCount
+components-some : (n : ℕ) → componentCountRefusal n ≡ 0 → 0 < n
+unfolding componentCountRefusal
 components-some zero e = absurd (omega arith)
 components-some (suc n) e = omega arith
 
-phases-right : (total n : ℕ) → phaseCount total n ≡ 0 → (n ≤ maxPhases) × (n ≡ total)
-unfolding phaseCount
+phases-right : (total n : ℕ) → phaseCountRefusal total n ≡ 0 → (n ≤ maxPhases) × (n ≡ total)
+unfolding phaseCountRefusal
 phases-right total n e = go (ltb maxPhases n) refl (eqb n total) refl
   where
     go : (t : Bool) → ltb maxPhases n ≡ t → (u : Bool) → eqb n total ≡ u → (n ≤ maxPhases) × (n ≡ total)
@@ -92,7 +93,7 @@ phases-right total n e = go (ltb maxPhases n) refl (eqb n total) refl
 
 -- ---- the file
 
-decode-sound : (s : Bytes) (m : Model) → AllBytes s → decode s ≡ ok m → Sound m
+decode-sound : (s : Bytes) (m : Model) → AllBytes s → decode s ≡ ok m → WellFormed m
 unfolding decode componentSection phaseSection ruleSection couplingSection endOfFile
 decode-sound s m h e =
     let A = bind-ok (componentSection s) _ m e in
@@ -102,11 +103,11 @@ decode-sound s m h e =
     let C = bind-ok (ruleSection cs (B .0 .rest)) _ m (B .2) in
     let D = bind-ok (couplingSection cs (C .0 .rest)) (λ d. endOfFile (d .rest) >>= λ _. ok (record { components = cs; phases = B .0 .records; rules = C .0 .records; couplings = d .records })) m (C .2) in
     let E = refuse-ok (ltb 0 (length (D .0 .rest))) 2 _ m (D .2) in
-    let a = section-given componentSize componentCount toComponent componentBytes componentFits 4 maxComponents s (A .0) h components-within component-kept (A .1) in
-    let b = section-given phaseSize (phaseCount total) toPhase phaseBytes (phaseFits cs) 6 maxPhases (A .0 .rest) (B .0) (a .rest-bytes) (λ n r. phases-right total n r .0) phase-kept (B .1) in
-    let c = section-given ruleSize (atMost maxRules) toRule ruleBytes (ruleFits cs) 7 maxRules (B .0 .rest) (C .0) (b .rest-bytes) (most-within maxRules) rule-kept (C .1) in
-    let d = section-given couplingSize (atMost maxCouplings) toCoupling couplingBytes (couplingFits cs) 8 maxCouplings (C .0 .rest) (D .0) (c .rest-bytes) (most-within maxCouplings) coupling-kept (D .1) in
-    subst Sound (ok-same _ m (E .1))
+    let a = section-given componentSize componentCountRefusal toComponent componentBytes componentFits 4 maxComponents s (A .0) h components-within component-kept (A .1) in
+    let b = section-given phaseSize (phaseCountRefusal total) toPhase phaseBytes (phaseFits cs) 6 maxPhases (A .0 .rest) (B .0) (a .rest-bytes) (λ n r. phases-right total n r .0) phase-kept (B .1) in
+    let c = section-given ruleSize (limitRefusal maxRules) toRule ruleBytes (ruleFits cs) 7 maxRules (B .0 .rest) (C .0) (b .rest-bytes) (most-within maxRules) rule-kept (C .1) in
+    let d = section-given couplingSize (limitRefusal maxCouplings) toCoupling couplingBytes (couplingFits cs) 8 maxCouplings (C .0 .rest) (D .0) (c .rest-bytes) (most-within maxCouplings) coupling-kept (D .1) in
+    subst WellFormed (ok-same _ m (E .1))
     (record {
       some-component = components-some (length cs) (a .right);
       components = a .checked;

@@ -8,11 +8,11 @@ use lib.Dec.{ltb}
 use lib.ListN.{length, drop}
 use borrow.Author.Tests.{ltb-true}
 use Rattle.definition.specs.Lists.{all, upFrom}
-use Rattle.definition.specs.Bytes.{Bytes, Result, ok, refused, _>>=_, refuseIf, number, chunks}
+use Rattle.definition.specs.Bytes.{Bytes, Result, ok, refused, _>>=_, refuseIf, numberAt, chunks}
 use Rattle.definition.specs.Limits.{countSize, maxRules, maxCouplings, maxRoutes, componentSize, phaseSize, ruleSize, couplingSize}
-use Rattle.definition.specs.Records.{toComponent, componentFits, toPhase, phaseFits, toRule, ruleFits, toCoupling, couplingFits}
-use Rattle.definition.specs.File.{sectionCount, section, componentCount, phaseCount, phaseTotal, atMost, componentSection, phaseSection, ruleSection, couplingSection, endOfFile, decode}
-use Rattle.definition.specs.Routes.{routes, accepted}
+use Rattle.definition.specs.File.{phaseTotal}
+use Rattle.definition.specs.Routes.{routes}
+use Rattle.definition.specs.Pinned.Decoder.{toComponent, componentFits, toPhase, phaseFits, toRule, ruleFits, toCoupling, couplingFits, sectionCount, section, componentCountRefusal, phaseCountRefusal, limitRefusal, componentSection, phaseSection, ruleSection, couplingSection, endOfFile, decode, accepted}
 
 abbrev pub Positive : {A : Type 0} → Result A → Type 0
 Positive (ok a) = Unit {0}
@@ -33,7 +33,7 @@ section-positive size wrong to fits bad h s = positive-bind (sectionCount size w
   where
     count : Positive (sectionCount size wrong s)
     count = unfold sectionCount in
-        (let n = number countSize 0 s in
+        (let n = numberAt countSize 0 s in
         positive-if (ltb (length s) countSize) 1 _ (λ e. omega arith)
         (positive-if (ltb 0 (wrong n)) (wrong n) _ (λ e. ltb-true 0 (wrong n) e)
         (positive-if (ltb (length s) (countSize + n * size)) 1 _ (λ e. omega arith) tt)))
@@ -41,11 +41,11 @@ section-positive size wrong to fits bad h s = positive-bind (sectionCount size w
 decode-positive : (s : Bytes) → Positive (decode s)
 unfolding decode componentSection phaseSection ruleSection couplingSection endOfFile
 decode-positive s =
-    positive-bind (componentSection s) _ (section-positive componentSize componentCount toComponent componentFits 4 (omega arith) s)
+    positive-bind (componentSection s) _ (section-positive componentSize componentCountRefusal toComponent componentFits 4 (omega arith) s)
     (λ a. let cs = a .records in
-    positive-bind (phaseSection cs (a .rest)) _ (section-positive phaseSize (phaseCount (phaseTotal cs)) toPhase (phaseFits cs) 6 (omega arith) (a .rest))
-    (λ b. positive-bind (ruleSection cs (b .rest)) _ (section-positive ruleSize (atMost maxRules) toRule (ruleFits cs) 7 (omega arith) (b .rest))
-    (λ c. positive-bind (couplingSection cs (c .rest)) _ (section-positive couplingSize (atMost maxCouplings) toCoupling (couplingFits cs) 8 (omega arith) (c .rest))
+    positive-bind (phaseSection cs (a .rest)) _ (section-positive phaseSize (phaseCountRefusal (phaseTotal cs)) toPhase (phaseFits cs) 6 (omega arith) (a .rest))
+    (λ b. positive-bind (ruleSection cs (b .rest)) _ (section-positive ruleSize (limitRefusal maxRules) toRule (ruleFits cs) 7 (omega arith) (b .rest))
+    (λ c. positive-bind (couplingSection cs (c .rest)) _ (section-positive couplingSize (limitRefusal maxCouplings) toCoupling (couplingFits cs) 8 (omega arith) (c .rest))
     (λ d. positive-if (ltb 0 (length (d .rest))) 2 _ (λ e. omega arith) tt))))
 
 pub accepted-positive : (s : Bytes) → Positive (accepted s)

@@ -7,7 +7,7 @@ use native.Mathlib.Omega.{arith}
 use lib.ListN.{length, take, drop, length-map, length-append, length-take, length-drop, take-append-drop}
 use lib.Seq.{drop-at, take-add, take-all, length-take-le}
 use Rattle.definition.specs.Lists.{concat}
-use Rattle.definition.specs.Bytes.{Bytes, AllBytes, le, number, bytesOf, chunks, stored}
+use Rattle.definition.specs.Bytes.{Bytes, AllBytes, littleEndian, numberAt, bytesOf, chunks, stored}
 use Rattle.definition.specs.Limits.{headSize, entrySize}
 use Rattle.definition.specs.SavedRun.{Entry, Run, runLength, toEntry, toRun, entryBytes, runBytes}
 use Rattle.model_laws.proofs.Codec.{take-bytes, drop-bytes, length-bytes, le-bytes, number-front, number-behind, number-written, rows-length, rows-back, length-chunks}
@@ -19,7 +19,7 @@ unfolding entryBytes bytesOf
 entry-size r = refl
 
 pub entry-back : (r : Entry) → r .phase < 256 → r .last < 256 ^ 8 → toEntry (entryBytes r) ≡ r
-unfolding toEntry entryBytes number le bytesOf
+unfolding toEntry entryBytes numberAt littleEndian bytesOf
 entry-back r h k = λ i. record { phase = le-bytes 1 (r .phase) h i; last = le-bytes 8 (r .last) k i }
 
 pub length-run : (r : Run) → length (runBytes r) ≡ runLength (length (r .entries))
@@ -36,10 +36,10 @@ module _ (r : Run) (rest : Bytes) where
   unfolding runBytes
   run-shape = simp append-assoc
 
-  pub opening-back : r .opening < 256 ^ 8 → number 8 0 (runBytes r ++ rest) ≡ r .opening
+  pub opening-back : r .opening < 256 ^ 8 → numberAt 8 0 (runBytes r ++ rest) ≡ r .opening
   opening-back h = rw run-shape (number-front 8 (r .opening) _ h)
 
-  pub count-back : length (r .entries) < 256 ^ 2 → number 2 8 (runBytes r ++ rest) ≡ length (r .entries)
+  pub count-back : length (r .entries) < 256 ^ 2 → numberAt 2 8 (runBytes r ++ rest) ≡ length (r .entries)
   count-back h = rw run-shape (number-behind 2 8 (bytesOf 8 (r .opening)) _ (length-bytes 8 (r .opening)) ∙ number-front 2 (length (r .entries)) _ h)
 
   pub run-back : r .opening < 256 ^ 8 → map (λ e. toEntry (entryBytes e)) (r .entries) ≡ r .entries → toRun (length (r .entries)) (runBytes r ++ rest) ≡ r
@@ -72,7 +72,7 @@ entries-written (suc n) {s} l h =
     (entries-written n (omega (arith, length-drop entrySize s)) (drop-bytes entrySize h))
     ∙ sym (take-add entrySize (n * entrySize) s) ∙ ap (λ k. take k s) (let q : entrySize + n * entrySize ≡ suc n * entrySize = omega arith in q)
 
-pub run-written : (n : ℕ) {s : Bytes} → runLength n ≤ length s → number 2 8 s ≡ n → AllBytes s → stored (runBytes (toRun n s)) s ≡ s
+pub run-written : (n : ℕ) {s : Bytes} → runLength n ≤ length s → numberAt 2 8 s ≡ n → AllBytes s → stored (runBytes (toRun n s)) s ≡ s
 unfolding stored
 run-written n {s} l c h =
     ap (λ b. b ++ drop (length b) s) front ∙ ap (λ k. take size s ++ drop k s) (length-take-le size s long) ∙ take-append-drop size s

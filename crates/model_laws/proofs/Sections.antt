@@ -10,13 +10,14 @@ use lib.ListN.{length, drop, length-map, length-append}
 use lib.Seq.{drop-at}
 use borrow.Author.Tests.{ltb-false, le-ltb, eqb-true, eqb-false, not-false}
 use Rattle.definition.specs.Lists.{concat, all, upFrom}
-use Rattle.definition.specs.Bytes.{Bytes, AllBytes, Result, ok, refused, _>>=_, refuseIf, number, bytesOf, chunks}
+use Rattle.definition.specs.Bytes.{Bytes, AllBytes, Result, ok, refused, _>>=_, refuseIf, numberAt, bytesOf, chunks}
 use Rattle.definition.specs.Limits.{countSize}
-use Rattle.definition.specs.File.{Section, sectionCount, section, sectionBytes}
+use Rattle.definition.specs.File.{sectionBytes}
+use Rattle.definition.specs.Pinned.Decoder.{Section, sectionCount, section}
 use Rattle.laws.proofs.Sorting.{and-left, and-right}
 use Rattle.laws.proofs.Lists.{and-true}
 use Rattle.model_laws.proofs.Codec.{take-bytes, drop-bytes, length-bytes, number-front, rows-length, rows-back, length-chunks}
-use Rattle.model_laws.proofs.Sound.{Checked}
+use Rattle.model_laws.proofs.WellFormed.{Checked}
 
 -- ---- checks in a row that end well have all been passed
 
@@ -62,7 +63,7 @@ module _ {A : Type 0} (size : ℕ) (wrong : ℕ → ℕ) (to : Bytes → A) (byt
   count-ok : (s : Bytes) (n : ℕ) → sectionCount size wrong s ≡ ok n → wrong n ≡ 0
   unfolding sectionCount
   count-ok s n e =
-      let k = number countSize 0 s in
+      let k = numberAt countSize 0 s in
       let e₁ = refuse-ok (ltb (length s) countSize) 1 _ n e in
       let e₂ = refuse-ok (ltb 0 (wrong k)) (wrong k) _ n (e₁ .1) in
       let e₃ = refuse-ok (ltb (length s) (countSize + k * size)) 1 _ n (e₂ .1) in
@@ -106,7 +107,7 @@ module _ {A : Type 0} (size : ℕ) (wrong : ℕ → ℕ) (to : Bytes → A) (byt
       let s = (front ++ body) ++ rest in
       let shape : s ≡ front ++ (body ++ rest) = append-assoc front body rest in
       let two = length-bytes countSize n in
-      let counted : number countSize 0 s ≡ n = rw shape (number-front countSize n (body ++ rest) (omega (arith, c .few, small))) in
+      let counted : numberAt countSize 0 s ≡ n = rw shape (number-front countSize n (body ++ rest) (omega (arith, c .few, small))) in
       let whole : length (front ++ body) ≡ countSize + n * size = length-append front body ∙ ap₂ _+_ two (rows-length size bytes sized xs) in
       let all-of-it = length-append (front ++ body) rest in
       let read : map to (chunks n size (drop countSize s)) ≡ xs

@@ -7,75 +7,76 @@ use native.Mathlib.Omega.{arith}
 use lib.ListN.{length}
 use borrow.Author.Tests.{le-ltb, eq-eqb, ne-eqb}
 use Rattle.definition.specs.Lists.{concat}
-use Rattle.definition.specs.Bytes.{Bytes, ok, bytesOf}
+use Rattle.definition.specs.Bytes.{Bytes, ok, bytesOf, laidOut}
 use Rattle.definition.specs.Limits.{maxComponents, maxPhases, maxRules, maxCouplings, componentSize, phaseSize, ruleSize, couplingSize}
 use Rattle.definition.specs.Model.{Component, Phase, Rule, Coupling, Model, slots}
-use Rattle.definition.specs.Records.{messageBytes, toComponent, componentBytes, componentFits, toPhase, phaseBytes, phaseFits, toRule, ruleBytes, ruleFits, toCoupling, couplingBytes, couplingFits}
-use Rattle.definition.specs.File.{componentCount, phaseCount, atMost, phaseTotal, sectionBytes, componentSection, phaseSection, ruleSection, couplingSection, endOfFile, decode, modelBytes}
-use Rattle.model_laws.proofs.Sound.{Sound}
+use Rattle.definition.specs.Records.{componentBytes, phaseBytes, ruleBytes, couplingBytes}
+use Rattle.definition.specs.File.{phaseTotal, sectionBytes, modelBytes}
+use Rattle.definition.specs.Pinned.Decoder.{toComponent, componentFits, toPhase, phaseFits, toRule, ruleFits, toCoupling, couplingFits, componentCountRefusal, phaseCountRefusal, limitRefusal, componentSection, phaseSection, ruleSection, couplingSection, endOfFile, decode}
+use Rattle.model_laws.proofs.WellFormed.{WellFormed}
 use Rattle.model_laws.proofs.Sections.{section-back}
 
 -- ---- sizes
 
-component-size : (k : Component) → length (componentBytes k) ≡ componentSize
-unfolding componentBytes bytesOf concat
+pub component-size : (k : Component) → length (componentBytes k) ≡ componentSize
+unfolding componentBytes laidOut bytesOf
 component-size k = refl
 
-phase-size : (k : Phase) → length (phaseBytes k) ≡ phaseSize
-unfolding phaseBytes slots messageBytes bytesOf concat
+pub phase-size : (k : Phase) → length (phaseBytes k) ≡ phaseSize
+unfolding phaseBytes slots laidOut bytesOf concat
 phase-size k = refl
 
-rule-size : (k : Rule) → length (ruleBytes k) ≡ ruleSize
-unfolding ruleBytes bytesOf
+pub rule-size : (k : Rule) → length (ruleBytes k) ≡ ruleSize
+unfolding ruleBytes laidOut bytesOf
 rule-size k = refl
 
-coupling-size : (k : Coupling) → length (couplingBytes k) ≡ couplingSize
-unfolding couplingBytes bytesOf concat
+pub coupling-size : (k : Coupling) → length (couplingBytes k) ≡ couplingSize
+unfolding couplingBytes laidOut bytesOf
 coupling-size k = refl
 
 -- ---- counts
 
-most-right : (limit n : ℕ) → n ≤ limit → atMost limit n ≡ 0
-unfolding atMost
+most-right : (limit n : ℕ) → n ≤ limit → limitRefusal limit n ≡ 0
+unfolding limitRefusal
 most-right limit n h = rw (le-ltb limit n h)
 
-components-right : (n : ℕ) → 0 < n → n ≤ maxComponents → componentCount n ≡ 0
-unfolding componentCount
+components-right : (n : ℕ) → 0 < n → n ≤ maxComponents → componentCountRefusal n ≡ 0
+unfolding componentCountRefusal
 components-right n z h = rw (le-ltb maxComponents n h, ne-eqb n 0 (λ e. omega arith))
 
-phases-right : (total n : ℕ) → n ≤ maxPhases → n ≡ total → phaseCount total n ≡ 0
-unfolding phaseCount
+phases-right : (total n : ℕ) → n ≤ maxPhases → n ≡ total → phaseCountRefusal total n ≡ 0
+unfolding phaseCountRefusal
 phases-right total n h e = rw (le-ltb maxPhases n h, eq-eqb n total e)
 
 -- ---- the file
 
-module _ (m : Model) (w : Sound m) (rest : Bytes) where
+module _ (m : Model) (w : WellFormed m) (rest : Bytes) where
   components-back : componentSection (sectionBytes componentBytes (m .components) ++ rest) ≡ ok (record { records = m .components; rest = rest })
   unfolding componentSection
   components-back =
-      section-back componentSize componentCount toComponent componentBytes componentFits 4 maxComponents component-size (omega arith) (m .components) rest
+      section-back componentSize componentCountRefusal toComponent componentBytes componentFits 4 maxComponents component-size (omega arith) (m .components) rest
       (components-right (length (m .components)) (w .some-component) (w .components .few)) (w .components)
 
   phases-back : phaseSection (m .components) (sectionBytes phaseBytes (m .phases) ++ rest) ≡ ok (record { records = m .phases; rest = rest })
   unfolding phaseSection
   phases-back =
       let total = phaseTotal (m .components) in
-      section-back phaseSize (phaseCount total) toPhase phaseBytes (phaseFits (m .components)) 6 maxPhases phase-size (omega arith) (m .phases) rest
+      section-back phaseSize (phaseCountRefusal total) toPhase phaseBytes (phaseFits (m .components)) 6 maxPhases phase-size (omega arith) (m .phases) rest
       (phases-right total (length (m .phases)) (w .phases .few) (w .phase-count)) (w .phases)
 
   rules-back : ruleSection (m .components) (sectionBytes ruleBytes (m .rules) ++ rest) ≡ ok (record { records = m .rules; rest = rest })
   unfolding ruleSection
   rules-back =
-      section-back ruleSize (atMost maxRules) toRule ruleBytes (ruleFits (m .components)) 7 maxRules rule-size (omega arith) (m .rules) rest
+      section-back ruleSize (limitRefusal maxRules) toRule ruleBytes (ruleFits (m .components)) 7 maxRules rule-size (omega arith) (m .rules) rest
       (most-right maxRules (length (m .rules)) (w .rules .few)) (w .rules)
 
   couplings-back : couplingSection (m .components) (sectionBytes couplingBytes (m .couplings) ++ rest) ≡ ok (record { records = m .couplings; rest = rest })
   unfolding couplingSection
   couplings-back =
-      section-back couplingSize (atMost maxCouplings) toCoupling couplingBytes (couplingFits (m .components)) 8 maxCouplings coupling-size (omega arith)
+      section-back couplingSize (limitRefusal maxCouplings) toCoupling couplingBytes (couplingFits (m .components)) 8 maxCouplings coupling-size (omega arith)
       (m .couplings) rest (most-right maxCouplings (length (m .couplings)) (w .couplings .few)) (w .couplings)
 
-pub decode-back : (m : Model) → Sound m → decode (modelBytes m) ≡ ok m
+pub decode-back : (m : Model) → WellFormed m → decode (modelBytes m) ≡ ok m
 unfolding decode modelBytes endOfFile
 decode-back m w =
     let d = sectionBytes couplingBytes (m .couplings) ++ [] in

@@ -10,9 +10,10 @@ use Rattle.definition.specs.Lists.{all}
 use Rattle.definition.specs.Bytes.{Bytes}
 use Rattle.definition.specs.Limits.{maxComponents, maxPhases, maxRules, maxCouplings, maxRoutes}
 use Rattle.definition.specs.Model.{Component, Model, noRule, noCoupling}
-use Rattle.definition.specs.Records.{toComponent, componentBytes, componentFits, toPhase, phaseBytes, phaseFits, toRule, ruleBytes, ruleFields, ruleFits, toCoupling, couplingBytes, couplingFields, couplingFits}
+use Rattle.definition.specs.Records.{componentBytes, phaseBytes, ruleBytes, couplingBytes}
 use Rattle.definition.specs.File.{phaseTotal}
 use Rattle.definition.specs.Routes.{routes}
+use Rattle.definition.specs.Pinned.Decoder.{toComponent, componentFits, toPhase, phaseFits, toRule, ruleFields, ruleFits, toCoupling, couplingFields, couplingFits}
 use Rattle.laws.proofs.Sorting.{and-left}
 use Rattle.laws.proofs.Lists.{and-true}
 
@@ -22,7 +23,7 @@ pub record Checked {A : Type 0} (limit : ℕ) (to : Bytes → A) (bytes : A → 
   pub held : map (λ x. to (bytes x)) xs ≡ xs
   pub fit : (i : ℕ) → i < length xs → fits xs i ≡ true
 
-pub record Sound (m : Model) : Type 0 where
+pub record WellFormed (m : Model) : Type 0 where
   pub some-component : 0 < length (m .components)
   pub components : Checked maxComponents toComponent componentBytes componentFits (m .components)
   pub phase-count : length (m .phases) ≡ phaseTotal (m .components)
@@ -32,7 +33,7 @@ pub record Sound (m : Model) : Type 0 where
 
 -- What acceptance gives: soundness, and few routes.
 pub record Accepted (m : Model) : Type 0 where
-  pub sound : Sound m
+  pub sound : WellFormed m
   pub few-routes : length (routes m) ≤ maxRoutes
 
 -- Each component keeps its lines.
@@ -47,7 +48,7 @@ unfolding all
 all-places p d [] h = refl
 all-places p d (x ∷ xs) h = and-true (p x) (all p xs) (h 0 (omega arith)) (all-places p d xs (λ i l. h (suc i) (omega arith)))
 
-module _ (m : Model) (w : Sound m) where
+module _ (m : Model) (w : WellFormed m) where
   pub rules-fit : all (ruleFields (m .components)) (m .rules) ≡ true
   unfolding ruleFits
   rules-fit = all-places (ruleFields (m .components)) noRule (m .rules) (w .rules .fit)
