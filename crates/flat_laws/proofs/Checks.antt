@@ -8,11 +8,11 @@ use native.Mathlib.Omega.{arith}
 use lib.Dec.{leb, ltb, eqb}
 use lib.ListN.{length, drop, length-map}
 use borrow.Author.Tests.{ltb-true, ltb-false, eqb-true, not-false}
-use Rattle.definition.specs.Bytes.{Bytes, ok, refuseIf, number, chunks}
+use Rattle.definition.specs.Bytes.{Bytes, ok, refuseIf, numberAt, chunks}
 use Rattle.definition.specs.Lists.{all}
 use Rattle.definition.specs.Limits.{maxMoment, headSize, entrySize, messageSize, maxGiven}
 use Rattle.definition.specs.Model.{Model, componentAt, atomics}
-use Rattle.definition.specs.SavedRun.{Entry, runLength, toEntry, toRun, entryFits, entriesFit, atomicCount, runOf, fits}
+use Rattle.definition.specs.SavedRun.{Entry, runLength, toEntry, toRun, entryFits, entriesFit, atomicCount, runOf, runFits}
 use Rattle.definition.specs.Engine.{advanceChecks, bagFits, toBag}
 use Rattle.definition.specs.Records.{portFits}
 use Rattle.laws.proofs.Sorting.{clash, and-left, and-right}
@@ -47,10 +47,10 @@ pub run-length : (m : Model) (s : Bytes) → length (runOf m s .entries) ≡ len
 unfolding runOf toRun atomicCount
 run-length m s = length-map (chunks (length (atomics (m .components))) entrySize (drop headSize s)) toEntry ∙ length-chunks (length (atomics (m .components))) entrySize (drop headSize s)
 
-pub fits-good : (m : Model) (s : Bytes) → fits m s ≡ true → Good m (runOf m s .opening) (runOf m s .entries)
-unfolding fits
+pub fits-good : (m : Model) (s : Bytes) → runFits m s ≡ true → Good m (runOf m s .opening) (runOf m s .entries)
+unfolding runFits
 fits-good m s h =
-    let a = leb (runLength (atomicCount m)) (length s) && eqb (number 2 8 s) (atomicCount m) && leb (runOf m s .opening) (suc maxMoment) in
+    let a = leb (runLength (atomicCount m)) (length s) && eqb (numberAt 2 8 s) (atomicCount m) && leb (runOf m s .opening) (suc maxMoment) in
     entries-fresh m (runOf m s .opening) (atomics (m .components)) (runOf m s .entries) (run-length m s) (and-right a _ h)
 
 -- the bag that the checks let in
@@ -60,7 +60,7 @@ bag-fine b h = and-right (eqb (length b % messageSize) 0 && leb (length b) (mess
 
 -- an advance that the checks let through
 pub record LetIn (m : Model) (run : Bytes) (t : ℕ) (bag : Bytes) : Type 0 where
-  pub run-fits : fits m run ≡ true
+  pub run-fits : runFits m run ≡ true
   pub from-opening : runOf m run .opening ≤ t
   pub low-moment : t ≤ maxMoment
   pub bag-ports : all portFits (toBag bag) ≡ true
@@ -69,10 +69,10 @@ pub advance-ok : (m : Model) (run : Bytes) (t : ℕ) (bag : Bytes) → advanceCh
 unfolding advanceChecks
 advance-ok m run t bag h =
     let early = ltb t (runOf m run .opening) in
-    let x = refuse-ok (not (fits m run)) 10 _ tt h in
+    let x = refuse-ok (not (runFits m run)) 10 _ tt h in
     let y = refuse-ok (early || ltb maxMoment t) 11 _ tt (x .1) in
     record {
-      run-fits = not-false (fits m run) (x .0);
+      run-fits = not-false (runFits m run) (x .0);
       from-opening = ltb-false t (runOf m run .opening) (neither early (ltb maxMoment t) (y .0) .0);
       low-moment = ltb-false maxMoment t (neither early (ltb maxMoment t) (y .0) .1);
       bag-ports = bag-fine bag (passed (bagFits bag) (y .1));

@@ -11,7 +11,7 @@ use borrow.Author.Tests.{ltb-true, eqb-true, eqb-false, eq-eqb, ne-eqb}
 use Rattle.definition.specs.Lists.{all}
 use Rattle.definition.specs.Model.{Coupling, Component, isChild, isSibling, componentAt}
 use Rattle.definition.specs.Routes.{portsTo}
-use Rattle.definition.specs.Records.{couplingFields, related}
+use Rattle.definition.specs.Pinned.Decoder.{couplingFields, related}
 use Rattle.definition.specs.Limits.{portCount}
 use Rattle.laws.proofs.Sorting.{clash, and-left, and-right}
 use Rattle.laws.proofs.Lists.{and-true, and-false}

@@ -13,11 +13,12 @@ use borrow.Author.Tests.{eqb-true, lt-ltb, ne-eqb}
 use Rattle.definition.specs.Lists.{concat, keep, upFrom}
 use Rattle.definition.specs.Limits.{maxComponents}
 use Rattle.definition.specs.Model.{Component, Model, noComponent, componentAt, isAtomic, atomics}
-use Rattle.definition.specs.Records.{coupledFields, atomicFields, kindFields, componentFits, bounds, toComponent, componentBytes, placeFits, rootWithin, rootFields}
+use Rattle.definition.specs.Records.{componentBytes}
+use Rattle.definition.specs.Pinned.Decoder.{coupledFields, atomicFields, kindFields, componentFits, bounds, toComponent, placeFits, rootWithin, rootFields}
 use Rattle.definition.specs.Flatten.{renumbered, flatAtomic, flatComponents}
-use Rattle.definition.specs.Bytes.{number, le, bytesOf}
+use Rattle.definition.specs.Bytes.{numberAt, littleEndian, bytesOf, laidOut}
 use Rattle.laws.proofs.Lists.{getD-map}
-use Rattle.model_laws.proofs.Sound.{Sound, ComponentsFit, Checked}
+use Rattle.model_laws.proofs.WellFormed.{WellFormed, ComponentsFit, Checked}
 use Rattle.nest_laws.proofs.Places.{place-below, place-most, take-up}
 use Rattle.nest_laws.proofs.Components.{rooted, atomic-fields, atomics-atomic, no-phases}
 use Rattle.nest_laws.proofs.Renumber.{isListed, listed-occurs, flat-component, all-at}
@@ -69,7 +70,7 @@ concat-keep {A} {B} f p (a ∷ l) h = go (p a) refl (concat-keep f p l h)
     go true e ih = ap (λ k. f a ++ k) ih
     go false e ih = rw (h a e) ih
 
-module _ (m : Model) (w : Sound m) where
+module _ (m : Model) (w : WellFormed m) where
   abbrev cs : List Component
   cs = m .components
 
@@ -128,13 +129,13 @@ module _ (m : Model) (w : Sound m) where
   -- ---- components
 
   component-held : (c : ℕ) → toComponent (componentBytes (flatAtomic (m .components) c)) ≡ flatAtomic (m .components) c
-  unfolding flatAtomic componentAt toComponent componentBytes number le bytesOf concat
+  unfolding flatAtomic componentAt toComponent componentBytes numberAt littleEndian laidOut bytesOf
   component-held c =
       let h = held-at (λ k. toComponent (componentBytes k)) cs noComponent (w .components .held) none c in
       λ i. record { kind = 1; parent = 0; phases = h i .phases; initial = h i .initial; order = h i .order }
     where
       none : toComponent (componentBytes noComponent) ≡ noComponent
-      none = unfold noComponent toComponent componentBytes number le bytesOf concat in refl
+      none = unfold noComponent toComponent componentBytes numberAt littleEndian laidOut bytesOf in refl
 
   -- an atomic under the root
   atomic-fits : (i c : ℕ) → isAtomic (m .components) c ≡ true → componentAt (flatComponents (m .components)) (suc i) ≡ flatAtomic (m .components) c
@@ -148,7 +149,7 @@ module _ (m : Model) (w : Sound m) where
       root-kind = unfold componentAt flatComponents noComponent in refl
 
   components-held : map (λ k. toComponent (componentBytes k)) (flatComponents (m .components)) ≡ flatComponents (m .components)
-  unfolding flatComponents noComponent toComponent componentBytes number le bytesOf concat
+  unfolding flatComponents noComponent toComponent componentBytes numberAt littleEndian laidOut bytesOf
   components-held =
       ap (λ l. noComponent ∷ l)
       (map-map (λ k. toComponent (componentBytes k)) (flatAtomic cs) (atomics cs) ∙ ap (λ (g : ℕ → Component). map g (atomics cs)) (fun-ext component-held))

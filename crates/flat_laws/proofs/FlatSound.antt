@@ -9,16 +9,17 @@ use native.Mathlib.Omega.{arith}
 use lib.Dec.{ltb, eqb}
 use lib.ListN.{length, getD, length-map}
 use borrow.Author.Tests.{ltb-true, lt-ltb, eqb-false, ne-eqb}
-use Rattle.definition.specs.Lists.{all, concat, rises}
+use Rattle.definition.specs.Lists.{all, rises}
 use Rattle.definition.specs.Limits.{maxCouplings, maxRoutes, portCount, maxPhases, maxRules}
 use Rattle.definition.specs.Model.{Component, Coupling, Rule, Model, isAtomic, atomics, isChild, isSibling, couplingLe, noRule, noCoupling}
-use Rattle.definition.specs.Records.{ruleFits, couplingFits, toPhase, phaseBytes, phaseFits, toRule, ruleBytes, ruleFields, toCoupling, couplingBytes, couplingFields, related, notFalling}
+use Rattle.definition.specs.Records.{phaseBytes, ruleBytes, couplingBytes}
 use Rattle.definition.specs.Routes.{routes}
+use Rattle.definition.specs.Pinned.Decoder.{ruleFits, couplingFits, toPhase, phaseFits, toRule, ruleFields, toCoupling, couplingFields, related, notFalling}
 use Rattle.definition.specs.Flatten.{placeIn, renumbered, flatComponents, flatRule, flatRoute, flat}
-use Rattle.definition.specs.Bytes.{number, le, bytesOf}
+use Rattle.definition.specs.Bytes.{numberAt, littleEndian, bytesOf, laidOut}
 use Rattle.laws.proofs.Sorting.{clash, and-left, and-right, rises-sort, coupling-order}
 use Rattle.laws.proofs.Lists.{and-true, or-right, all-if, all-map, all-perm, map-cong-if, length-perm, sort-permutes, getD-map}
-use Rattle.model_laws.proofs.Sound.{Sound, ComponentsFit, Checked}
+use Rattle.model_laws.proofs.WellFormed.{WellFormed, ComponentsFit, Checked}
 use Rattle.model_laws.proofs.PhaseRange.{length-bounds}
 use Rattle.model_laws.proofs.Codec.{le-bytes}
 use Rattle.nest_laws.proofs.Renumber.{listed-atomic, new-root, new-atomic, new-eqb, all-at}
@@ -43,7 +44,7 @@ not-falling (k ∷ []) h (suc i) b = absurd (omega arith)
 not-falling (k ∷ l ∷ ks) h (suc zero) b = and-left (couplingLe k l) _ h
 not-falling (k ∷ l ∷ ks) h (suc (suc i)) b = not-falling (l ∷ ks) (and-right (couplingLe k l) _ h) (suc i) (omega arith)
 
-module _ (m : Model) (w : Sound m) where
+module _ (m : Model) (w : WellFormed m) where
   abbrev cs : List Component
   cs = m .components
 
@@ -65,7 +66,7 @@ module _ (m : Model) (w : Sound m) where
   -- ---- rules
 
   rule-held : (k : Rule) → toRule (ruleBytes k) ≡ k → toRule (ruleBytes (flatRule (m .components) k)) ≡ flatRule (m .components) k
-  unfolding flatRule toRule ruleBytes number le bytesOf
+  unfolding flatRule toRule ruleBytes numberAt littleEndian laidOut bytesOf
   rule-held k h = λ i. record {
     component = le-bytes 1 (renumbered cs (k .component)) (new-byte m w (k .component)) i;
     phase = h i .phase;
@@ -146,7 +147,7 @@ module _ (m : Model) (w : Sound m) where
       ∙ all-if (routeFits m w) (λ k. couplingFields (flatComponents cs) (flatRoute cs k)) (routes m) route-fits (routes-fit m w)
 
   coupling-held : (k : Coupling) → couplingFields (flatComponents (m .components)) k ≡ true → toCoupling (couplingBytes k) ≡ k
-  unfolding toCoupling couplingBytes number le bytesOf concat
+  unfolding toCoupling couplingBytes numberAt littleEndian laidOut bytesOf
   coupling-held k h =
       let f = fitting (flatComponents cs) k h in
       let few = components-checked m w .few in
@@ -166,7 +167,7 @@ module _ (m : Model) (w : Sound m) where
         (not-falling (flat m .couplings) (unfold flat in (rises-sort couplingLe coupling-order (map (flatRoute cs) (routes m)))) i b));
   }
 
-  pub flat-sound : length (routes m) ≤ maxRoutes → Sound (flat m)
+  pub flat-sound : length (routes m) ≤ maxRoutes → WellFormed (flat m)
   unfolding flat
   flat-sound few = record {
     some-component = omega (arith, flat-length m w);

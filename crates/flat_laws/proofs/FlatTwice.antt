@@ -14,11 +14,12 @@ use Rattle.definition.specs.Lists.{upFrom, sortBy}
 use Rattle.definition.specs.Limits.{maxRoutes}
 use Rattle.definition.specs.Model.{Component, Coupling, Rule, Model, noComponent, componentAt, isAtomic, atomics, children, couplingLe, leaf, forest, treeAt}
 use Rattle.definition.specs.File.{modelBytes}
-use Rattle.definition.specs.Routes.{routes, accepted}
+use Rattle.definition.specs.Routes.{routes}
+use Rattle.definition.specs.Pinned.Decoder.{accepted}
 use Rattle.definition.specs.Flatten.{placeIn, renumbered, flatAtomic, flatComponents, flatRule, flatRoute, flat}
 use Rattle.laws.proofs.Sorting.{sort-perm, coupling-order}
 use Rattle.laws.proofs.Lists.{or-right, all-every, all-map, map-cong-if, length-perm, sort-permutes}
-use Rattle.model_laws.proofs.Sound.{Sound, Accepted}
+use Rattle.model_laws.proofs.WellFormed.{WellFormed, Accepted}
 use Rattle.model_laws.proofs.Writing.{decode-back}
 use Rattle.nest_laws.proofs.Places.{place-up, place-most}
 use Rattle.nest_laws.proofs.Components.{atomics-atomic, partsOfRoot}
@@ -41,10 +42,10 @@ leaf-at zero cs c e = refl
 leaf-at (suc fuel) cs c e = rw e
 
 module _ (m : Model) (a : Accepted m) where
-  abbrev w : Sound m
+  abbrev w : WellFormed m
   w = a .sound
 
-  abbrev v : Sound (flat m)
+  abbrev v : WellFormed (flat m)
   v = flat-sound m (a .sound) (a .few-routes)
 
   level : partsOfRoot (flat m) ≡ forest (map leaf (atomics (flat m .components)))

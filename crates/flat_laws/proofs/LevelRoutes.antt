@@ -13,13 +13,13 @@ use borrow.Author.Tests.{ltb-true, eqb-true, eqb-false, eq-eqb, ne-eqb}
 use Rattle.definition.specs.Lists.{concat, upFrom}
 use Rattle.definition.specs.Limits.{portCount}
 use Rattle.definition.specs.Model.{Component, Coupling, Model, isAtomic, atomics, couplingLe, leaf, node, forest}
-use Rattle.definition.specs.Records.{couplingFields}
 use Rattle.definition.specs.Routes.{Port, portsTo, endsIn, endsFrom, joined, joinedAll, waysFrom, waysFromAll, rootEnds, routes}
+use Rattle.definition.specs.Pinned.Decoder.{couplingFields}
 use Rattle.laws.proofs.Sorting.{clash, and-left, and-right, coupling-order}
 use Rattle.laws.proofs.Sums.{sumOf, sum-append, sum-map, sum-concat, sum-add, sum-cong, sum-swap}
 use Rattle.laws.proofs.Bags.{points-perm}
 use Rattle.laws.proofs.Lists.{sum-cong-if, count-none, count-sum}
-use Rattle.model_laws.proofs.Sound.{Sound, couplings-fit}
+use Rattle.model_laws.proofs.WellFormed.{WellFormed, couplings-fit}
 use Rattle.nest_laws.proofs.Numbers.{sum-if}
 use Rattle.nest_laws.proofs.Occurs.{once-up, pick-none, pick-one}
 use Rattle.nest_laws.proofs.Kin.{Rooted}
@@ -70,7 +70,7 @@ module _ (g : Coupling → ℕ) where
 
   module _ (ks : List Coupling) where
     -- the ends at the component d alone
-    single-sum : (s n d : ℕ) (end : ℕ → List Port) → ((r : ℕ) → end r ≡ record { component = d; number = r } ∷ [])
+    single-sum : (s n d : ℕ) (end : ℕ → List Port) → ((r : ℕ) → end r ≡ record { component = d; port = r } ∷ [])
         → sumOf (λ e. g (joined s n e)) (concat (map end (portsTo ks s d n))) ≡ sumOf (here s n d) ks
     unfolding joined sumOf
     single-sum s n d end one =
@@ -118,7 +118,7 @@ module _ (g : Coupling → ℕ) where
 
 -- ---- each coupling is one route
 
-module _ (m : Model) (w : Sound m) (level : partsOfRoot m ≡ forest (map leaf (atomics (m .components))))
+module _ (m : Model) (w : WellFormed m) (level : partsOfRoot m ≡ forest (map leaf (atomics (m .components))))
     (known : (c : ℕ) → c < length (m .components) → isListed (m .components) c ≡ true) where
   abbrev cs : List Component
   cs = m .components

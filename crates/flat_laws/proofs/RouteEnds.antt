@@ -13,7 +13,7 @@ use Rattle.definition.specs.Routes.{portsTo, endsIn, joinedAll, waysFrom, rootE
 use Rattle.definition.specs.Limits.{portCount}
 use Rattle.laws.proofs.Sorting.{and-left, and-right}
 use Rattle.laws.proofs.Lists.{and-true, all-if, all-append}
-use Rattle.model_laws.proofs.Sound.{Sound, couplings-fit}
+use Rattle.model_laws.proofs.WellFormed.{WellFormed, couplings-fit}
 use Rattle.nest_laws.proofs.Trees.{leavesT}
 use Rattle.nest_laws.proofs.Occurs.{occurs, all-occurs}
 use Rattle.nest_laws.proofs.Kin.{Rooted}
@@ -25,7 +25,7 @@ use Rattle.flat_laws.proofs.Couplings.{to-self, ports-reached}
 
 -- ---- the routes of a sound model
 
-module _ (m : Model) (w : Sound m) where
+module _ (m : Model) (w : WellFormed m) where
   abbrev wood : Rooted (m .components)
   wood = rooted (m .components) (w .components .fit) (w .some-component)
 

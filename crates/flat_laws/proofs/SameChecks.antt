@@ -10,16 +10,16 @@ use Rattle.definition.specs.Bytes.{Bytes}
 use Rattle.definition.specs.Lists.{all}
 use Rattle.definition.specs.Model.{Model, componentAt, isAtomic, atomics}
 use Rattle.definition.specs.Devs.{Time}
-use Rattle.definition.specs.SavedRun.{Entry, toRun, notBefore, entryFits, entriesFit, atomicCount, runOf, fits}
+use Rattle.definition.specs.SavedRun.{Entry, toRun, notBefore, entryFits, entriesFit, atomicCount, runOf, runFits}
 use Rattle.definition.specs.Flatten.{renumbered, flatAtomic, flat}
 use Rattle.definition.specs.Engine.{startRun, advanceChecks, readingChecks}
 use Rattle.laws.proofs.Sorting.{and-left, and-right}
 use Rattle.laws.proofs.Lists.{map-cong-if}
-use Rattle.model_laws.proofs.Sound.{Sound}
+use Rattle.model_laws.proofs.WellFormed.{WellFormed}
 use Rattle.nest_laws.proofs.Components.{atomics-atomic}
 use Rattle.nest_laws.proofs.Renumber.{flat-atomics, new-atomics, flat-component, flat-due}
 
-module _ (m : Model) (w : Sound m) where
+module _ (m : Model) (w : WellFormed m) where
   pub same-count : atomicCount (flat m) ≡ atomicCount m
   unfolding atomicCount
   same-count = ap length (new-atomics m w) ∙ length-map (atomics (m .components)) (renumbered (m .components))
@@ -43,8 +43,8 @@ module _ (m : Model) (w : Sound m) where
   same-entries o (c ∷ cs) (r ∷ rs) h =
       rw (same-entry o c r (and-left (isAtomic (m .components) c) _ h), same-entries o cs rs (and-right (isAtomic (m .components) c) _ h))
 
-  pub same-fits : (s : Bytes) → fits (flat m) s ≡ fits m s
-  unfolding fits
+  pub same-fits : (s : Bytes) → runFits (flat m) s ≡ runFits m s
+  unfolding runFits
   same-fits s =
       let r = runOf m s in
       rw (

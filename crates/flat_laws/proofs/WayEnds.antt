@@ -57,7 +57,7 @@ named-others i a (more t f) =
 
 module _ (ks : List Coupling) (reached : (i d n : ℕ) → all (λ r. ltb r portCount) (portsTo ks i d n) ≡ true) (self : (i n : ℕ) → portsTo ks i i n ≡ []) where
   unfoldable pub endFits : (ℕ → Bool) → Port → Bool
-  endFits p e = p (e .component) && ltb (e .number) portCount
+  endFits p e = p (e .component) && ltb (e .port) portCount
 
   -- the parts of a forest all of whose leaves pass, and perhaps the part i itself
   abbrev pub Beside : (ℕ → Bool) → ℕ → Forest → Type 0
@@ -93,7 +93,7 @@ module _ (ks : List Coupling) (reached : (i d n : ℕ) → all (λ r. ltb r port
     other a d = good d && not (eqb a d)
 
     unfoldable pub wayFits : Coupling → Bool
-    wayFits k = good (k .source) && ltb (k .sourcePort) portCount && endFits (other (k .source)) (record { component = k .target; number = k .targetPort })
+    wayFits k = good (k .source) && ltb (k .sourcePort) portCount && endFits (other (k .source)) (record { component = k .target; port = k .targetPort })
 
     abbrev pub EndsFor : (ℕ → List Port) → Tree → Type 0
     EndsFor ends t = (a : ℕ) → 0 < occurs a (leavesT t) → (n : ℕ) → ltb n portCount ≡ true → all (endFits (other a)) (ends n) ≡ true

@@ -11,12 +11,12 @@ use borrow.Author.Tests.{leb-true, le-leb, eqb-true, ltb-true, ltb-false, not-tr
 use Rattle.definition.specs.Lists.{concat, all, upFrom}
 use Rattle.definition.specs.Limits.{maxAncestors, portCount}
 use Rattle.definition.specs.Model.{Component, Coupling, Model, componentAt, isAtomic, isChild, children, Tree, Forest, leaf, node, stop, more, nameOf, forest, treeAt, tree}
-use Rattle.definition.specs.Records.{rootWithin}
 use Rattle.definition.specs.Routes.{portsTo}
+use Rattle.definition.specs.Pinned.Decoder.{rootWithin}
 use Rattle.laws.proofs.Sorting.{and-left, and-right, clash}
 use Rattle.laws.proofs.Lists.{all-append, all-if, all-map, all-concat}
 use Rattle.nest_laws.proofs.Occurs.{kept-tests}
-use Rattle.model_laws.proofs.Sound.{Sound}
+use Rattle.model_laws.proofs.WellFormed.{WellFormed}
 use Rattle.nest_laws.proofs.Components.{near-root}
 use Rattle.flat_laws.proofs.WayShape.{Reached, oneMore, downIn, downFrom, Counted, countedFrom, countedAll, waysOut, waysOutAll, rootReached, countedRoutes}
 
@@ -93,7 +93,7 @@ module _ (ks : List Coupling) where
 
 -- ---- the tree of a model
 
-module _ (m : Model) (w : Sound m) where
+module _ (m : Model) (w : WellFormed m) where
   abbrev cs : List Component
   cs = m .components
 

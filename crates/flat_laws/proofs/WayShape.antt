@@ -21,7 +21,7 @@ oneMore w = record { end = w .end; couplings = suc (w .couplings) }
 -- Down from input port q of a component, which is k couplings on; and from port q of i, which is, to the components of a forest.
 unfoldable mutual
   pub downIn : List Coupling → ℕ → Tree → ℕ → List Reached
-  downIn ks k (leaf c) q = record { end = record { component = c; number = q }; couplings = k } ∷ []
+  downIn ks k (leaf c) q = record { end = record { component = c; port = q }; couplings = k } ∷ []
   downIn ks k (node c f) q = downFrom ks k c f q
 
   pub downFrom : List Coupling → ℕ → ℕ → Forest → ℕ → List Reached
@@ -50,7 +50,7 @@ unfoldable mutual
   waysOutAll ks ends (more t f) = waysOut ks (ends (nameOf t)) t ++ waysOutAll ks ends f
 
 unfoldable pub rootReached : ℕ → List Reached
-rootReached q = record { end = record { component = 0; number = q }; couplings = 0 } ∷ []
+rootReached q = record { end = record { component = 0; port = q }; couplings = 0 } ∷ []
 
 unfoldable pub countedRoutes : Model → List Counted
 countedRoutes m = countedAll 0 (downIn (m .couplings) 0 (tree m)) ++ waysOut (m .couplings) rootReached (tree m)

@@ -8,12 +8,12 @@ use mathlib.Core.Bool.{Bool, true, false, cond}
 use native.Mathlib.Omega.{arith}
 use native.Mathlib.Nat.{add-zero, zero-add}
 use Rattle.definition.specs.Model.{Bag, Coupling, Model, phaseAt, outputs, Tree, Forest, leaf, node, stop, more, nameOf}
-use Rattle.definition.specs.Devs.{Time, finite, earlier, left, later, sameTime, ticks, Totals, translate, sigma, least, outputsTo, changed, changedAll, resultantOut, resultantInt, resultantExt, resultantCon, transition}
+use Rattle.definition.specs.Devs.{Time, finite, earlier, remaining, later, sameTime, ticks, Totals, translate, sigma, leastSigma, outputsTo, changed, changedAll, resultantOut, resultantInt, resultantExt, resultantCon, transition}
 use Rattle.definition.specs.Atomic.{advanceOf, internal, external, confluent, devsOf, partsOf}
 use Rattle.definition.specs.SavedRun.{Entry, dueOf, dueAt, dueAll}
 use Rattle.definition.specs.Step.{elapsed, load, loadAll}
 use Rattle.definition.specs.FlatMachine.{moved}
-use Rattle.definition.specs.Demands.{Stands, StandsAll}
+use Rattle.definition.specs.Carrying.{Stands, StandsAll}
 use Rattle.nest_laws.proofs.Times.{later-add, later-earlier, left-earlier, spent-left, same-later, never-later, imminent, left-due}
 use Rattle.nest_laws.proofs.Nest.{Ready, ReadyAll, ready-due, due, outOf, outTo, NoneDue, none-due, out-none}
 
@@ -35,35 +35,35 @@ module _ (m : Model) (at : ℕ → Entry) (now : ℕ) where
   -- ---- what is left of a component's advance
 
   mutual
-    unfolding dueAt sigma least dueOf
+    unfolding dueAt sigma leastSigma dueOf
 
-    pub ta-stands : (t : Tree) (e : ℕ) (s : devsOf m t .State) → Stands m at now e t s → Ready m at now t → devsOf m t .ta s ≡ later e (left (dueAt m at t) now)
+    pub ta-stands : (t : Tree) (e : ℕ) (s : devsOf m t .State) → Stands m at now e t s → Ready m at now t → devsOf m t .ta s ≡ later e (remaining (dueAt m at t) now)
     ta-stands (leaf c) e s h r = ap (advanceOf m c) (h .0) ∙ spent-left (at c .last) e now (advanceOf m c (at c .phase)) (h .1) (r .1)
     ta-stands (node c f) e s h r = least-stands f e s h r
 
-    least-stands : (f : Forest) (e : ℕ) (s : Totals (partsOf m f)) → StandsAll m at now e f s → ReadyAll m at now f → least (partsOf m f) s ≡ later e (left (dueAll m at f) now)
+    least-stands : (f : Forest) (e : ℕ) (s : Totals (partsOf m f)) → StandsAll m at now e f s → ReadyAll m at now f → leastSigma (partsOf m f) s ≡ later e (remaining (dueAll m at f) now)
     least-stands stop e s h r = never-later e now
     least-stands (more t f) e s h r =
-        ap₂ earlier (ap (λ u. left u (s .0 .1)) (ta-stands t (e + s .0 .1) (s .0 .0) (h .0) (r .0)) ∙ later-add e (s .0 .1) (left (dueAt m at t) now)) (least-stands f e (s .1) (h .1) (r .1))
-        ∙ sym (later-earlier e (left (dueAt m at t) now) (left (dueAll m at f) now)) ∙ ap (later e) (sym (left-earlier (dueAt m at t) (dueAll m at f) now))
+        ap₂ earlier (ap (λ u. remaining u (s .0 .1)) (ta-stands t (e + s .0 .1) (s .0 .0) (h .0) (r .0)) ∙ later-add e (s .0 .1) (remaining (dueAt m at t) now)) (least-stands f e (s .1) (h .1) (r .1))
+        ∙ sym (later-earlier e (remaining (dueAt m at t) now) (remaining (dueAll m at f) now)) ∙ ap (later e) (sym (left-earlier (dueAt m at t) (dueAll m at f) now))
 
   -- a component's advance is over just when it is due
   pub over-stands : (t : Tree) (e : ℕ) (s : devsOf m t .State) → Stands m at now e t s → Ready m at now t → sameTime (devsOf m t .ta s) (finite e) ≡ due m at now t
   unfolding due
   over-stands t e s h r =
       ap (λ u. sameTime u (finite e)) (ta-stands t e s h r)
-      ∙ same-later e (left (dueAt m at t) now) ∙ imminent now (dueAt m at t) (ready-due m at now t r)
+      ∙ same-later e (remaining (dueAt m at t) now) ∙ imminent now (dueAt m at t) (ready-due m at now t r)
 
   -- a part is imminent just when it is due, where the coupled component it stands in has e to go
   imminent-stands : (t : Tree) (e : ℕ) (s : devsOf m t .State × ℕ) → Stands m at now (e + s .1) t (s .0) → Ready m at now t → sameTime (sigma (devsOf m t) s) (finite e) ≡ due m at now t
   unfolding sigma due
   imminent-stands t e s h r =
-      ap (λ u. sameTime (left u (s .1)) (finite e)) (ta-stands t (e + s .1) (s .0) h r)
-      ∙ ap (λ u. sameTime u (finite e)) (later-add e (s .1) (left (dueAt m at t) now))
-      ∙ same-later e (left (dueAt m at t) now) ∙ imminent now (dueAt m at t) (ready-due m at now t r)
+      ap (λ u. sameTime (remaining u (s .1)) (finite e)) (ta-stands t (e + s .1) (s .0) h r)
+      ∙ ap (λ u. sameTime u (finite e)) (later-add e (s .1) (remaining (dueAt m at t) now))
+      ∙ same-later e (remaining (dueAt m at t) now) ∙ imminent now (dueAt m at t) (ready-due m at now t r)
 
   -- a coupled component that is due has as much to go as it has spent
-  due-least : (f : Forest) (e : ℕ) (s : Totals (partsOf m f)) → StandsAll m at now e f s → ReadyAll m at now f → sameTime (dueAll m at f) (finite now) ≡ true → least (partsOf m f) s ≡ finite e
+  due-least : (f : Forest) (e : ℕ) (s : Totals (partsOf m f)) → StandsAll m at now e f s → ReadyAll m at now f → sameTime (dueAll m at f) (finite now) ≡ true → leastSigma (partsOf m f) s ≡ finite e
   unfolding later
   due-least f e s h r d = least-stands f e s h r ∙ ap (later e) (left-due now (dueAll m at f) d) ∙ ap finite (add-zero e)
 
@@ -151,7 +151,7 @@ module _ (m : Model) (at : ℕ → Entry) (now : ℕ) where
     new-due : (c : ℕ) (f : Forest) (s : Totals (partsOf m f)) (e : ℕ) (x : Bag) → StandsAll m at now e f s → ReadyAll m at now f → NewAll f s
         → due m at now (node c f) ≡ true → On (node c f) x → (input : Time → ℕ → Bag)
         → ((d : ℕ) → input (finite e) d ≡ outTo m at now f d ++ translate (m .couplings) c d x)
-        → (let u = least (partsOf m f) s in StandsAll m on now 0 f (changedAll (λ v. sameTime v u) (input u) (ticks u) (partsOf m f) s))
+        → (let u = leastSigma (partsOf m f) s in StandsAll m on now 0 f (changedAll (λ v. sameTime v u) (input u) (ticks u) (partsOf m f) s))
     unfolding NewAll due dueAt ticks
     new-due c f s e x h r ih d o input same =
         subst (λ (u : Time). StandsAll m on now 0 f (changedAll (λ v. sameTime v u) (input u) (ticks u) (partsOf m f) s)) (sym (due-least f e s h r d))

@@ -16,7 +16,7 @@ use Rattle.definition.specs.Flatten.{renumbered, flatRoute, flat}
 use Rattle.definition.specs.FlatMachine.{Sent, sent, dueNow, putOut, reaching, arriving}
 use Rattle.laws.proofs.Sums.{sumOf, sum-append, sum-map, sum-concat, sum-cong, sum-cond}
 use Rattle.laws.proofs.Lists.{sum-cong-if, sum-map-of, sum-perm, sort-permutes}
-use Rattle.model_laws.proofs.Sound.{Sound}
+use Rattle.model_laws.proofs.WellFormed.{WellFormed}
 use Rattle.model_laws.proofs.PhaseRange.{outputs-fit}
 use Rattle.nest_laws.proofs.Pairs.{paired, paired-map, paired-cong-if, paired-lookUp}
 use Rattle.nest_laws.proofs.Trees.{only-in}
@@ -66,7 +66,7 @@ put-sum m now g (c ∷ cs) (r ∷ rs) =
 
 -- ---- the flat form's couplings are the routes
 
-module _ (m : Model) (w : Sound m) (a : ℕ) (weigh : Message → ℕ) (listed : isListed (m .components) a ≡ true) where
+module _ (m : Model) (w : WellFormed m) (a : ℕ) (weigh : Message → ℕ) (listed : isListed (m .components) a ≡ true) where
   -- what they carry of the message y of s to a, by the new numbers
   flatCarry : ℕ → Message → ℕ
   flatCarry s y = sumOf (weight (renumbered (m .components) a) weigh s y) (flat m .couplings)

@@ -18,7 +18,7 @@ use Rattle.definition.specs.Routes.{endsIn, rootEnds, routes}
 use Rattle.definition.specs.SavedRun.{Entry}
 use Rattle.laws.proofs.Sums.{sumOf, sum-le, sum-scale, sum-swap, sum-cond}
 use Rattle.laws.proofs.Lists.{sum-cong-if, count-sum, count-none}
-use Rattle.model_laws.proofs.Sound.{Sound}
+use Rattle.model_laws.proofs.WellFormed.{WellFormed}
 use Rattle.model_laws.proofs.PhaseRange.{outputs-fit}
 use Rattle.nest_laws.proofs.Occurs.{occurs}
 use Rattle.nest_laws.proofs.Trees.{only-in}
@@ -86,9 +86,9 @@ module _ (m : Model) (a : ℕ) where
 
 outputs-few : (p : Phase) → length (outputs p) ≤ maxOutputs
 unfolding outputs slots
-outputs-few p = omega (arith, length-take (p .count) (slots p))
+outputs-few p = omega (arith, length-take (p .outputCount) (slots p))
 
-module _ (m : Model) (w : Sound m) (at : ℕ → Entry) (now : ℕ) (ready : Ready m at now (root m)) where
+module _ (m : Model) (w : WellFormed m) (at : ℕ → Entry) (now : ℕ) (ready : Ready m at now (root m)) where
   -- what an atomic sends
   sends : ℕ → Bag
   sends s = cond (due m at now (leaf s)) (outs m at now s) []

@@ -35,7 +35,7 @@ one-port g y h =
 module _ (ks : List Coupling) (a : ℕ) (weigh : Message → ℕ) where
   end-weight : (c q s : ℕ) (y : Message) (e : Port) → weight a weigh s y (joined c q e) ≡ cond (eqb c s) (cond (eqb q (y .port)) (hit a weigh (y .value) e) 0) 0
   unfolding weight joined hit
-  end-weight c q s y e = go (eqb c s) (eqb q (y .port)) (eqb (e .component) a) (weigh (record { port = e .number; value = y .value }))
+  end-weight c q s y e = go (eqb c s) (eqb q (y .port)) (eqb (e .component) a) (weigh (record { port = e .port; value = y .value }))
     where
       go : (b c d : Bool) (n : ℕ) → cond (b && c && d) n 0 ≡ cond b (cond c (cond d n 0) 0) 0
       go false c d n = refl

@@ -11,7 +11,7 @@ use Rattle.definition.specs.Records.{portFits}
 use Rattle.definition.specs.Routes.{endsIn, joinedAll, waysFrom, rootEnds, routes}
 use Rattle.laws.proofs.Sums.{sumOf, sum-append, sum-zero, sum-cong}
 use Rattle.laws.proofs.Lists.{all-if}
-use Rattle.model_laws.proofs.Sound.{Sound}
+use Rattle.model_laws.proofs.WellFormed.{WellFormed}
 use Rattle.nest_laws.proofs.Numbers.{eqb-sym}
 use Rattle.nest_laws.proofs.Trees.{leavesT, OnlyIn, only-in}
 use Rattle.nest_laws.proofs.Components.{rooted, root-not, root, shape, leaves}
@@ -31,7 +31,7 @@ root-hits a weigh x = go (eqb 0 a) refl
 unfoldable pub carry : Model → ℕ → (Message → ℕ) → ℕ → Message → ℕ
 carry m a weigh s y = sumOf (weight a weigh s y) (routes m)
 
-module _ (m : Model) (w : Sound m) where
+module _ (m : Model) (w : WellFormed m) where
   -- 0 is no leaf
   no-root : OnlyIn (λ c. not (eqb c 0)) (root m)
   no-root =

@@ -12,11 +12,11 @@ use borrow.Author.Tests.{ltb-true, ltb-false, eqb-true, eq-eqb, ne-eqb}
 use Rattle.definition.specs.Lists.{all, upFrom}
 use Rattle.definition.specs.Limits.{maxAncestors}
 use Rattle.definition.specs.Model.{Tree, Component, Model, noComponent, componentAt, isAtomic, atomics, isChild, children, Forest, leaf, node, forest, treeAt, tree}
-use Rattle.definition.specs.Records.{coupledFields, atomicFields, kindFields, rootFields, rootWithin, placeFits, componentFits}
+use Rattle.definition.specs.Pinned.Decoder.{coupledFields, atomicFields, kindFields, rootFields, rootWithin, placeFits, componentFits}
 use Rattle.laws.proofs.Sorting.{clash, and-left, and-right}
 use Rattle.laws.proofs.Bags.{points-perm}
 use Rattle.laws.proofs.Lists.{all-keep, count-none}
-use Rattle.model_laws.proofs.Sound.{ComponentsFit, Sound}
+use Rattle.model_laws.proofs.WellFormed.{ComponentsFit, WellFormed}
 use Rattle.nest_laws.proofs.Occurs.{occurs, kept-tests, kept-once}
 use Rattle.nest_laws.proofs.Trees.{leavesT, forest-all}
 use Rattle.nest_laws.proofs.Kin.{par, Rooted, leaf-once, child-above}
@@ -180,7 +180,7 @@ tree-shape m e = rw e
 abbrev pub root : Model → Tree
 root m = node 0 (partsOfRoot m)
 
-module _ (m : Model) (w : Sound m) where
+module _ (m : Model) (w : WellFormed m) where
   pub shape : tree m ≡ root m
   shape = tree-shape m (rooted (m .components) (w .components .fit) (w .some-component) .root-coupled)
 

@@ -14,7 +14,7 @@ use Rattle.definition.specs.Atomic.{external, confluent, ledTo, devsOf, partsOf
 use Rattle.definition.specs.SavedRun.{Entry}
 use Rattle.definition.specs.Step.{leavesOf, leavesOfAll, assoc, unload}
 use Rattle.definition.specs.FlatMachine.{moved}
-use Rattle.definition.specs.Demands.{Stands, StandsAll}
+use Rattle.definition.specs.Carrying.{Stands, StandsAll}
 use Rattle.laws.proofs.Bags.{count-append, deciding-same}
 use Rattle.laws.proofs.Lists.{map-cong-if, all-keep}
 use Rattle.nest_laws.proofs.Numbers.{eqb-sym, same-length}

@@ -4,14 +4,14 @@
 use mathlib.Core.Path.{_≡_, refl, sym, ap, ap₂, _∙_, fun-ext}
 use Prim.Native.Nat.{ℕ, _+_}
 use mathlib.Core.List.{List, [], _∷_, _++_, map, append-nil}
-use mathlib.Core.Bool.{Bool, true, false, cond}
+use mathlib.Core.Bool.{Bool, true, false, _&&_, cond}
 use native.Mathlib.Omega.{arith}
 use native.Mathlib.Nat.{add-zero}
 use lib.Dec.{eqb}
 use Rattle.definition.specs.Lists.{concat}
 use Rattle.definition.specs.Model.{Message, Bag, Coupling, Model, phaseAt, Tree, Forest, leaf, node, stop, more, nameOf, outputs}
 use Rattle.definition.specs.Routes.{portsTo, Port, endsIn, endsFrom}
-use Rattle.definition.specs.Devs.{through, translate}
+use Rattle.definition.specs.Devs.{translateOne, translate}
 use Rattle.definition.specs.SavedRun.{Entry}
 use Rattle.nest_laws.proofs.Nest.{outDue, out-due, bagAt, bagAtAll, Ready, ReadyAll, due, outOf, outTo}
 use Rattle.laws.proofs.Sums.{sumOf, sum-append, sum-map, sum-concat, sum-add, sum-zero, sum-cong}
@@ -31,13 +31,28 @@ unfolding over
 over-zero stop = refl
 over-zero (more t f) = let k = over-zero f in omega arith
 
+abbrev withValue : ℕ → ℕ → Message
+withValue v q = record { port = q; value = v }
+
+-- a message goes to the ports that the couplings lead to
+pub translate-ports : (ks : List Coupling) (i d : ℕ) (x : Message) → translateOne ks i d x ≡ map (λ q. record { port = q; value = x .value }) (portsTo ks i d (x .port))
+unfolding translateOne portsTo
+translate-ports [] i d x = refl
+translate-ports (k ∷ ks) i d x = rw (translate-ports ks i d x) (go (eqb (k .source) i && eqb (k .target) d && eqb (k .sourcePort) (x .port)) (portsTo ks i d (x .port)))
+  where
+    go : (b : Bool) (qs : List ℕ) → cond {A = Bag} b (withValue (x .value) (k .targetPort) ∷ map (withValue (x .value)) qs) (map (withValue (x .value)) qs)
+        ≡ map (withValue (x .value)) (cond b (k .targetPort ∷ qs) qs)
+    go true qs = refl
+    go false qs = refl
+
 -- a sum over translated messages
 pub translate-sum : (ks : List Coupling) (i d : ℕ) (g : Message → ℕ) (x : Bag)
     → sumOf g (translate ks i d x) ≡ sumOf (λ y. sumOf (λ q. g (record { port = q; value = y .value })) (portsTo ks i d (y .port))) x
-unfolding translate through sumOf
+unfolding translate sumOf
 translate-sum ks i d g [] = refl
 translate-sum ks i d g (y ∷ x) =
-    sum-append g (through ks i d y) (translate ks i d x) ∙ ap₂ _+_ (sum-map g _ (portsTo ks i d (y .port))) (translate-sum ks i d g x)
+    sum-append g (translateOne ks i d y) (translate ks i d x)
+    ∙ ap₂ _+_ (ap (sumOf g) (translate-ports ks i d y) ∙ sum-map g _ (portsTo ks i d (y .port))) (translate-sum ks i d g x)
 
 translate-cond : (ks : List Coupling) (i d : ℕ) (b : Bool) (x : Bag) → translate ks i d (cond b x []) ≡ cond b (translate ks i d x) []
 unfolding translate
@@ -46,7 +61,7 @@ translate-cond ks i d false x = refl
 
 -- An end counts with the weight of the message that it gets, where it is a port of a.
 unfoldable pub hit : ℕ → (Message → ℕ) → ℕ → Port → ℕ
-hit a weigh v e = cond (eqb (e .component) a) (weigh (record { port = e .number; value = v })) 0
+hit a weigh v e = cond (eqb (e .component) a) (weigh (record { port = e .port; value = v })) 0
 
 -- What a bag brings to a, where `ends q` has the ends of the ways from port q.
 unfoldable pub hits : ℕ → (Message → ℕ) → (ℕ → List Port) → Bag → ℕ

@@ -11,7 +11,7 @@ use lib.ListN.{length, take, getD, length-map}
 use borrow.Author.Tests.{eqb-true, eq-eqb, ne-eqb}
 use Rattle.definition.specs.Lists.{all, keep, upFrom, sum, count}
 use Rattle.definition.specs.Model.{Bag, Component, Rule, Model, noComponent, noPhase, componentAt, isAtomic, atomics, isChild, children, phaseAt, noRule, phasesBefore}
-use Rattle.model_laws.proofs.Sound.{ComponentsFit, Sound}
+use Rattle.model_laws.proofs.WellFormed.{ComponentsFit, WellFormed}
 use Rattle.definition.specs.Atomic.{withinElapsed, holds, advanceOf, internal, external, confluent, deciding, ledTo, meets}
 use Rattle.definition.specs.SavedRun.{Entry, dueOf}
 use Rattle.definition.specs.Flatten.{placeIn, renumbered, flatAtomic, flatComponents, flatRule, flat}
@@ -149,11 +149,11 @@ module _ (cs : List Component) where
 
 -- ---- an atomic's phases, rules and transitions
 
-pub new-atomics : (m : Model) → Sound m → atomics (flat m .components) ≡ map (renumbered (m .components)) (atomics (m .components))
+pub new-atomics : (m : Model) → WellFormed m → atomics (flat m .components) ≡ map (renumbered (m .components)) (atomics (m .components))
 unfolding flat
 new-atomics m w = flat-atomics (m .components) (w .components .fit) (w .some-component)
 
-module _ (m : Model) (w : Sound m) (c : ℕ) (e : isAtomic (m .components) c ≡ true) where
+module _ (m : Model) (w : WellFormed m) (c : ℕ) (e : isAtomic (m .components) c ≡ true) where
   pub flat-phase : (p : ℕ) → phaseAt (flat m) (renumbered (m .components) c) p ≡ phaseAt m c p
   unfolding phaseAt flat
   flat-phase p = ap (λ n. getD (m .phases) (n + p) noPhase) (flat-before (m .components) (w .components .fit) (w .some-component) c e)

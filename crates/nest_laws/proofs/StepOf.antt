@@ -12,8 +12,8 @@ use Rattle.definition.specs.Atomic.{devsOf}
 use Rattle.definition.specs.SavedRun.{Entry, lookUp, entryOf}
 use Rattle.definition.specs.Step.{elapsed, load, stepOn, step}
 use Rattle.definition.specs.FlatMachine.{moved}
-use Rattle.definition.specs.Demands.{Stands, StandsAll, rootOf}
-use Rattle.model_laws.proofs.Sound.{Sound}
+use Rattle.definition.specs.Carrying.{Stands, StandsAll, rootOf}
+use Rattle.model_laws.proofs.WellFormed.{WellFormed}
 use Rattle.nest_laws.proofs.Occurs.{occurs, all-occurs}
 use Rattle.nest_laws.proofs.Pairs.{lookUp-map}
 use Rattle.nest_laws.proofs.Trees.{leavesT}
@@ -26,7 +26,7 @@ use Rattle.nest_laws.proofs.Leaves.{on-tree, unload-stands}
 unfoldable pub entryAfter : Model → ℕ → Bag → List Entry → ℕ → Entry
 entryAfter m now x rs c = moved m now c (due m (entryOf m rs) now (leaf c)) (bagAt m (entryOf m rs) now c (root m) x) (entryOf m rs c)
 
-module _ (m : Model) (w : Sound m) (now : ℕ) (x : Bag) (rs : List Entry) (ready : Ready m (entryOf m rs) now (root m)) where
+module _ (m : Model) (w : WellFormed m) (now : ℕ) (x : Bag) (rs : List Entry) (ready : Ready m (entryOf m rs) now (root m)) where
   atomic-leaf : (c : ℕ) → isAtomic (m .components) c ≡ true → 0 < occurs c (leavesT (root m))
   atomic-leaf c e = omega (arith, root-occurs m w c, atomic-once (m .components) (w .components .fit) (w .some-component) c e)
 

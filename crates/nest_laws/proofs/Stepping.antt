@@ -15,7 +15,7 @@ use Rattle.definition.specs.Step.{step}
 use Rattle.definition.specs.FlatMachine.{dueNow, moved}
 use Rattle.nest_laws.proofs.Nest.{Ready, due, ready-due, Fresh, ready-in, bagAt}
 use Rattle.nest_laws.proofs.StepOf.{step-moved, entryAfter}
-use Rattle.model_laws.proofs.Sound.{Sound}
+use Rattle.model_laws.proofs.WellFormed.{WellFormed}
 use Rattle.nest_laws.proofs.Pairs.{paired, paired-lookUp, Pairs, pairs-length, pairs-lookUp, pairs-paired}
 use Rattle.nest_laws.proofs.Components.{atomic-once, leaves-perm, shape, leaves, root}
 use Rattle.nest_laws.proofs.Renumber.{distinct-atomics}
@@ -43,7 +43,7 @@ moved-fresh m now c false (y ∷ x) r h = new-fresh m now c _
 abbrev pub Good : Model → ℕ → List Entry → Type 0
 Good m now rs = Pairs (Fresh m now) (atomics (m .components)) rs
 
-module _ (m : Model) (w : Sound m) where
+module _ (m : Model) (w : WellFormed m) where
   pub due-first : (rs : List Entry) → length rs ≡ length (atomics (m .components)) → nextDue m rs ≡ firstOf (paired (dueOf m) (atomics (m .components)) rs)
   unfolding nextDue entryOf tree
   due-first rs long =

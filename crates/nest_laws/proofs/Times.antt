@@ -5,13 +5,13 @@ use Prim.Native.Nat.{ℕ, suc, _+_, _-_, min}
 use mathlib.Core.Bool.{true, false}
 use native.Mathlib.Omega.{arith}
 use borrow.Author.Tests.{eqb-true, eqb-false, ne-eqb, leb-true, le-leb}
-use Rattle.definition.specs.Devs.{Time, finite, never, earlier, left, later, sameTime}
+use Rattle.definition.specs.Devs.{Time, finite, never, earlier, remaining, later, sameTime}
 use Rattle.definition.specs.SavedRun.{notBefore}
 use Rattle.laws.proofs.Sorting.{clash}
 use Rattle.nest_laws.proofs.Numbers.{eqb-cong}
 
-pub left-earlier : (u v : Time) (n : ℕ) → left (earlier u v) n ≡ earlier (left u n) (left v n)
-unfolding left earlier
+pub left-earlier : (u v : Time) (n : ℕ) → remaining (earlier u v) n ≡ earlier (remaining u n) (remaining v n)
+unfolding remaining earlier
 left-earlier (finite a) (finite b) n = ap finite (omega arith)
 left-earlier (finite a) never n = refl
 left-earlier never (finite b) n = refl
@@ -24,20 +24,20 @@ later-earlier e (finite a) never = refl
 later-earlier e never (finite b) = refl
 later-earlier e never never = refl
 
-pub later-add : (e k : ℕ) (u : Time) → left (later (e + k) u) k ≡ later e u
-unfolding left later
+pub later-add : (e k : ℕ) (u : Time) → remaining (later (e + k) u) k ≡ later e u
+unfolding remaining later
 later-add e k (finite a) = ap finite (omega arith)
 later-add e k never = refl
 
 -- An advance is the time spent and the time left.
-pub spent-left : (last e now : ℕ) (u : Time) → last + e ≡ now → notBefore now (later last u) ≡ true → u ≡ later e (left (later last u) now)
-unfolding left later notBefore
+pub spent-left : (last e now : ℕ) (u : Time) → last + e ≡ now → notBefore now (later last u) ≡ true → u ≡ later e (remaining (later last u) now)
+unfolding remaining later notBefore
 spent-left last e now (finite a) h k = ap finite (omega (arith, leb-true now (last + a) k))
 spent-left last e now never h k = refl
 
 -- What is left at a moment, counted on from it, is the moment that was due.
-pub left-later : (event e now : ℕ) (u : Time) → event + e ≡ now → notBefore now u ≡ true → later event (later e (left u now)) ≡ u
-unfolding left later notBefore
+pub left-later : (event e now : ℕ) (u : Time) → event + e ≡ now → notBefore now u ≡ true → later event (later e (remaining u now)) ≡ u
+unfolding remaining later notBefore
 left-later event e now (finite a) h k = ap finite (omega (arith, leb-true now a k))
 left-later event e now never h k = refl
 
@@ -46,18 +46,18 @@ unfolding sameTime later
 same-later e (finite a) = eqb-cong (e + a) e a 0 (λ h. omega arith) (λ h. omega arith)
 same-later e never = refl
 
-pub never-later : (e now : ℕ) → never ≡ later e (left never now)
-unfolding left later
+pub never-later : (e now : ℕ) → never ≡ later e (remaining never now)
+unfolding remaining later
 never-later e now = refl
 
 -- Nothing is left of what is due now, and of nothing else that is not overdue.
-pub imminent : (n : ℕ) (u : Time) → notBefore n u ≡ true → sameTime (left u n) (finite 0) ≡ sameTime u (finite n)
-unfolding left sameTime notBefore
+pub imminent : (n : ℕ) (u : Time) → notBefore n u ≡ true → sameTime (remaining u n) (finite 0) ≡ sameTime u (finite n)
+unfolding remaining sameTime notBefore
 imminent n (finite a) h = let k = leb-true n a h in eqb-cong (a - n) 0 a n (λ e. omega arith) (λ e. omega arith)
 imminent n never h = refl
 
-pub left-due : (n : ℕ) (u : Time) → sameTime u (finite n) ≡ true → left u n ≡ finite 0
-unfolding left sameTime
+pub left-due : (n : ℕ) (u : Time) → sameTime u (finite n) ≡ true → remaining u n ≡ finite 0
+unfolding remaining sameTime
 left-due n (finite a) e = ap finite (omega (arith, eqb-true))
 left-due n never e = absurd (clash e refl)
 

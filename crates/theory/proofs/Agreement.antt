@@ -16,7 +16,7 @@ use Rattle.definition.specs.Flatten.{placeIn, renumbered, flat}
 use Rattle.definition.specs.FlatMachine.{Sent, sent, dueNow, putOut, arriving, moved, movedAll, flatStep, flatDue}
 use Rattle.laws.proofs.Sums.{sumOf}
 use Rattle.laws.proofs.Lists.{count-sum, count-none}
-use Rattle.model_laws.proofs.Sound.{Sound}
+use Rattle.model_laws.proofs.WellFormed.{WellFormed}
 use Rattle.nest_laws.proofs.Pairs.{paired, paired-map, paired-cong-if}
 use Rattle.nest_laws.proofs.Trees.{leavesT}
 use Rattle.nest_laws.proofs.Components.{rooted, root-not, atomics-atomic, partsOfRoot, root, leaves}
@@ -45,7 +45,7 @@ moved-paired m now xs [] rs = refl
 moved-paired m now xs (c ∷ cs) [] = refl
 moved-paired m now xs (c ∷ cs) (r ∷ rs) = ap (λ l. moved m now c (dueNow m now c r) (arriving m now c xs) r ∷ l) (moved-paired m now xs cs rs)
 
-module _ (m : Model) (w : Sound m) where
+module _ (m : Model) (w : WellFormed m) where
   is-atomic : all (isAtomic (m .components)) (atomics (m .components)) ≡ true
   is-atomic = atomics-atomic (m .components) (w .components .fit) (w .some-component)
 

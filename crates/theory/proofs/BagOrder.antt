@@ -1,4 +1,4 @@
--- "The order of messages in a bag changes nothing": of a bag that reaches any component of a nest, and of a given bag. Assumes nothing.
+-- The order of messages in a bag changes nothing: of a bag that reaches any component of a nest, and of a given bag. Assumes nothing.
 use mathlib.Core.Path.{_≡_, refl, sym, ap, ap₂, _∙_}
 use Prim.Native.Nat.{ℕ, _+_}
 use mathlib.Core.List.{List, [], _∷_, _++_}
@@ -7,14 +7,14 @@ use native.Mathlib.Omega.{arith}
 use Rattle.definition.specs.Lists.{count, Same}
 use Rattle.definition.specs.Model.{Message, Bag, Coupling, Model, atomics, Tree, Forest, leaf, node, stop, more, nameOf}
 use Rattle.definition.specs.Routes.{endsIn}
-use Rattle.definition.specs.Devs.{Time, sameTime, ticks, Devs, Totals, translate, least, outputsTo, changed, changedAll, resultantExt, resultantCon}
+use Rattle.definition.specs.Devs.{Time, sameTime, ticks, Devs, Totals, translate, leastSigma, outputsTo, changed, changedAll, resultantExt, resultantCon}
 use Rattle.definition.specs.Atomic.{devsOf, partsOf}
 use Rattle.definition.specs.SavedRun.{Entry, entryOf}
 use Rattle.definition.specs.Step.{nested}
 use Rattle.definition.specs.FlatMachine.{dueNow}
 use Rattle.laws.proofs.Bags.{count-append, message-perm}
 use Rattle.laws.proofs.Lists.{sum-perm, count-sum}
-use Rattle.model_laws.proofs.Sound.{Sound}
+use Rattle.model_laws.proofs.WellFormed.{WellFormed}
 use Rattle.nest_laws.proofs.Numbers.{same-length}
 use Rattle.nest_laws.proofs.Pairs.{paired}
 use Rattle.nest_laws.proofs.Components.{root}
@@ -57,7 +57,7 @@ mutual
   pub confluent-order : (m : Model) (t : Tree) (s : devsOf m t .State) (x y : Bag) → Same x y → devsOf m t .con s x ≡ devsOf m t .con s y
   confluent-order m (leaf c) s x y h = confluent-same m c x y h s
   confluent-order m (node c f) s x y h =
-      let u = least (partsOf m f) s in
+      let u = leastSigma (partsOf m f) s in
       parts-order m f (λ v. sameTime v u) _ _ (ticks u) s
       (λ d. append-same (outputsTo (m .couplings) d u (partsOf m f) s) _ _ (translate-same (m .couplings) c d x y h))
 
@@ -79,7 +79,7 @@ bag-order m at now c t x y s p =
     let h : hits c weigh (endsIn (m .couplings) t) x ≡ hits c weigh (endsIn (m .couplings) t) y = sum-perm _ (message-perm x y s) in
     count-sum p _ ∙ omega (arith, down-tree m at now c weigh t x, down-tree m at now c weigh t y) ∙ sym (count-sum p (bagAt m at now c t y))
 
-pub agree-order : (m : Model) (w : Sound m) → Agree (AtSame m w) (BetweenSame m w) Same (nested m) (nested m)
+pub agree-order : (m : Model) (w : WellFormed m) → Agree (AtSame m w) (BetweenSame m w) Same (nested m) (nested m)
 agree-order m w =
     agree-entries m w Same (nested m) (λ p. refl) empty-same (λ now rs h. refl)
     (λ now x y rs h s p. ap (count p) (step-out m w now x rs (ready m w now rs (h .0)) ∙ sym (step-out m w now y rs (ready m w now rs (h .0)))))

@@ -2,7 +2,7 @@
 -- bytes; the flat form is accepted and flattens to itself. Assumes nothing.
 use mathlib.Core.Path.{_≡_, refl, sym, ap, _∙_, subst}
 use Prim.Native.Nat.{ℕ}
-use mathlib.Core.List.{List}
+use mathlib.Core.List.{List, [], _∷_}
 use mathlib.Core.Bool.{Bool, true, false}
 use native.Mathlib.Omega.{arith}
 use lib.Dec.{ltb}
@@ -11,16 +11,17 @@ use lib.Seq.{take-at}
 use Rattle.definition.specs.Bytes.{Bytes, AllBytes, Result, ok, refused, _>>=_, stored}
 use Rattle.definition.specs.Model.{Model}
 use Rattle.definition.specs.File.{modelBytes}
-use Rattle.definition.specs.Routes.{accepted, checkModel}
-use Rattle.definition.specs.SavedRun.{Entry, runOf, nextDue}
+use Rattle.definition.specs.Pinned.Decoder.{accepted, checkModel}
+use Rattle.definition.specs.SavedRun.{Entry, runLength, atomicCount, runOf, nextDue}
 use Rattle.definition.specs.Step.{nested}
 use Rattle.definition.specs.Advance.{advanceFrom}
 use Rattle.definition.specs.Engine.{start, wrote, advanceChecks, advanced, advance, toBag, reading}
 use Rattle.definition.specs.Flatten.{flat, flatten}
 use Rattle.definition.specs.FlatMachine.{flatDue}
-use Rattle.definition.specs.Calls.{runCalls, engine}
+use Rattle.definition.specs.Calls.{Call, Answer, Machine, called, runCalls, engine}
+use Rattle.definition.specs.Carrying.{BetweenCalls, Answers, Through}
 use Rattle.definition.specs.Demands.{flatForm, Alike, Demand3}
-use Rattle.model_laws.proofs.Sound.{Sound, Accepted}
+use Rattle.model_laws.proofs.WellFormed.{WellFormed, Accepted}
 use Rattle.model_laws.proofs.Reading.{accepted-sound}
 use Rattle.model_laws.proofs.Refusals.{Positive, accepted-positive}
 use Rattle.flat_laws.proofs.FlatTwice.{flat-stays, flat-accepted, flat-twice}
@@ -29,15 +30,16 @@ use Rattle.flat_laws.proofs.SameChecks.{same-run, same-fits, same-checks, same-
 use Rattle.theory.proofs.Kept.{Fit}
 use Rattle.theory.proofs.Agreement.{levelled, due-same}
 use Rattle.theory.proofs.Fitting.{fits-run}
-use Rattle.theory.proofs.FlatCalls.{lifted, calls-self}
+use Rattle.theory.proofs.Through.{through-calls}
+use Rattle.theory.proofs.FlatCalls.{lifted, called-self, call-bytes, calls-self}
 
 -- ---- a model and its flat form
 
 module _ (file : Bytes) (m : Model) (e : accepted file ≡ ok m) (a : Accepted m) where
-  abbrev w : Sound m
+  abbrev w : WellFormed m
   w = a .sound
 
-  abbrev v : Sound (flat m)
+  abbrev v : WellFormed (flat m)
   v = flat-stays m a .sound
 
   abbrev f : accepted (modelBytes (flat m)) ≡ ok (flat m)
@@ -62,8 +64,8 @@ module _ (file : Bytes) (m : Model) (e : accepted file ≡ ok m) (a : Accepted m
       o = runOf m run .opening
 
       go : (r : Result (Unit {0})) → advanceChecks m run t bag ≡ r
-          → advanced run trace (advanceChecks m run t bag >>= λ _. ok (advanceFrom (nested m) o rs (length trace) t (toBag bag)))
-          ≡ advanced run trace (advanceChecks m run t bag >>= λ _. ok (advanceFrom (nested (flat m)) o rs (length trace) t (toBag bag)))
+          → advanced run trace (advanceChecks m run t bag >>= λ _. ok (advanceFrom (nested m) (length trace) t (toBag bag) o rs))
+          ≡ advanced run trace (advanceChecks m run t bag >>= λ _. ok (advanceFrom (nested (flat m)) (length trace) t (toBag bag) o rs))
       go (refused n) h = rw h
       go (ok u) h =
           let c = advance-ok m run t bag h in
@@ -71,7 +73,7 @@ module _ (file : Bytes) (m : Model) (e : accepted file ≡ ok m) (a : Accepted m
           let fit = subst (λ r. Fit (flat m) (r .opening) (r .entries)) (same-run m w run) (fits-run (flat m) run (same-fits m w run ∙ c .run-fits) .0 .0) in
           rw h (ap (λ x. advanced run trace (ok x))
           (lifted m w o rs (length trace) t (toBag bag) (fits-run m run (c .run-fits) .0 .0) (c .from-opening) ports
-          ∙ sym (lifted (flat m) v o rs (length trace) t (toBag bag) fit (c .from-opening) ports ∙ ap (λ k. advanceFrom (levelled k) o rs (length trace) t (toBag bag)) twice)))
+          ∙ sym (lifted (flat m) v o rs (length trace) t (toBag bag) fit (c .from-opening) ports ∙ ap (λ k. advanceFrom (levelled k) (length trace) t (toBag bag) o rs) twice)))
 
   next-same : (run : Bytes) → nextDue m (runOf m run .entries) ≡ nextDue (flat m) (runOf m run .entries)
   next-same run =
@@ -91,6 +93,20 @@ module _ (file : Bytes) (m : Model) (e : accepted file ≡ ok m) (a : Accepted m
     advances = λ run t bag trace. advance-same run t bag trace i;
     reads = λ run position. reading-same run position i;
   }
+
+-- ---- the resultant beside the flat machine
+
+-- two machines that do the same on bytes
+machine-same : (m : Model) (k l : Machine) → ((run : Bytes) (c : Call) → AllBytes run → (called k run c ≡ called l run c) × AllBytes (called k run c .1))
+    → (calls : List Call) (q : BetweenCalls m) (run : Bytes) → AllBytes run → Through m k q run calls → Through m l q run calls
+machine-same m k l same [] q run b h = h
+machine-same m k l same (c ∷ cs) q run b h =
+    let s = same run c b in
+    let n = runLength (atomicCount m) in
+    let on : (q′ : BetweenCalls m) × Answers m q c (called l run c .0) q′ × (drop n (called l run c .1) ≡ drop n run) × Through m l q′ (called l run c .1) cs
+    = subst (λ (z : Answer × Bytes). (q′ : BetweenCalls m) × Answers m q c (z .0) q′ × (drop n (z .1) ≡ drop n run) × Through m l q′ (z .1) cs) (s .0)
+    (h .1, h .2, h .3, machine-same m k l same cs (h .1) (called k run c .1) (s .1) (h .4)) in
+    (h .0, on .0, on .1, on .2, on .3)
 
 -- ---- by what flattening writes
 
@@ -126,6 +142,11 @@ flat-alike file m b e =
         ap (λ k. runCalls k run calls) (engine-same file m e a),
         calls-self (modelBytes (flat m)) (flat m) acc (flat-stays m a .sound) twice calls run h,
       );
+      calls-defined = λ n f q run h s calls.
+          let same = engine-same file m e a in
+          let v = flat-stays m a .sound in
+          let through : Through n (engine (modelBytes (flat m))) q run calls = subst (λ k. Through n k q run calls) same (through-calls file n (accepted-sound file n b f .sound) f calls q run s) in
+          (through, machine-same n _ _ (λ r c g. (called-self (modelBytes (flat m)) (flat m) acc v twice r c g, call-bytes (modelBytes (flat m)) (flat m) acc v twice r c g)) calls q run h through);
     }
 
 pub demand3 : Demand3

@@ -12,18 +12,18 @@ use borrow.Author.Tests.{leb-true, le-leb, ltb-true, ltb-false, lt-ltb, le-ltb, 
 use Rattle.definition.specs.Lists.{all}
 use Rattle.definition.specs.Bytes.{Result, ok, refused}
 use Rattle.definition.specs.Model.{Bag}
-use Rattle.definition.specs.Devs.{Time, finite, never, sameTime}
+use Rattle.definition.specs.Devs.{Time, finite, never, sameTime, ticks}
 use Rattle.definition.specs.SavedRun.{notBefore}
 use Rattle.definition.specs.Step.{Simulator}
-use Rattle.definition.specs.Instant.{Instant, done, jammed, isDue, goesOn, instant, over, records}
-use Rattle.definition.specs.Advance.{Progress, Ended, ended, tried, continued, succeeded, isBefore, moment, advancing}
+use Rattle.definition.specs.Instant.{Instant, done, jammed, isDue, goesOn, instant, over, instantTrace}
+use Rattle.definition.specs.Advance.{Progress, Ended, ended, tried, continued, succeeded, isBefore, advancing}
 use Rattle.definition.specs.AdvanceRelation.{Whole, Next, before, at-end, withInstant, Ends, jams, oversize, overruns, goes-on, succeeds, idle}
 use Rattle.laws.proofs.Sorting.{clash}
 use Rattle.theory.proofs.Lift.{before-t, Agree, SameInstant, instant-same}
 use Rattle.theory.proofs.Instants.{Settled, settled, whole-instant, jams-instant}
 
-at-moment : (t : ℕ) (u : Time) → isBefore u t ≡ true → u ≡ finite (moment u)
-unfolding isBefore moment
+at-moment : (t : ℕ) (u : Time) → isBefore u t ≡ true → u ≡ finite (ticks u)
+unfolding isBefore ticks
 at-moment t (finite a) e = refl
 at-moment t never e = absurd (clash e refl)
 
@@ -44,12 +44,12 @@ module _ {S : Type 0} (k : Simulator S) where
     -- ---- one turn
 
     turn-before : (n : ℕ) (p : Progress S) (u : ℕ) → k .next (p .state) ≡ finite u → u < t
-        → advancing k (suc n) room t x p ≡ continued (λ q. advancing k n room t x q) p (tried room u p (instant k u [] (p .state)))
-    unfolding advancing isBefore moment
+        → advancing k room t x (suc n) p ≡ continued (λ q. advancing k room t x n q) p (tried room u p (instant k u [] (p .state)))
+    unfolding advancing isBefore ticks
     turn-before n p u e l = rw (e, lt-ltb u t l)
 
     turn-end : (n : ℕ) (p : Progress S) → isBefore (k .next (p .state)) t ≡ false
-        → advancing k (suc n) room t x p ≡ continued (succeeded t) p (tried room t p (instant k t x (p .state)))
+        → advancing k room t x (suc n) p ≡ continued (succeeded t) p (tried room t p (instant k t x (p .state)))
     unfolding advancing
     turn-end n p e = rw e
 
@@ -64,12 +64,12 @@ module _ {S : Type 0} (k : Simulator S) where
     tried-over now p [] s e = absurd (clash e not-over)
     tried-over now p (y ∷ ys) s e = rw e
 
-    tried-full : (now : ℕ) (p : Progress S) (y : Bag) (ys : List Bag) (s : S) → over (y ∷ ys) ≡ false → room < length (p .trace ++ records now (y ∷ ys))
+    tried-full : (now : ℕ) (p : Progress S) (y : Bag) (ys : List Bag) (s : S) → over (y ∷ ys) ≡ false → room < length (p .trace ++ instantTrace now (y ∷ ys))
         → tried room now p (done (y ∷ ys) s) ≡ refused 15
     unfolding tried
     tried-full now p y ys s e l = rw (e, lt-ltb room _ l)
 
-    tried-stands : (now : ℕ) (p : Progress S) (y : Bag) (ys : List Bag) (s : S) → over (y ∷ ys) ≡ false → length (p .trace ++ records now (y ∷ ys)) ≤ room
+    tried-stands : (now : ℕ) (p : Progress S) (y : Bag) (ys : List Bag) (s : S) → over (y ∷ ys) ≡ false → length (p .trace ++ instantTrace now (y ∷ ys)) ≤ room
         → tried room now p (done (y ∷ ys) s) ≡ ok (withInstant k room t x p now (y ∷ ys) s)
     unfolding tried
     tried-stands now p y ys s e l = rw (e, le-ltb room _ l)
@@ -84,7 +84,7 @@ module _ {S : Type 0} (k : Simulator S) where
 
     -- a turn by the instant that is next
     turn-next : (n : ℕ) (p : Progress S) (now : ℕ) (y : Bag) → Next k room t x (p .state) now y → (j : ℕ) → tried room now p (instant k now y (p .state)) ≡ refused j
-        → advancing k (suc n) room t x p ≡ ended j p
+        → advancing k room t x (suc n) p ≡ ended j p
     turn-next n p now y (before u e l) j r = turn-before n p u e l ∙ refused-ends _ p _ j r
     turn-next n p now y (at-end e) j r = turn-end n p e ∙ refused-ends _ p _ j r
 
@@ -113,14 +113,14 @@ module _ {S : Type 0} {At Between : ℕ → S → S → Type 0} {Fine : Bag → 
 
   -- where an instant is due before t
   ends-before : (n : ℕ) (p : Progress S) (u : ℕ) → Between (p .opening) (p .state) (p .state) → t < p .opening + suc n → k .next (p .state) ≡ finite u → u < t
-      → ((q : Progress S) → Between (q .opening) (q .state) (q .state) → q .opening ≤ t → t < q .opening + n → Ends k room t x q (advancing k n room t x q))
-      → (i : Instant S) → instant k u [] (p .state) ≡ i → Settled k u [] (p .state) i → Ends k room t x p (advancing k (suc n) room t x p)
+      → ((q : Progress S) → Between (q .opening) (q .state) (q .state) → q .opening ≤ t → t < q .opening + n → Ends k room t x q (advancing k room t x n q))
+      → (i : Instant S) → instant k u [] (p .state) ≡ i → Settled k u [] (p .state) i → Ends k room t x p (advancing k room t x (suc n) p)
   ends-before n p u b l f g ih jammed q h =
       subst (Ends k room t x p) (sym (turn-next k room t x n p u [] (before u f g) 13 (ap (tried room u p) q ∙ tried-jam k room t x u p))) (jams p u [] (before u f g) h)
   ends-before n p u b l f g ih (done [] s′) q h = absurd (some-step k u (p .state) s′ f h)
-  ends-before n p u b l f g ih (done (y ∷ ys) s′) q h = go (over (y ∷ ys)) refl (ltb room (length (p .trace ++ records u (y ∷ ys)))) refl
+  ends-before n p u b l f g ih (done (y ∷ ys) s′) q h = go (over (y ∷ ys)) refl (ltb room (length (p .trace ++ instantTrace u (y ∷ ys)))) refl
     where
-      go : (c : Bool) → over (y ∷ ys) ≡ c → (d : Bool) → ltb room (length (p .trace ++ records u (y ∷ ys))) ≡ d → Ends k room t x p (advancing k (suc n) room t x p)
+      go : (c : Bool) → over (y ∷ ys) ≡ c → (d : Bool) → ltb room (length (p .trace ++ instantTrace u (y ∷ ys))) ≡ d → Ends k room t x p (advancing k room t x (suc n) p)
       go true c d r =
           subst (Ends k room t x p) (sym (turn-next k room t x n p u [] (before u f g) 14 (ap (tried room u p) q ∙ tried-over k room t x u p (y ∷ ys) s′ c)))
           (oversize p u [] (y ∷ ys) s′ (before u f g) h c)
@@ -137,16 +137,16 @@ module _ {S : Type 0} {At Between : ℕ → S → S → Type 0} {Fine : Bag → 
 
   -- and where t is next
   ends-last : (n : ℕ) (p : Progress S) → isBefore (k .next (p .state)) t ≡ false
-      → (i : Instant S) → instant k t x (p .state) ≡ i → Settled k t x (p .state) i → Ends k room t x p (advancing k (suc n) room t x p)
+      → (i : Instant S) → instant k t x (p .state) ≡ i → Settled k t x (p .state) i → Ends k room t x p (advancing k room t x (suc n) p)
   unfolding tried
   ends-last n p f jammed q h =
       subst (Ends k room t x p) (sym (turn-next k room t x n p t x (at-end f) 13 (ap (tried room t p) q ∙ tried-jam k room t x t p))) (jams p t x (at-end f) h)
   ends-last n p f (done [] s′) q h =
       subst (Ends k room t x p) (sym (turn-end k room t x n p f ∙ ok-ends k room t x (succeeded t) p p _ (ap (tried room t p) q)))
       (idle p f (ap (goesOn k t x) (h .steps) ∙ h .finished))
-  ends-last n p f (done (y ∷ ys) s′) q h = go (over (y ∷ ys)) refl (ltb room (length (p .trace ++ records t (y ∷ ys)))) refl
+  ends-last n p f (done (y ∷ ys) s′) q h = go (over (y ∷ ys)) refl (ltb room (length (p .trace ++ instantTrace t (y ∷ ys)))) refl
     where
-      go : (c : Bool) → over (y ∷ ys) ≡ c → (d : Bool) → ltb room (length (p .trace ++ records t (y ∷ ys))) ≡ d → Ends k room t x p (advancing k (suc n) room t x p)
+      go : (c : Bool) → over (y ∷ ys) ≡ c → (d : Bool) → ltb room (length (p .trace ++ instantTrace t (y ∷ ys))) ≡ d → Ends k room t x p (advancing k room t x (suc n) p)
       go true c d r =
           subst (Ends k room t x p) (sym (turn-next k room t x n p t x (at-end f) 14 (ap (tried room t p) q ∙ tried-over k room t x t p (y ∷ ys) s′ c)))
           (oversize p t x (y ∷ ys) s′ (at-end f) h c)
@@ -160,7 +160,7 @@ module _ {S : Type 0} {At Between : ℕ → S → S → Type 0} {Fine : Bag → 
           (sym (turn-end k room t x n p f ∙ ok-ends k room t x (succeeded t) p _ _ (ap (tried room t p) q ∙ tried-stands k room t x t p y ys s′ c v)))
           (succeeds p y ys s′ f h (record { bags = c; trace = v }))
 
-  pub ends : (n : ℕ) (p : Progress S) → Between (p .opening) (p .state) (p .state) → p .opening ≤ t → t < p .opening + n → Ends k room t x p (advancing k n room t x p)
+  pub ends : (n : ℕ) (p : Progress S) → Between (p .opening) (p .state) (p .state) → p .opening ≤ t → t < p .opening + n → Ends k room t x p (advancing k room t x n p)
   ends zero p b o l = absurd (omega arith)
   ends (suc n) p b o l = go (isBefore (k .next (p .state)) t) refl (λ q c o l. ends n q c o l)
     where
@@ -168,11 +168,11 @@ module _ {S : Type 0} {At Between : ℕ → S → S → Type 0} {Fine : Bag → 
       u = k .next (p .state)
 
       go : (c : Bool) → isBefore u t ≡ c
-          → ((q : Progress S) → Between (q .opening) (q .state) (q .state) → q .opening ≤ t → t < q .opening + n → Ends k room t x q (advancing k n room t x q))
-          → Ends k room t x p (advancing k (suc n) room t x p)
+          → ((q : Progress S) → Between (q .opening) (q .state) (q .state) → q .opening ≤ t → t < q .opening + n → Ends k room t x q (advancing k room t x n q))
+          → Ends k room t x p (advancing k room t x (suc n) p)
       go true e ih =
           let v = before-t t (p .opening) u (a .early (p .opening) (p .state) (p .state) b) e in
-          ends-before n p (moment u) b l (at-moment t u e) (v .1) ih _ refl (settled k (moment u) [] (p .state))
+          ends-before n p (ticks u) b l (at-moment t u e) (v .1) ih _ refl (settled k (ticks u) [] (p .state))
       go false e ih = ends-last n p e _ refl (settled k t x (p .state))
 
   -- ---- and in no other way
@@ -182,11 +182,11 @@ module _ {S : Type 0} {At Between : ℕ → S → S → Type 0} {Fine : Bag → 
   turns zero p o l = absurd (omega arith)
   turns (suc j) p o l = (j, refl)
 
-  one-turn : (n : ℕ) (p : Progress S) (e : Ended S) → p .opening ≤ t → t < p .opening + n → ((j : ℕ) → n ≡ suc j → advancing k (suc j) room t x p ≡ e) → advancing k n room t x p ≡ e
-  one-turn n p e o l h = let j = turns n p o l in ap (λ i. advancing k i room t x p) (j .1) ∙ h (j .0) (j .1)
+  one-turn : (n : ℕ) (p : Progress S) (e : Ended S) → p .opening ≤ t → t < p .opening + n → ((j : ℕ) → n ≡ suc j → advancing k room t x (suc j) p ≡ e) → advancing k room t x n p ≡ e
+  one-turn n p e o l h = let j = turns n p o l in ap (λ i. advancing k room t x i p) (j .1) ∙ h (j .0) (j .1)
 
   pub only : {p : Progress S} {e : Ended S} → Ends k room t x p e → (n : ℕ) → Between (p .opening) (p .state) (p .state) → p .opening ≤ t → t < p .opening + n
-      → advancing k n room t x p ≡ e
+      → advancing k room t x n p ≡ e
   unfolding tried
   only (jams p now y next v) n b o l =
       one-turn n p _ o l (λ j f. turn-next k room t x j p now y next 13 (ap (tried room now p) (jams-instant k now y (p .state) v) ∙ tried-jam k room t x now p))

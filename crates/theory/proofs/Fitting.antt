@@ -8,19 +8,18 @@ use lib.Dec.{leb, ltb, eqb}
 use lib.ListN.{length, length-append, length-map}
 use borrow.Author.Tests.{ltb-true, leb-true, le-leb, lt-ltb, le-ltb, eq-eqb, eqb-true}
 use Rattle.definition.specs.Lists.{all}
-use Rattle.definition.specs.Bytes.{Bytes, AllBytes, Result, ok, refused, _>>=_, number, stored}
+use Rattle.definition.specs.Bytes.{Bytes, AllBytes, Result, ok, refused, _>>=_, numberAt, stored}
 use Rattle.definition.specs.Limits.{maxMoment, maxOwnPhases}
 use Rattle.definition.specs.Model.{Bag, Model, componentAt, isAtomic, atomics}
-use Rattle.definition.specs.Records.{atomicFields}
 use Rattle.definition.specs.Devs.{Time, finite, never}
-use Rattle.definition.specs.SavedRun.{Entry, Run, runLength, toEntry, toRun, entryBytes, runBytes, notBefore, entryFits, entriesFit, atomicCount, runOf, fits}
+use Rattle.definition.specs.SavedRun.{Entry, Run, runLength, toEntry, toRun, entryBytes, runBytes, notBefore, entryFits, entriesFit, atomicCount, runOf, runFits}
 use Rattle.definition.specs.Step.{nested}
 use Rattle.definition.specs.Advance.{advanceFrom}
-use Rattle.definition.specs.Routes.{accepted}
+use Rattle.definition.specs.Pinned.Decoder.{atomicFields, accepted}
 use Rattle.definition.specs.Engine.{startRun, start, wrote, advanceChecks, advanced, advance, toBag}
 use Rattle.laws.proofs.Sorting.{and-left, and-right}
 use Rattle.laws.proofs.Lists.{and-true, all-head, all-tail}
-use Rattle.model_laws.proofs.Sound.{Sound}
+use Rattle.model_laws.proofs.WellFormed.{WellFormed}
 use Rattle.model_laws.proofs.Reading.{accepted-sound}
 use Rattle.model_laws.proofs.RunBack.{entry-back, length-run, count-back, run-back}
 use Rattle.nest_laws.proofs.Pairs.{Pairs, pairs-length}
@@ -44,18 +43,18 @@ to-pairs m o [] (r ∷ rs) e h = absurd (omega arith)
 to-pairs m o (c ∷ cs) [] e h = absurd (omega arith)
 to-pairs m o (c ∷ cs) (r ∷ rs) e h = (and-left (entryFits m o c r) _ h, to-pairs m o cs rs (omega arith) (and-right (entryFits m o c r) _ h))
 
-pub fits-run : (m : Model) (s : Bytes) → fits m s ≡ true → FitRun m (runOf m s) × (runLength (atomicCount m) ≤ length s) × (number 2 8 s ≡ atomicCount m)
-unfolding fits
+pub fits-run : (m : Model) (s : Bytes) → runFits m s ≡ true → FitRun m (runOf m s) × (runLength (atomicCount m) ≤ length s) × (numberAt 2 8 s ≡ atomicCount m)
+unfolding runFits
 fits-run m s h =
     let r = runOf m s in
     let a = leb (runLength (atomicCount m)) (length s) in
-    let b = eqb (number 2 8 s) (atomicCount m) in
+    let b = eqb (numberAt 2 8 s) (atomicCount m) in
     let c = leb (r .opening) (suc maxMoment) in
     let k = and-left (a && b && c) _ h in
     let j = and-left (a && b) c k in (
       (to-pairs m (r .opening) (atomics (m .components)) (r .entries) (run-length m s) (and-right (a && b && c) _ h), leb-true (r .opening) (suc maxMoment) (and-right (a && b) c k)),
       leb-true (runLength (atomicCount m)) (length s) (and-left a b j),
-      eqb-true (number 2 8 s) (atomicCount m) (and-right a b j),
+      eqb-true (numberAt 2 8 s) (atomicCount m) (and-right a b j),
     )
 
 -- ---- to bytes
@@ -67,7 +66,7 @@ from-pairs m o [] (r ∷ rs) h = absurd h
 from-pairs m o (c ∷ cs) [] h = absurd h
 from-pairs m o (c ∷ cs) (r ∷ rs) h = and-true _ _ (h .0) (from-pairs m o cs rs (h .1))
 
-module _ (m : Model) (w : Sound m) where
+module _ (m : Model) (w : WellFormed m) where
   few-phases : (c : ℕ) → isAtomic (m .components) c ≡ true → componentAt (m .components) c .phases ≤ maxOwnPhases
   unfolding atomicFields
   few-phases c e =
@@ -91,8 +90,8 @@ module _ (m : Model) (w : Sound m) where
       λ i. entry-back r (omega arith) (omega arith) i ∷ held o cs rs l (and-right (isAtomic (m .components) c) _ a) (h .1) i
 
   -- a run that fits, written at the front of any bytes, is a run that fits
-  pub fit-written : (r : Run) (rest : Bytes) → FitRun m r → (fits m (runBytes r ++ rest) ≡ true) × (runOf m (runBytes r ++ rest) ≡ r)
-  unfolding fits runOf atomicCount
+  pub fit-written : (r : Run) (rest : Bytes) → FitRun m r → (runFits m (runBytes r ++ rest) ≡ true) × (runOf m (runBytes r ++ rest) ≡ r)
+  unfolding runFits runOf atomicCount
   fit-written r rest h =
       let L = atomics (m .components) in
       let n : length (r .entries) ≡ length L = pairs-length _ L (r .entries) (h .0) in
@@ -108,8 +107,8 @@ module _ (m : Model) (w : Sound m) where
   -- ---- the calls
 
   -- where an advance ends, the run fits
-  pub advance-fit : (run : Bytes) (t : ℕ) (room : ℕ) (x : Bag) → fits m run ≡ true → runOf m run .opening ≤ t → t ≤ maxMoment
-      → (let p = advanceFrom (nested m) (runOf m run .opening) (runOf m run .entries) room t x .progress in FitRun m (record { opening = p .opening; entries = p .state }))
+  pub advance-fit : (run : Bytes) (t : ℕ) (room : ℕ) (x : Bag) → runFits m run ≡ true → runOf m run .opening ≤ t → t ≤ maxMoment
+      → (let p = advanceFrom (nested m) room t x (runOf m run .opening) (runOf m run .entries) .progress in FitRun m (record { opening = p .opening; entries = p .state }))
   advance-fit run t room x h o l =
       let a = advance-alike (agree-order m w) room t x x (λ p. refl) (runOf m run .opening) (runOf m run .entries) (runOf m run .entries) (refl, fits-run m run h .0 .0) o in
       (a .1 .state .1, omega (arith, a .2))
@@ -138,16 +137,16 @@ module _ (m : Model) (w : Sound m) where
         go cs (all-tail (isAtomic (m .components)) c cs h),
       )
 
-pub advance-fits : (file run : Bytes) (t : ℕ) (bag trace : Bytes) (m : Model) → AllBytes file → accepted file ≡ ok m → fits m run ≡ true
-    → fits m (advance file run t bag trace .run) ≡ true
+pub advance-fits : (file run : Bytes) (t : ℕ) (bag trace : Bytes) (m : Model) → AllBytes file → accepted file ≡ ok m → runFits m run ≡ true
+    → runFits m (advance file run t bag trace .run) ≡ true
 unfolding advance advanced stored
 advance-fits file run t bag trace m b e h = rw e (go (advanceChecks m run t bag) refl)
   where
-    w : Sound m
+    w : WellFormed m
     w = accepted-sound file m b e .sound
 
     go : (r : Result (Unit {0})) → advanceChecks m run t bag ≡ r
-        → fits m (advanced run trace (advanceChecks m run t bag >>= λ _. ok (advanceFrom (nested m) (runOf m run .opening) (runOf m run .entries) (length trace) t (toBag bag))) .run) ≡ true
+        → runFits m (advanced run trace (advanceChecks m run t bag >>= λ _. ok (advanceFrom (nested m) (length trace) t (toBag bag) (runOf m run .opening) (runOf m run .entries))) .run) ≡ true
     go (refused n) f = rw f h
     go (ok u) f = let c = advance-ok m run t bag f in rw f (fit-written m w _ _ (advance-fit m w run t (length trace) (toBag bag) h (c .from-opening) (c .low-moment)) .0)
 
@@ -156,7 +155,7 @@ unfolding startRun atomicCount
 start-length m = length-run (startRun m) ∙ ap runLength (length-map (atomics (m .components)) _)
 
 pub start-fits : (file buffer : Bytes) (m : Model) → AllBytes file → accepted file ≡ ok m → runLength (atomicCount m) ≤ length buffer
-    → fits m (start file buffer .buffer) ≡ true
+    → runFits m (start file buffer .buffer) ≡ true
 unfolding start wrote stored
 start-fits file buffer m b e h =
     let w = accepted-sound file m b e .sound in

@@ -11,7 +11,7 @@ use Rattle.definition.specs.Lists.{all, concat}
 use Rattle.definition.specs.Bytes.{Bytes, AllBytes, none, Result, ok, refused, _>>=_, stored}
 use Rattle.definition.specs.Model.{Bag, Model}
 use Rattle.definition.specs.Records.{portFits}
-use Rattle.definition.specs.Routes.{accepted}
+use Rattle.definition.specs.Pinned.Decoder.{accepted}
 use Rattle.definition.specs.SavedRun.{Entry, Run, entryBytes, runBytes, runOf, atomicCount}
 use Rattle.definition.specs.Step.{nested}
 use Rattle.definition.specs.Advance.{Progress, Ended, advanceFrom}
@@ -19,7 +19,7 @@ use Rattle.definition.specs.Engine.{WasRead, Wrote, startRun, start, wrote, Adv
 use Rattle.definition.specs.Flatten.{flat}
 use Rattle.definition.specs.FlatMachine.{inTurn, answered, flatAdvance, flatStart, flatReading}
 use Rattle.definition.specs.Calls.{advanceAnswer, readingAnswer, Call, startCall, advanceCall, readingCall, called, runCalls, engine, flatMachine}
-use Rattle.model_laws.proofs.Sound.{Sound}
+use Rattle.model_laws.proofs.WellFormed.{WellFormed}
 use Rattle.model_laws.proofs.Codec.{append-bytes, drop-bytes, number-bytes}
 use Rattle.model_laws.proofs.RunBack.{run-written}
 use Rattle.flat_laws.proofs.Checks.{run-length, advance-ok}
@@ -30,8 +30,8 @@ use Rattle.theory.proofs.Fitting.{fits-run}
 use Rattle.theory.proofs.FlatStages.{toStage, answer, in-turn}
 
 -- An advance of the nest is one of the flat step on the flat form.
-pub lifted : (m : Model) (w : Sound m) (o : ℕ) (rs : List Entry) (room t : ℕ) (x : Bag) → Fit m o rs → o ≤ t → all portFits x ≡ true
-    → advanceFrom (nested m) o rs room t x ≡ advanceFrom (levelled (flat m)) o rs room t x
+pub lifted : (m : Model) (w : WellFormed m) (o : ℕ) (rs : List Entry) (room t : ℕ) (x : Bag) → Fit m o rs → o ≤ t → all portFits x ≡ true
+    → advanceFrom (nested m) room t x o rs ≡ advanceFrom (levelled (flat m)) room t x o rs
 lifted m w o rs room t x f l ports =
     ends-equal {Between = BetweenSame m w} {t = t} _ _ (λ o rs qs z. z .0) (advance-alike (agree-flat m w) room t x x (refl, ports) o rs rs (refl, f) l)
 
@@ -65,13 +65,13 @@ start-bytes file run h = go (accepted file)
 advance-bytes : (file run : Bytes) (t : ℕ) (bag trace : Bytes) → AllBytes run → AllBytes (advance file run t bag trace .run)
 unfolding advance advanced
 advance-bytes file run t bag trace h =
-    go (accepted file >>= λ m. advanceChecks m run t bag >>= λ _. ok (advanceFrom (nested m) (runOf m run .opening) (runOf m run .entries) (length trace) t (toBag bag)))
+    go (accepted file >>= λ m. advanceChecks m run t bag >>= λ _. ok (advanceFrom (nested m) (length trace) t (toBag bag) (runOf m run .opening) (runOf m run .entries)))
   where
     go : (r : Result (Ended (List Entry))) → AllBytes (advanced run trace r .run)
     go (refused n) = h
     go (ok a) = stored-bytes _ run (run-bytes _) h
 
-module _ (file : Bytes) (m : Model) (e : accepted file ≡ ok m) (w : Sound m) (self : flat m ≡ m) where
+module _ (file : Bytes) (m : Model) (e : accepted file ≡ ok m) (w : WellFormed m) (self : flat m ≡ m) where
   -- ---- one call
 
   module _ (run : Bytes) (t : ℕ) (bag trace : Bytes) (b : AllBytes run) (h : advanceChecks m run t bag ≡ ok tt) where
@@ -85,17 +85,17 @@ module _ (file : Bytes) (m : Model) (e : accepted file ≡ ok m) (w : Sound m) (
         let f = fits-run m run (advance-ok m run t bag h .run-fits) in
         λ i. record { state = run-written (atomicCount m) (f .1) (f .2) b i; trace = trace; instants = 0; steps = 0; used = 0 }
 
-    own-loops : inTurn (suc t) m t (toBag bag) (record { state = run; trace = trace; instants = 0; steps = 0; used = 0 })
-        ≡ answer m w self run trace (advanceFrom (nested m) (runOf m run .opening) (runOf m run .entries) (length trace) t (toBag bag))
+    own-loops : inTurn m t (toBag bag) (suc t) (record { state = run; trace = trace; instants = 0; steps = 0; used = 0 })
+        ≡ answer m w self run trace (advanceFrom (nested m) (length trace) t (toBag bag) (runOf m run .opening) (runOf m run .entries))
     unfolding advanceFrom
     own-loops =
         let c = advance-ok m run t bag h in
         let ports = c .bag-ports in
         let f = fits-run m run (c .run-fits) .0 .0 in
-        ap (inTurn (suc t) m t (toBag bag)) (sym first-stage)
+        ap (inTurn m t (toBag bag) (suc t)) (sym first-stage)
         ∙ in-turn m w self run trace t (c .low-moment) (toBag bag) ports (suc t) first (f, c .from-opening, omega arith)
         ∙ ap (answer m w self run trace) (sym (lifted m w (runOf m run .opening) (runOf m run .entries) (length trace) t (toBag bag) f (c .from-opening) ports
-        ∙ ap (λ k. advanceFrom (levelled k) (runOf m run .opening) (runOf m run .entries) (length trace) t (toBag bag)) self))
+        ∙ ap (λ k. advanceFrom (levelled k) (length trace) t (toBag bag) (runOf m run .opening) (runOf m run .entries)) self))
 
   answers : (run trace : Bytes) (a : Ended (List Entry)) → answered run trace (ok (answer m w self run trace a)) ≡ advanced run trace (ok a)
   unfolding answered advanced toStage
@@ -106,8 +106,8 @@ module _ (file : Bytes) (m : Model) (e : accepted file ≡ ok m) (w : Sound m) (
   advance-self run t bag trace b = rw e (go (advanceChecks m run t bag) refl)
     where
       go : (r : Result (Unit {0})) → advanceChecks m run t bag ≡ r
-          → advanced run trace (advanceChecks m run t bag >>= λ _. ok (advanceFrom (nested m) (runOf m run .opening) (runOf m run .entries) (length trace) t (toBag bag)))
-          ≡ answered run trace (advanceChecks m run t bag >>= λ _. ok (inTurn (suc t) m t (toBag bag) (record { state = run; trace = trace; instants = 0; steps = 0; used = 0 })))
+          → advanced run trace (advanceChecks m run t bag >>= λ _. ok (advanceFrom (nested m) (length trace) t (toBag bag) (runOf m run .opening) (runOf m run .entries)))
+          ≡ answered run trace (advanceChecks m run t bag >>= λ _. ok (inTurn m t (toBag bag) (suc t) (record { state = run; trace = trace; instants = 0; steps = 0; used = 0 })))
       go (refused n) h = rw h (unfold answered advanced in refl)
       go (ok u) h = rw (h, own-loops run t bag trace b h) (sym (answers run trace _))
 
@@ -115,7 +115,7 @@ module _ (file : Bytes) (m : Model) (e : accepted file ≡ ok m) (w : Sound m) (
   unfolding reading flatReading
   reading-self run position = rw (e, due-same m w (runOf m run .entries) (run-length m run), self)
 
-  called-self : (run : Bytes) (c : Call) → AllBytes run → called (engine file) run c ≡ called (flatMachine file) run c
+  pub called-self : (run : Bytes) (c : Call) → AllBytes run → called (engine file) run c ≡ called (flatMachine file) run c
   unfolding called engine flatMachine
   called-self run startCall h = unfold start flatStart in refl
   called-self run (advanceCall c) h =
@@ -123,7 +123,7 @@ module _ (file : Bytes) (m : Model) (e : accepted file ≡ ok m) (w : Sound m) (
   called-self run (readingCall position) h =
       ap (λ (r : WasRead). (readingAnswer (r .number) (r .phase) (r .last) (r .due), run)) (reading-self run position)
 
-  call-bytes : (run : Bytes) (c : Call) → AllBytes run → AllBytes (called (engine file) run c .1)
+  pub call-bytes : (run : Bytes) (c : Call) → AllBytes run → AllBytes (called (engine file) run c .1)
   unfolding called engine
   call-bytes run startCall h = start-bytes file run h
   call-bytes run (advanceCall c) h = advance-bytes file run (c .moment) (c .bag) (c .trace) h

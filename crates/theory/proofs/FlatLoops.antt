@@ -17,7 +17,7 @@ use Rattle.definition.specs.Step.{Stepped, nested}
 use Rattle.definition.specs.Instant.{Instant, done, jammed, stepped, isDue, goesOn, stepsAt, instant}
 use Rattle.definition.specs.Flatten.{flat}
 use Rattle.definition.specs.FlatMachine.{dueNow, flatStep, anyDue, takeSteps, firstDue, flatDue}
-use Rattle.model_laws.proofs.Sound.{Sound}
+use Rattle.model_laws.proofs.WellFormed.{WellFormed}
 use Rattle.nest_laws.proofs.Times.{notBefore-earlier}
 use Rattle.nest_laws.proofs.Pairs.{Pairs}
 use Rattle.nest_laws.proofs.Nest.{Fresh}
@@ -69,7 +69,7 @@ unfolding all
 no-ports = refl
 
 -- on a model that is its own flat form
-module _ (m : Model) (w : Sound m) (self : flat m ≡ m) where
+module _ (m : Model) (w : WellFormed m) (self : flat m ≡ m) where
   pub agree-self : Agree (AtSame m w) (BetweenSame m w) OnPorts (nested m) (levelled m)
   agree-self = subst (λ k. Agree (AtSame m w) (BetweenSame m w) OnPorts (nested m) (levelled k)) self (agree-flat m w)
 

@@ -1,47 +1,35 @@
 -- The flat machine's own advance, on a model that is its own flat form, ends with the buffers that the generic advance of its step describes:
 -- its stage is at every turn the progress written into the lent buffers. Assumes nothing.
-use mathlib.Core.Path.{_≡_, refl, sym, ap, ap₂, _∙_, subst}
+use mathlib.Core.Path.{_≡_, refl, sym, ap, _∙_, subst}
 use Prim.Native.Nat.{ℕ, zero, suc, _+_, _≤_}
 use mathlib.Core.List.{List, [], _∷_, _++_}
 use mathlib.Core.Bool.{Bool, true, false, not, cond}
 use native.Mathlib.Omega.{arith}
 use lib.Dec.{leb, ltb}
-use lib.ListN.{length, take, drop, length-append, length-drop}
+use lib.ListN.{length, drop, length-append, length-drop}
 use borrow.Author.Tests.{ltb-false}
-use lib.Seq.{take-at, drop-at, drop-append-add, drop-drop}
 use Rattle.definition.specs.Lists.{all, isEmpty}
 use Rattle.definition.specs.Bytes.{Bytes, Result, ok, refused, refuseIf, _>>=_, stored}
 use Rattle.definition.specs.Limits.{maxMoment, maxSteps, maxRootBag}
 use Rattle.definition.specs.Model.{Bag, Model, atomics}
 use Rattle.definition.specs.Records.{portFits}
-use Rattle.definition.specs.Devs.{Time, finite, never}
+use Rattle.definition.specs.Devs.{Time, finite, never, ticks}
 use Rattle.definition.specs.SavedRun.{Entry, Run, runLength, runBytes, notBefore, nextDue}
 use Rattle.definition.specs.Step.{nested}
-use Rattle.definition.specs.Instant.{Instant, done, jammed, instant, over, records}
-use Rattle.definition.specs.Advance.{Progress, Ended, ended, tried, continued, succeeded, isBefore, moment, advancing}
+use Rattle.definition.specs.Instant.{Instant, done, jammed, instant, over, instantTrace}
+use Rattle.definition.specs.Advance.{Progress, Ended, ended, tried, continued, succeeded, isBefore, advancing}
 use Rattle.definition.specs.Flatten.{flat}
-use Rattle.definition.specs.FlatMachine.{anyDue, takeSteps, flatDue, Stage, entriesIn, standing, judged, attempt, openedPast, goOn, dueBefore, dueMoment, inTurn}
-use Rattle.model_laws.proofs.Sound.{Sound}
+use Rattle.definition.specs.FlatMachine.{anyDue, takeSteps, flatDue, Stage, entriesIn, standing, verdictOn, attempt, openedPast, orEnd, dueBefore, inTurn}
+use Rattle.model_laws.proofs.WellFormed.{WellFormed}
 use Rattle.model_laws.proofs.RunBack.{length-run}
 use Rattle.nest_laws.proofs.Pairs.{pairs-length}
 use Rattle.theory.proofs.Lift.{before-t, not-before-t, Agree, AlikeAfter, tried-alike, instant-same}
 use Rattle.theory.proofs.Kept.{Kept, Fit, AtSame, BetweenSame, fit-opens, fit-early}
 use Rattle.theory.proofs.Agreement.{levelled, OnPorts}
+use Rattle.theory.proofs.Buffers.{stored-again, written-on}
+use Rattle.theory.proofs.FlatTrace.{written-trace}
 use Rattle.theory.proofs.FlatLoops.{settled, agree-self, no-ports, settles, kept-steps}
 use Rattle.theory.proofs.Fitting.{fit-written}
-
--- ---- buffers
-
-stored-again : (a b s : Bytes) → length a ≡ length b → stored a (stored b s) ≡ stored a s
-unfolding stored
-stored-again a b s e = ap (λ k. a ++ drop k (b ++ drop (length b) s)) e ∙ ap (λ z. a ++ z) (drop-at b (drop (length b) s) (length b) refl ∙ ap (λ k. drop k s) (sym e))
-
--- records written on behind those that stand
-written-on : (a r s : Bytes) → take (length a) (stored a s) ++ r ++ drop (length a + length r) (stored a s) ≡ stored (a ++ r) s
-unfolding stored
-written-on a r s =
-    ap₂ (λ x y. x ++ r ++ y) (take-at a (drop (length a) s) (length a) refl)
-    (drop-append-add a (drop (length a) s) (length r) ∙ drop-drop (length r) (length a) s ∙ ap (λ k. drop k s) (sym (length-append a r)))
 
 -- the next moment, by the flat machine's own names
 same-before : (u : Time) (t : ℕ) → dueBefore u t ≡ isBefore u t
@@ -49,12 +37,7 @@ unfolding dueBefore isBefore
 same-before (finite a) t = refl
 same-before never t = refl
 
-same-moment : (u : Time) → dueMoment u ≡ moment u
-unfolding dueMoment moment
-same-moment (finite a) = refl
-same-moment never = refl
-
-module _ (m : Model) (w : Sound m) (self : flat m ≡ m) (run₀ trace₀ : Bytes) where
+module _ (m : Model) (w : WellFormed m) (self : flat m ≡ m) (run₀ trace₀ : Bytes) where
   -- ---- the stage that a progress stands for
 
   abbrev runIn : Progress (List Entry) → Run
@@ -90,18 +73,18 @@ module _ (m : Model) (w : Sound m) (self : flat m ≡ m) (run₀ trace₀ : Byte
   -- ---- the verdict
 
   judged-tried : (now : ℕ) (p : Progress (List Entry)) (c : List Bag × List Entry) → length (c .1) ≡ length (p .state) → length (p .trace) ≤ room
-      → judged m now (toStage p) c ≡ staged (tried room now p (settled (anyDue m now (atomics (m .components)) (c .1)) c))
-  unfolding judged tried settled toStage isEmpty over
-  judged-tried now p c e l = rw (same-room p l) (go (anyDue m now (atomics (m .components)) (c .1)) (c .0))
+      → verdictOn m now (toStage p) c ≡ staged (tried room now p (settled (anyDue m now (atomics (m .components)) (c .1)) c))
+  unfolding verdictOn tried settled toStage isEmpty over
+  judged-tried now p c e l = rw (same-room p l, written-trace now (c .0)) (go (anyDue m now (atomics (m .components)) (c .1)) (c .0))
     where
       go : (b : Bool) (xs : List Bag)
           → (let d : List Bag × List Entry = (xs, c .1) in
           cond b (refused 13) (cond (isEmpty xs) (ok (toStage p)) (cond (not (all (λ x. leb (length x) maxRootBag) xs)) (refused 14)
-          (cond (ltb room (length (p .trace) + length (records now xs))) (refused 15) (ok (standing now (toStage p) d)))))
+          (cond (ltb room (length (p .trace) + length (instantTrace now xs))) (refused 15) (ok (standing now (toStage p) d)))))
           ≡ staged (tried room now p (cond b jammed (done xs (c .1)))))
       go true xs = refl
       go false [] = refl
-      go false (x ∷ xs) = rw (length-append (p .trace) (records now (x ∷ xs))) (ends (over (x ∷ xs)) (ltb room (length (p .trace) + length (records now (x ∷ xs)))))
+      go false (x ∷ xs) = rw (length-append (p .trace) (instantTrace now (x ∷ xs))) (ends (over (x ∷ xs)) (ltb room (length (p .trace) + length (instantTrace now (x ∷ xs)))))
         where
           new : Progress (List Entry)
           new = record {
@@ -109,17 +92,17 @@ module _ (m : Model) (w : Sound m) (self : flat m ≡ m) (run₀ trace₀ : Byte
             state = c .1;
             instants = suc (p .instants);
             steps = p .steps + length (x ∷ xs);
-            trace = p .trace ++ records now (x ∷ xs);
+            trace = p .trace ++ instantTrace now (x ∷ xs);
           }
 
           same : standing now (toStage p) (x ∷ xs, c .1) ≡ toStage new
-          same = unfold standing in (λ i. record {
+          same = unfold standing in (rw (written-trace now (x ∷ xs)) (λ i. record {
             state = stored-again (runBytes (runIn new)) (runBytes (runIn p)) run₀ (same-run-length (runIn new) (runIn p) e) i;
-            trace = written-on (p .trace) (records now (x ∷ xs)) trace₀ i;
+            trace = written-on (p .trace) (instantTrace now (x ∷ xs)) trace₀ i;
             instants = suc (p .instants);
             steps = p .steps + length (x ∷ xs);
-            used = sym (length-append (p .trace) (records now (x ∷ xs))) i;
-          })
+            used = sym (length-append (p .trace) (instantTrace now (x ∷ xs))) i;
+          }))
 
           ends : (a b : Bool) → cond a (refused 14) (cond b (refused 15) (ok (standing now (toStage p) (x ∷ xs, c .1)))) ≡ staged (refuseIf a 14 >>= λ _. refuseIf b 15 >>= λ _. ok new)
           ends true b = refl
@@ -148,15 +131,15 @@ module _ (m : Model) (w : Sound m) (self : flat m ≡ m) (run₀ trace₀ : Byte
     unfolding tried
     in-room now p jammed l = tt
     in-room now p (done [] s) l = l
-    in-room now p (done (x ∷ xs) s) l = go (over (x ∷ xs)) (ltb room (length (p .trace ++ records now (x ∷ xs)))) refl
+    in-room now p (done (x ∷ xs) s) l = go (over (x ∷ xs)) (ltb room (length (p .trace ++ instantTrace now (x ∷ xs)))) refl
       where
-        go : (b c : Bool) → ltb room (length (p .trace ++ records now (x ∷ xs))) ≡ c
+        go : (b c : Bool) → ltb room (length (p .trace ++ instantTrace now (x ∷ xs))) ≡ c
             → InRoom (refuseIf b 14 >>= λ _. refuseIf c 15 >>= λ _. ok (record {
               opening = suc now;
               state = s;
               instants = suc (p .instants);
               steps = p .steps + length (x ∷ xs);
-              trace = p .trace ++ records now (x ∷ xs);
+              trace = p .trace ++ instantTrace now (x ∷ xs);
             }))
         go true c e = tt
         go false true e = tt
@@ -172,7 +155,7 @@ module _ (m : Model) (w : Sound m) (self : flat m ≡ m) (run₀ trace₀ : Byte
       attempted =
           let L = atomics (m .components) in
           let c = takeSteps m now maxSteps y (p .state) in
-          ap (λ rs. judged m now (toStage p) (takeSteps m now maxSteps y rs)) (entries-in p h)
+          ap (λ rs. verdictOn m now (toStage p) (takeSteps m now maxSteps y rs)) (entries-in p h)
           ∙ judged-tried now p c (pairs-length _ L (c .1) (kept-steps m w self maxSteps now y (p .state) ports kept .0) ∙ sym (pairs-length _ L (p .state) (kept .0))) (h .2)
           ∙ ap (λ i. staged (tried room now p i)) (sym (settles m w self now y (p .state) ports kept))
 
@@ -199,8 +182,8 @@ module _ (m : Model) (w : Sound m) (self : flat m ≡ m) (run₀ trace₀ : Byte
     -- ---- the instants in turn
 
     goes-on : (n : ℕ) (f : Stage → ℕ × Stage) (g : Progress (List Entry) → Ended (List Entry)) (p : Progress (List Entry)) (r : Result (Progress (List Entry))) → SitsAfter n r
-        → ((q : Progress (List Entry)) → Sits n q → f (toStage q) ≡ answer (g q)) → goOn f (toStage p) (staged r) ≡ answer (continued g p r)
-    unfolding goOn continued ended
+        → ((q : Progress (List Entry)) → Sits n q → f (toStage q) ≡ answer (g q)) → orEnd f (toStage p) (staged r) ≡ answer (continued g p r)
+    unfolding orEnd continued ended
     goes-on n f g p (refused j) h e = refl
     goes-on n f g p (ok q) h e = e q h
 
@@ -221,11 +204,11 @@ module _ (m : Model) (w : Sound m) (self : flat m ≡ m) (run₀ trace₀ : Byte
         again = unfold toStage in (stored-again _ (runBytes (runIn q)) run₀ (same-run-length (record { opening = suc t; entries = q .state }) (runIn q) refl))
 
     module _ (x : Bag) (ports : all portFits x ≡ true) where
-      pub in-turn : (n : ℕ) (p : Progress (List Entry)) → Sits t p → inTurn n m t x (toStage p) ≡ answer (advancing (levelled m) n room t x p)
+      pub in-turn : (n : ℕ) (p : Progress (List Entry)) → Sits t p → inTurn m t x n (toStage p) ≡ answer (advancing (levelled m) room t x n p)
       unfolding inTurn advancing ended
       in-turn zero p h = refl
       in-turn (suc n) p h =
-          rw (entries-in p wide, same-before (flatDue m (p .state)) t, same-moment (flatDue m (p .state))) (go (isBefore u t) refl (λ q k. in-turn n q k))
+          rw (entries-in p wide, same-before (flatDue m (p .state)) t) (go (isBefore u t) refl (λ q k. in-turn n q k))
         where
           u : Time
           u = flatDue m (p .state)
@@ -236,17 +219,17 @@ module _ (m : Model) (w : Sound m) (self : flat m ≡ m) (run₀ trace₀ : Byte
           next : nextDue m (p .state) ≡ u
           next = agree-self m w self .same-next (p .opening) (p .state) (p .state) (refl, fit-opens m w (p .opening) (p .opening) (p .state) (h .0) (omega arith) (fit-early m w (p .opening) (p .state) (h .0)))
 
-          go : (b : Bool) → isBefore u t ≡ b → ((q : Progress (List Entry)) → Sits t q → inTurn n m t x (toStage q) ≡ answer (advancing (levelled m) n room t x q))
-              → cond b (goOn (λ h. inTurn n m t x h) (toStage p) (attempt m (moment u) [] (toStage p))) (goOn (λ h. (0, openedPast m t h)) (toStage p) (attempt m t x (toStage p)))
-              ≡ answer (cond b (continued (λ q. advancing (levelled m) n room t x q) p (tried room (moment u) p (instant (levelled m) (moment u) [] (p .state))))
+          go : (b : Bool) → isBefore u t ≡ b → ((q : Progress (List Entry)) → Sits t q → inTurn m t x n (toStage q) ≡ answer (advancing (levelled m) room t x n q))
+              → cond b (orEnd (λ h. inTurn m t x n h) (toStage p) (attempt m (ticks u) [] (toStage p))) (orEnd (λ h. (0, openedPast m t h)) (toStage p) (attempt m t x (toStage p)))
+              ≡ answer (cond b (continued (λ q. advancing (levelled m) room t x n q) p (tried room (ticks u) p (instant (levelled m) (ticks u) [] (p .state))))
               (continued (succeeded t) p (tried room t p (instant (levelled m) t x (p .state)))))
           go true e ih =
               let b = before-t t (p .opening) u (ap (notBefore (p .opening)) (sym next) ∙ fit-early m w (p .opening) (p .state) (h .0)) e in
-              let kept = fit-opens m w (p .opening) (moment u) (p .state) (h .0) (b .0) (ap (notBefore (moment u)) next ∙ b .2) in
-              ap (goOn (λ h. inTurn n m t x h) (toStage p)) (attempted (moment u) [] p no-ports wide (b .0) kept)
-              ∙ goes-on (suc (moment u)) _ _ p (verdict (moment u) [] p no-ports wide (b .0) kept) (sits-on (moment u) [] p no-ports wide (b .0) kept)
+              let kept = fit-opens m w (p .opening) (ticks u) (p .state) (h .0) (b .0) (ap (notBefore (ticks u)) next ∙ b .2) in
+              ap (orEnd (λ h. inTurn m t x n h) (toStage p)) (attempted (ticks u) [] p no-ports wide (b .0) kept)
+              ∙ goes-on (suc (ticks u)) _ _ p (verdict (ticks u) [] p no-ports wide (b .0) kept) (sits-on (ticks u) [] p no-ports wide (b .0) kept)
               (λ q k. ih q (k .0, omega (arith, k .1, b .1), k .2))
           go false e ih =
               let kept = fit-opens m w (p .opening) t (p .state) (h .0) (h .1) (ap (notBefore t) next ∙ not-before-t t u e) in
-              ap (goOn (λ h. (0, openedPast m t h)) (toStage p)) (attempted t x p ports wide (h .1) kept)
+              ap (orEnd (λ h. (0, openedPast m t h)) (toStage p)) (attempted t x p ports wide (h .1) kept)
               ∙ goes-on (suc t) _ _ p (verdict t x p ports wide (h .1) kept) (sits-on t x p ports wide (h .1) kept) opened-past

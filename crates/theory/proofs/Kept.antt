@@ -14,7 +14,7 @@ use Rattle.definition.specs.Step.{Simulator, step, nested}
 use Rattle.definition.specs.Instant.{isDue}
 use Rattle.laws.proofs.Sorting.{and-left}
 use Rattle.laws.proofs.Lists.{and-true, or-left}
-use Rattle.model_laws.proofs.Sound.{Sound}
+use Rattle.model_laws.proofs.WellFormed.{WellFormed}
 use Rattle.model_laws.proofs.PhaseRange.{moved-own}
 use Rattle.nest_laws.proofs.Pairs.{Pairs, pairs-if, pairs-both, pairs-paired}
 use Rattle.nest_laws.proofs.Nest.{Fresh}
@@ -41,7 +41,7 @@ entry-phase m o c r h =
     let b = ltb (r .last) o || (eqb o 0 && eqb (r .last) 0) in
     ltb-true (r .phase) _ (and-left a b (and-left (a && b) _ h))
 
-module _ (m : Model) (w : Sound m) where
+module _ (m : Model) (w : WellFormed m) where
   abbrev L : List ℕ
   L = atomics (m .components)
 

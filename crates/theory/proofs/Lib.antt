@@ -1,4 +1,5 @@
 -- The proofs of the demands, in the order of the argument.
+pub mod Buffers
 pub mod SameBags
 pub mod Lift
 pub mod Kept
@@ -8,9 +9,20 @@ pub mod Carrying
 pub mod Fitting
 pub mod Instants
 pub mod Ending
+pub mod Advancing
+pub mod Answering
+pub mod CallRows
 pub mod Demand1
+pub mod Lengths
+pub mod Resuming
+pub mod Header
 pub mod RootBag
+pub mod Shown
+pub mod Standing
+pub mod StandsOnce
+pub mod Through
 pub mod Demand2
+pub mod FlatTrace
 pub mod FlatLoops
 pub mod FlatStages
 pub mod FlatCalls

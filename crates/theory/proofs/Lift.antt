@@ -12,18 +12,18 @@ use Rattle.definition.specs.Lists.{isEmpty, Same}
 use Rattle.definition.specs.Limits.{maxSteps}
 use Rattle.definition.specs.Bytes.{Result, ok, refused, refuseIf, _>>=_}
 use Rattle.definition.specs.Model.{Bag}
-use Rattle.definition.specs.Devs.{Time, finite, never, sameTime}
+use Rattle.definition.specs.Devs.{Time, finite, never, sameTime, ticks}
 use Rattle.definition.specs.SavedRun.{notBefore}
 use Rattle.definition.specs.Step.{Simulator}
-use Rattle.definition.specs.Instant.{Instant, done, jammed, stepped, isDue, goesOn, stepsAt, instant, over, records}
-use Rattle.definition.specs.Advance.{Progress, Ended, ended, tried, continued, succeeded, isBefore, moment, advancing, advanceFrom}
+use Rattle.definition.specs.Instant.{Instant, done, jammed, stepped, isDue, goesOn, stepsAt, instant, over, instantTrace}
+use Rattle.definition.specs.Advance.{Progress, Ended, ended, tried, continued, succeeded, isBefore, advancing, advanceFrom}
 use Rattle.laws.proofs.Sorting.{clash}
 use Rattle.theory.proofs.SameBags.{SameAll, records-same, over-same, length-same}
 
 -- ---- the next moment: where it lies before t, and where it does not
 
-pub before-t : (t now : ℕ) (u : Time) → notBefore now u ≡ true → isBefore u t ≡ true → (now ≤ moment u) × (moment u < t) × (notBefore (moment u) u ≡ true)
-unfolding notBefore isBefore moment
+pub before-t : (t now : ℕ) (u : Time) → notBefore now u ≡ true → isBefore u t ≡ true → (now ≤ ticks u) × (ticks u < t) × (notBefore (ticks u) u ≡ true)
+unfolding notBefore isBefore ticks
 before-t t now (finite a) h e = (leb-true now a h, ltb-true a t e, le-leb a a (omega arith))
 before-t t now never h e = absurd (clash e refl)
 
@@ -140,7 +140,7 @@ module _ {S₁ S₂ : Type 0} where
         let tail = ap₂ _++_ (a .trace) (records-same now (x ∷ xs) (y ∷ ys) (h .0)) in
         let b = k .closes now s s′ (h .1) (h .2) in
         rw (← over-same (x ∷ xs) (y ∷ ys) (h .0), ← tail)
-        (go (over (x ∷ xs)) (ltb room (length (p .trace ++ records now (x ∷ xs)))) _ _ (
+        (go (over (x ∷ xs)) (ltb room (length (p .trace ++ instantTrace now (x ∷ xs)))) _ _ (
           record {
             opening = refl;
             state = b;
@@ -177,7 +177,7 @@ module _ {S₁ S₂ : Type 0} where
 
     module _ (room t : ℕ) (x y : Bag) (fine : Fine x y) where
       advancing-alike : (n : ℕ) (p : Progress S₁) (q : Progress S₂) → Alike Between p q → p .opening ≤ t
-          → EndsAlike Between t (advancing k₁ n room t x p) (advancing k₂ n room t y q)
+          → EndsAlike Between t (advancing k₁ room t x n p) (advancing k₂ room t y n q)
       unfolding advancing ended
       advancing-alike zero p q a o = (refl, a, omega arith)
       advancing-alike (suc n) p q a o =
@@ -190,24 +190,24 @@ module _ {S₁ S₂ : Type 0} where
           here = k .opens (p .opening) (p .opening) (p .state) (q .state) (a .state) (omega arith) (k .early (p .opening) (p .state) (q .state) (a .state))
 
           go : (b : Bool) → isBefore u t ≡ b
-              → ((p : Progress S₁) (q : Progress S₂) → Alike Between p q → p .opening ≤ t → EndsAlike Between t (advancing k₁ n room t x p) (advancing k₂ n room t y q))
+              → ((p : Progress S₁) (q : Progress S₂) → Alike Between p q → p .opening ≤ t → EndsAlike Between t (advancing k₁ room t x n p) (advancing k₂ room t y n q))
               → EndsAlike Between t
-              (cond b (continued (λ r. advancing k₁ n room t x r) p (tried room (moment u) p (instant k₁ (moment u) [] (p .state))))
+              (cond b (continued (λ r. advancing k₁ room t x n r) p (tried room (ticks u) p (instant k₁ (ticks u) [] (p .state))))
               (continued (succeeded t) p (tried room t p (instant k₁ t x (p .state)))))
-              (cond b (continued (λ r. advancing k₂ n room t y r) q (tried room (moment u) q (instant k₂ (moment u) [] (q .state))))
+              (cond b (continued (λ r. advancing k₂ room t y n r) q (tried room (ticks u) q (instant k₂ (ticks u) [] (q .state))))
               (continued (succeeded t) q (tried room t q (instant k₂ t y (q .state)))))
           go true e ih =
               let b = before-t t (p .opening) u (k .early (p .opening) (p .state) (q .state) (a .state)) e in
-              let at = k .opens (p .opening) (moment u) (p .state) (q .state) (a .state) (b .0) (b .2) in
-              continued-alike t (moment u) _ _ p q _ _ a o
-              (tried-alike room (moment u) p q _ _ a (b .0) (instant-same (moment u) [] [] (p .state) (q .state) at (k .fine-none)))
+              let at = k .opens (p .opening) (ticks u) (p .state) (q .state) (a .state) (b .0) (b .2) in
+              continued-alike t (ticks u) _ _ p q _ _ a o
+              (tried-alike room (ticks u) p q _ _ a (b .0) (instant-same (ticks u) [] [] (p .state) (q .state) at (k .fine-none)))
               (λ p′ q′ h. ih p′ q′ (h .0) (omega (arith, h .1, b .1)))
           go false e ih =
               let at = k .opens (p .opening) t (p .state) (q .state) (a .state) o (not-before-t t u e) in
               continued-alike t t _ _ p q _ _ a o
               (tried-alike room t p q _ _ a o (instant-same t x y (p .state) (q .state) at fine)) (succeeded-alike t)
 
-      pub advance-alike : (o : ℕ) (s : S₁) (q : S₂) → Between o s q → o ≤ t → EndsAlike Between t (advanceFrom k₁ o s room t x) (advanceFrom k₂ o q room t y)
+      pub advance-alike : (o : ℕ) (s : S₁) (q : S₂) → Between o s q → o ≤ t → EndsAlike Between t (advanceFrom k₁ room t x o s) (advanceFrom k₂ room t y o q)
       unfolding advanceFrom
       advance-alike o s q b l = advancing-alike (suc t) _ _ (record { opening = refl; state = b; instants = refl; steps = refl; trace = refl }) l
 

@@ -12,7 +12,8 @@ use Rattle.definition.specs.Lists.{all}
 use Rattle.definition.specs.Bytes.{Bytes, AllBytes, ok}
 use Rattle.definition.specs.Limits.{maxRoutes, maxRootBag}
 use Rattle.definition.specs.Model.{Bag, Model}
-use Rattle.definition.specs.Routes.{routes, accepted}
+use Rattle.definition.specs.Routes.{routes}
+use Rattle.definition.specs.Pinned.Decoder.{accepted}
 use Rattle.definition.specs.SavedRun.{Entry, entryOf}
 use Rattle.definition.specs.Step.{step, nested}
 use Rattle.definition.specs.Instant.{over}
@@ -22,7 +23,7 @@ use Rattle.definition.specs.Engine.{advanced, advance, toBag}
 use Rattle.definition.specs.Demands.{MayAdvance}
 use Rattle.laws.proofs.Sorting.{clash}
 use Rattle.laws.proofs.Lists.{and-true}
-use Rattle.model_laws.proofs.Sound.{Sound}
+use Rattle.model_laws.proofs.WellFormed.{WellFormed}
 use Rattle.model_laws.proofs.Reading.{accepted-sound}
 use Rattle.nest_laws.proofs.StepOf.{step-out}
 use Rattle.nest_laws.proofs.Stepping.{Good, ready, step-good}
@@ -34,7 +35,7 @@ use Rattle.theory.proofs.Ending.{opened, kept-on}
 use Rattle.theory.proofs.Fitting.{fits-run}
 use Rattle.theory.proofs.Demand1.{demand1}
 
-module _ (m : Model) (w : Sound m) (few : length (routes m) ≤ maxRoutes) where
+module _ (m : Model) (w : WellFormed m) (few : length (routes m) ≤ maxRoutes) where
   bags-low : (now : ℕ) (x : Bag) (rs qs : List Entry) (xs : List Bag) → Good m now rs → Steps (nested m) now x rs xs qs → all (λ y. leb (length y) maxRootBag) xs ≡ true
   unfolding all
   bags-low now x rs qs [] g h = refl

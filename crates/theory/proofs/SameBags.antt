@@ -9,7 +9,7 @@ use lib.ListN.{length}
 use Rattle.definition.specs.Lists.{all, isEmpty, Same}
 use Rattle.definition.specs.Limits.{maxRootBag}
 use Rattle.definition.specs.Model.{Bag}
-use Rattle.definition.specs.Instant.{over, traceBytes, recordsFrom, records}
+use Rattle.definition.specs.Instant.{over, traceBytes, recordsFrom, instantTrace}
 use Rattle.laws.proofs.Bags.{sort-same}
 use Rattle.nest_laws.proofs.Numbers.{same-length}
 
@@ -34,8 +34,8 @@ records-from now k [] (y ∷ ys) h = absurd h
 records-from now k (x ∷ xs) [] h = absurd h
 records-from now k (x ∷ xs) (y ∷ ys) h = rw (empty-same x y (h .0), sort-same x y (h .0), records-from now (suc k) xs ys (h .1))
 
-pub records-same : (now : ℕ) (xs ys : List Bag) → SameAll xs ys → records now xs ≡ records now ys
-unfolding records
+pub records-same : (now : ℕ) (xs ys : List Bag) → SameAll xs ys → instantTrace now xs ≡ instantTrace now ys
+unfolding instantTrace
 records-same now xs ys h = ap traceBytes (records-from now 0 xs ys h)
 
 all-same : (xs ys : List Bag) → SameAll xs ys → all (λ x. leb (length x) maxRootBag) xs ≡ all (λ x. leb (length x) maxRootBag) ys

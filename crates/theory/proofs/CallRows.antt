@@ -1,0 +1,148 @@
+-- Each row of the table for a call gives its number and changes no lent byte, and each number above 0 comes from its row. The numbers of a
+-- model file are those of `Judged` (crate refusal_laws). Assumes nothing.
+use mathlib.Core.Path.{_≡_, refl, sym, ap, subst}
+use Prim.Native.Nat.{ℕ, _≤_, _<_}
+use mathlib.Core.Bool.{Bool, true, false}
+use native.Mathlib.Omega.{arith}
+use lib.Dec.{ltb, leb}
+use lib.ListN.{length}
+use borrow.Author.Tests.{lt-ltb, le-ltb, ltb-true, ltb-false, leb-true}
+use Rattle.definition.specs.Bytes.{Bytes, AllBytes, Result, ok, refused, numberOf}
+use Rattle.definition.specs.Model.{Model}
+use Rattle.definition.specs.File.{modelBytes}
+use Rattle.definition.specs.Pinned.Decoder.{accepted, checkModel}
+use Rattle.definition.specs.Refusals.{Judged}
+use Rattle.definition.specs.SavedRun.{runLength, atomicCount, runFits}
+use Rattle.definition.specs.Engine.{start, wrote, advanceChecks, advanced, advance, reading, readingChecks, readAt, wasRead}
+use Rattle.definition.specs.Flatten.{flat, flatten}
+use Rattle.definition.specs.Demands.{refusedWrite, refusedAdvance, refusedReading, StartRefusal, FlattenRefusal, ReadingRefusal, AdvanceRefusal, writer-refuses-model, writer-refuses-buffer, reading-refuses-model, reading-refuses-run, reading-refuses-position, advance-refuses-model, advance-refuses-run, advance-refuses-time, advance-refuses-bag}
+use Rattle.model_laws.proofs.Refusals.{Positive, accepted-positive}
+use Rattle.refusal_laws.proofs.Judged.{judged, judged-only}
+use Rattle.theory.proofs.Answering.{start-short, start-done, reading-position}
+use Rattle.theory.proofs.Advancing.{advance-time, advance-bag}
+
+-- ---- the model's number
+
+number-refused : {A : Type 0} (r : Result A) (n : ℕ) → 0 < n → numberOf r ≡ n → r ≡ refused n
+number-refused (ok a) n l e = absurd (omega arith)
+number-refused (refused k) n l e = ap refused e
+
+-- a row of the model's table refuses the file
+by-row : (file : Bytes) (n : ℕ) → AllBytes file → 0 < n → Judged file n → accepted file ≡ refused n
+unfolding checkModel
+by-row file n b l j = number-refused (accepted file) n l (judged-only file n b j)
+
+-- and where it is refused, it is by such a row
+pub row-of : (file : Bytes) (n : ℕ) → AllBytes file → accepted file ≡ refused n → (0 < n) × Judged file n
+unfolding checkModel
+row-of file n b e = (subst Positive e (accepted-positive file), subst (Judged file) (ap numberOf e) (judged file b))
+
+-- ---- start
+
+module _ (file buffer : Bytes) where
+  start-model : (n : ℕ) → accepted file ≡ refused n → start file buffer ≡ refusedWrite n buffer
+  unfolding start wrote
+  start-model n e = rw e
+
+  pub start-refused : (n : ℕ) → AllBytes file → StartRefusal file buffer n → start file buffer ≡ refusedWrite n buffer
+  start-refused n b (writer-refuses-model k l j) = start-model k (by-row file k b l j)
+  start-refused n b (writer-refuses-buffer m e l) = start-short file buffer m e l
+
+  pub start-number : AllBytes file → 0 < start file buffer .number → StartRefusal file buffer (start file buffer .number)
+  start-number b l = go (accepted file) refl
+    where
+      refusal : (r : ℕ) → start file buffer .number ≡ r → StartRefusal file buffer r → StartRefusal file buffer (start file buffer .number)
+      refusal r e h = subst (StartRefusal file buffer) (sym e) h
+
+      go : (r : Result Model) → accepted file ≡ r → StartRefusal file buffer (start file buffer .number)
+      go (refused n) e = let h = row-of file n b e in refusal n (ap (λ w. w .number) (start-model n e)) (writer-refuses-model n (h .0) (h .1))
+      go (ok m) e = long (ltb (length buffer) (runLength (atomicCount m))) refl
+        where
+          long : (c : Bool) → ltb (length buffer) (runLength (atomicCount m)) ≡ c → StartRefusal file buffer (start file buffer .number)
+          long true f = let s = ltb-true (length buffer) (runLength (atomicCount m)) f in refusal 15 (ap (λ w. w .number) (start-short file buffer m e s)) (writer-refuses-buffer m e s)
+          long false f = absurd (omega (arith, l, ap (λ w. w .number) (start-done file buffer m e (ltb-false (length buffer) (runLength (atomicCount m)) f))))
+
+-- ---- flatten
+
+module _ (file buffer : Bytes) where
+  flatten-model : (n : ℕ) → accepted file ≡ refused n → flatten file buffer ≡ refusedWrite n buffer
+  unfolding flatten wrote
+  flatten-model n e = rw e
+
+  flatten-short : (m : Model) → accepted file ≡ ok m → length buffer < length (modelBytes (flat m)) → flatten file buffer ≡ refusedWrite 15 buffer
+  unfolding flatten wrote
+  flatten-short m e l = rw (e, lt-ltb _ _ l)
+
+  flatten-long : (m : Model) → accepted file ≡ ok m → length (modelBytes (flat m)) ≤ length buffer → flatten file buffer .number ≡ 0
+  unfolding flatten wrote
+  flatten-long m e l = rw (e, le-ltb _ _ l)
+
+  pub flatten-refused : (n : ℕ) → AllBytes file → FlattenRefusal file buffer n → flatten file buffer ≡ refusedWrite n buffer
+  flatten-refused n b (writer-refuses-model k l j) = flatten-model k (by-row file k b l j)
+  flatten-refused n b (writer-refuses-buffer m e l) = flatten-short m e l
+
+  pub flatten-number : AllBytes file → 0 < flatten file buffer .number → FlattenRefusal file buffer (flatten file buffer .number)
+  flatten-number b l = go (accepted file) refl
+    where
+      refusal : (r : ℕ) → flatten file buffer .number ≡ r → FlattenRefusal file buffer r → FlattenRefusal file buffer (flatten file buffer .number)
+      refusal r e h = subst (FlattenRefusal file buffer) (sym e) h
+
+      go : (r : Result Model) → accepted file ≡ r → FlattenRefusal file buffer (flatten file buffer .number)
+      go (refused n) e = let h = row-of file n b e in refusal n (ap (λ w. w .number) (flatten-model n e)) (writer-refuses-model n (h .0) (h .1))
+      go (ok m) e = long (ltb (length buffer) (length (modelBytes (flat m)))) refl
+        where
+          long : (c : Bool) → ltb (length buffer) (length (modelBytes (flat m))) ≡ c → FlattenRefusal file buffer (flatten file buffer .number)
+          long true f = let s = ltb-true (length buffer) (length (modelBytes (flat m))) f in refusal 15 (ap (λ w. w .number) (flatten-short m e s)) (writer-refuses-buffer m e s)
+          long false f = absurd (omega (arith, l, flatten-long m e (ltb-false (length buffer) (length (modelBytes (flat m))) f)))
+
+-- ---- reading
+
+module _ (file run : Bytes) (at : ℕ) where
+  reading-model : (n : ℕ) → accepted file ≡ refused n → reading file run at ≡ refusedReading n
+  unfolding reading wasRead
+  reading-model n e = rw e
+
+  reading-run : (m : Model) → accepted file ≡ ok m → runFits m run ≡ false → reading file run at ≡ refusedReading 10
+  unfolding reading wasRead readingChecks
+  reading-run m e f = rw (e, f)
+
+  reading-fine : (m : Model) → accepted file ≡ ok m → runFits m run ≡ true → leb (atomicCount m) at ≡ false → reading file run at .number ≡ 0
+  unfolding reading wasRead readingChecks readAt
+  reading-fine m e f l = rw (e, f, l)
+
+  pub reading-refused : (n : ℕ) → AllBytes file → ReadingRefusal file run at n → reading file run at ≡ refusedReading n
+  reading-refused n b (reading-refuses-model k l j) = reading-model k (by-row file k b l j)
+  reading-refused n b (reading-refuses-run m e f) = reading-run m e f
+  reading-refused n b (reading-refuses-position m e f l) = reading-position file run at m e f l
+
+  pub reading-number : AllBytes file → 0 < reading file run at .number → ReadingRefusal file run at (reading file run at .number)
+  reading-number b l = go (accepted file) refl
+    where
+      refusal : (r : ℕ) → reading file run at .number ≡ r → ReadingRefusal file run at r → ReadingRefusal file run at (reading file run at .number)
+      refusal r e h = subst (ReadingRefusal file run at) (sym e) h
+
+      go : (r : Result Model) → accepted file ≡ r → ReadingRefusal file run at (reading file run at .number)
+      go (refused n) e = let h = row-of file n b e in refusal n (ap (λ w. w .number) (reading-model n e)) (reading-refuses-model n (h .0) (h .1))
+      go (ok m) e = rows (runFits m run) refl (leb (atomicCount m) at) refl
+        where
+          rows : (c : Bool) → runFits m run ≡ c → (d : Bool) → leb (atomicCount m) at ≡ d → ReadingRefusal file run at (reading file run at .number)
+          rows false f d g = refusal 10 (ap (λ w. w .number) (reading-run m e f)) (reading-refuses-run m e f)
+          rows true f true g = let s = leb-true (atomicCount m) at g in refusal 16 (ap (λ w. w .number) (reading-position file run at m e f s)) (reading-refuses-position m e f s)
+          rows true f false g = absurd (omega (arith, l, reading-fine m e f g))
+
+-- ---- advance, before any instant
+
+module _ (file run : Bytes) (t : ℕ) (given trace : Bytes) where
+  advance-model : (n : ℕ) → accepted file ≡ refused n → advance file run t given trace ≡ refusedAdvance n run trace
+  unfolding advance advanced
+  advance-model n e = rw e
+
+  advance-run : (m : Model) → accepted file ≡ ok m → runFits m run ≡ false → advance file run t given trace ≡ refusedAdvance 10 run trace
+  unfolding advance advanced advanceChecks
+  advance-run m e f = rw (e, f)
+
+  pub advance-refused : (n : ℕ) → AllBytes file → AdvanceRefusal file run t given n → advance file run t given trace ≡ refusedAdvance n run trace
+  advance-refused n b (advance-refuses-model k l j) = advance-model k (by-row file k b l j)
+  advance-refused n b (advance-refuses-run m e f) = advance-run m e f
+  advance-refused n b (advance-refuses-time m e f l) = advance-time file run t given trace m e f l
+  advance-refused n b (advance-refuses-bag m e f o l g) = advance-bag file run t given trace m e f o l g

@@ -1,0 +1,234 @@
+-- What the C header says of lengths and of a call made again: the longest model file and run, and an advance after 13, 14 or 15. What the
+-- first call left is read back by the second (`Fitting`), and the instants are those of `Resuming`. Assumes nothing.
+use mathlib.Core.Path.{_≡_, refl, sym, ap, ap₂, _∙_, subst}
+use mathlib.Core.Logic.{_⊎_, inl, inr}
+use Prim.Native.Nat.{ℕ, _+_, _≤_, _<_}
+use mathlib.Core.List.{List, _++_}
+use mathlib.Core.Bool.{Bool, true, false}
+use native.Mathlib.Omega.{arith}
+use lib.Dec.{ltb}
+use lib.ListN.{length, take, drop, length-append}
+use borrow.Author.Tests.{ltb-true, ltb-false}
+use Rattle.definition.specs.Bytes.{Bytes, AllBytes, ok, stored}
+use Rattle.definition.specs.Limits.{maxMoment, longestModel}
+use Rattle.definition.specs.Model.{Model, atomics}
+use Rattle.definition.specs.Pinned.Decoder.{accepted}
+use Rattle.definition.specs.SavedRun.{Entry, Run, runLength, atomicCount, runOf, runBytes, runFits}
+use Rattle.definition.specs.Step.{nested}
+use Rattle.definition.specs.Advance.{Ended, ended}
+use Rattle.definition.specs.AdvanceRelation.{Ends}
+use Rattle.definition.specs.Engine.{toBag, bagFits, Advanced, advanced, advance}
+use Rattle.definition.specs.Flatten.{flat}
+use Rattle.definition.specs.Carrying.{begins}
+use Rattle.definition.specs.Demands.{refusedAdvance, openingOf, MayAdvance, AdvanceRefusal, advance-refuses-run, advance-refuses-time, advance-refuses-bag, Together, Header}
+use Rattle.model_laws.proofs.WellFormed.{WellFormed}
+use Rattle.model_laws.proofs.Reading.{accepted-sound}
+use Rattle.model_laws.proofs.RunBack.{length-run, run-written}
+use Rattle.flat_laws.proofs.FlatSound.{flat-sound}
+use Rattle.nest_laws.proofs.Pairs.{pairs-length}
+use Rattle.theory.proofs.Buffers.{stored-again, stored-front, stored-behind}
+use Rattle.theory.proofs.Fitting.{FitRun, fits-run, fit-written, advance-fit}
+use Rattle.theory.proofs.Advancing.{endOf, advance-done}
+use Rattle.theory.proofs.CallRows.{advance-refused}
+use Rattle.theory.proofs.Demand1.{advance-ends, advance-only}
+use Rattle.theory.proofs.Lengths.{model-long, run-long}
+use Rattle.refusal_laws.proofs.Judged.{accepted-sound as sound-of}
+use Rattle.theory.proofs.Resuming.{undone-open, undone-again, overrun-again, countedEnd, one-call}
+
+module _ (file run : Bytes) (t : ℕ) (bag trace : Bytes) (m : Model) (b : AllBytes file) (e : accepted file ≡ ok m) where
+  abbrev a : Advanced
+  a = advance file run t bag trace
+
+  sound : WellFormed m
+  sound = accepted-sound file m b e .sound
+
+  -- ---- a number that comes from an instant
+
+  no-row : (n : ℕ) → 12 < a .number → AdvanceRefusal file run t bag n → n ≤ 12 → ⊥
+  no-row n l r h = omega (arith, l, h, ap (λ (z : Advanced). z .number) (advance-refused file run t bag trace n b r))
+
+  may : 12 < a .number → MayAdvance m run t bag
+  may l = go (runFits m run) refl (ltb t (openingOf m run)) refl (ltb maxMoment t) refl (bagFits bag) refl
+    where
+      go : (r : Bool) → runFits m run ≡ r → (u : Bool) → ltb t (openingOf m run) ≡ u → (v : Bool) → ltb maxMoment t ≡ v → (g : Bool) → bagFits bag ≡ g → MayAdvance m run t bag
+      go false f u h v i g k = absurd (no-row 10 l (advance-refuses-run m e f) (omega arith))
+      go true f true h v i g k = absurd (no-row 11 l (advance-refuses-time m e f (inl (ltb-true _ _ h))) (omega arith))
+      go true f false h true i g k = absurd (no-row 11 l (advance-refuses-time m e f (inr (ltb-true _ _ i))) (omega arith))
+      go true f false h false i false k = absurd (no-row 12 l (advance-refuses-bag m e f (ltb-false _ _ h) (ltb-false _ _ i) k) (omega arith))
+      go true f false h false i true k = record { run-fits = f; not-early = ltb-false _ _ h; not-late = ltb-false _ _ i; bag-fits = k }
+
+  -- ---- what the first call left
+
+  module _ (h : MayAdvance m run t bag) where
+    abbrev end : Ended (List Entry)
+    end = endOf m run t bag trace
+
+    abbrev left : Run
+    left = record { opening = end .progress .opening; entries = end .progress .state }
+
+    ends : Ends (nested m) (length trace) t (toBag bag) (begins (openingOf m run) (runOf m run .entries)) end
+    ends = advance-ends run t bag trace m sound (h .run-fits) (h .not-early)
+
+    is : a ≡ advanced run trace (ok end)
+    is = advance-done file run t bag trace m e h
+
+    number-is : a .number ≡ end .number
+    unfolding advanced
+    number-is = ap (λ (z : Advanced). z .number) is
+
+    instants-is : a .instants ≡ end .progress .instants
+    unfolding advanced
+    instants-is = ap (λ (z : Advanced). z .instants) is
+
+    steps-is : a .steps ≡ end .progress .steps
+    unfolding advanced
+    steps-is = ap (λ (z : Advanced). z .steps) is
+
+    used-is : a .used ≡ length (end .progress .trace)
+    unfolding advanced
+    used-is = ap (λ (z : Advanced). z .used) is
+
+    run-is : a .run ≡ stored (runBytes left) run
+    unfolding advanced
+    run-is = ap (λ (z : Advanced). z .run) is
+
+    trace-is : a .trace ≡ stored (end .progress .trace) trace
+    unfolding advanced
+    trace-is = ap (λ (z : Advanced). z .trace) is
+
+    -- its records, at the front of its trace
+    records-are : take (a .used) (a .trace) ≡ end .progress .trace
+    records-are = ap₂ (λ (n : ℕ) (s : Bytes). take n s) used-is trace-is ∙ stored-front (end .progress .trace) trace
+
+    fit : FitRun m left
+    fit = advance-fit m sound run t (length trace) (toBag bag) (h .run-fits) (h .not-early) (h .not-late)
+
+    back : (runFits m (a .run) ≡ true) × (runOf m (a .run) ≡ left)
+    unfolding stored
+    back = rw run-is (fit-written m sound left (drop (length (runBytes left)) run) fit)
+
+    -- the same call may be made on it
+    again : 0 < end .number → MayAdvance m (a .run) t bag
+    again l = record {
+      run-fits = back .0;
+      not-early = subst (λ (r : Run). r .opening ≤ t) (sym (back .1)) (undone-open (nested m) t (toBag bag) (length trace) ends l (h .not-early));
+      not-late = h .not-late;
+      bag-fits = h .bag-fits;
+    }
+
+    -- the second call, by where its instants end
+    second : 0 < end .number → (next : Bytes) (z : Ended (List Entry))
+        → Ends (nested m) (length next) t (toBag bag) (begins (left .opening) (left .entries)) z
+        → advance file (a .run) t bag next ≡ advanced (a .run) next (ok z)
+    second l next z r =
+        let k = again l in
+        advance-done file (a .run) t bag next m e k
+        ∙ ap (λ (y : Ended (List Entry)). advanced (a .run) next (ok y))
+        (advance-only (a .run) t bag next m sound (k .run-fits) (k .not-early) z
+        (subst (λ (q : Run). Ends (nested m) (length next) t (toBag bag) (begins (q .opening) (q .entries)) z) (sym (back .1)) r))
+
+    -- the saved run written again over itself
+    same-run : stored (runBytes left) (a .run) ≡ a .run
+    same-run = ap (stored (runBytes left)) run-is ∙ stored-again (runBytes left) (runBytes left) run refl ∙ sym run-is
+
+    -- ---- after 13 and 14
+
+    pub refused-again : (n : ℕ) → (n ≡ 13) ⊎ (n ≡ 14) → a .number ≡ n → 0 < n → (next : Bytes) → advance file (a .run) t bag next ≡ refusedAdvance n (a .run) next
+    unfolding advanced stored ended
+    refused-again n u q l next =
+        let k : end .number ≡ n = sym number-is ∙ q in
+        second (omega (arith, k)) next (ended n (begins (left .opening) (left .entries)))
+        (subst (λ i. Ends (nested m) (length next) t (toBag bag) (begins (left .opening) (left .entries)) (ended i (begins (left .opening) (left .entries)))) k
+        (undone-again (nested m) t (toBag bag) (length trace) ends (subst (λ i. (i ≡ 13) ⊎ (i ≡ 14)) (sym k) u) (length next) (begins (left .opening) (left .entries)) refl))
+        ∙ ap (λ (s : Bytes). refusedAdvance n s next) same-run
+
+    -- ---- after 15
+
+    -- the second call, beside the first
+    module _ (full : end .number ≡ 15) (next : Bytes) where
+      abbrev old : Bytes
+      old = end .progress .trace
+
+      abbrev then : Ended (List Entry)
+      then = endOf m (a .run) t bag next
+
+      ready : MayAdvance m (a .run) t bag
+      ready = again (omega (arith, full))
+
+      then-ends : Ends (nested m) (length next) t (toBag bag) (begins (left .opening) (left .entries)) then
+      then-ends =
+          subst (λ (q : Run). Ends (nested m) (length next) t (toBag bag) (begins (q .opening) (q .entries)) then) (back .1)
+          (advance-ends (a .run) t bag next m sound (ready .run-fits) (ready .not-early))
+
+      then-is : advance file (a .run) t bag next ≡ advanced (a .run) next (ok then)
+      then-is = advance-done file (a .run) t bag next m e ready
+
+      -- both as one call with the longer trace
+      abbrev both : Ended (List Entry)
+      both = countedEnd (nested m) t (toBag bag) (end .progress .instants) (end .progress .steps) old then
+
+      both-ends : Ends (nested m) (length (old ++ next)) t (toBag bag) (begins (openingOf m run) (runOf m run .entries)) both
+      both-ends =
+          subst (λ (n : ℕ). Ends (nested m) n t (toBag bag) (begins (openingOf m run) (runOf m run .entries)) both) (sym (length-append old next))
+          (one-call (nested m) t (toBag bag) (length trace) ends full (length next) then then-ends)
+
+      both-is : advance file run t bag (old ++ next) ≡ advanced run (old ++ next) (ok both)
+      both-is =
+          advance-done file run t bag (old ++ next) m e h
+          ∙ ap (λ (y : Ended (List Entry)). advanced run (old ++ next) (ok y)) (advance-only run t bag (old ++ next) m sound (h .run-fits) (h .not-early) both both-ends)
+
+      then-fit : FitRun m (record { opening = then .progress .opening; entries = then .progress .state })
+      then-fit = advance-fit m sound (a .run) t (length next) (toBag bag) (ready .run-fits) (ready .not-early) (ready .not-late)
+
+      as-long : length (runBytes (record { opening = then .progress .opening; entries = then .progress .state })) ≡ length (runBytes left)
+      as-long =
+          let L = atomics (m .components) in
+          length-run _ ∙ ap runLength (pairs-length _ L (then .progress .state) (then-fit .0) ∙ sym (pairs-length _ L (left .entries) (fit .0))) ∙ sym (length-run left)
+
+      resumes-old : Together a (advance file (a .run) t bag next) (advance file run t bag (old ++ next))
+      unfolding advanced
+      resumes-old = record {
+        number = ap (λ (z : Advanced). z .number) both-is ∙ sym (ap (λ (z : Advanced). z .number) then-is);
+        instants = ap (λ (z : Advanced). z .instants) both-is ∙ sym (ap₂ _+_ instants-is (ap (λ (z : Advanced). z .instants) then-is));
+        steps = ap (λ (z : Advanced). z .steps) both-is ∙ sym (ap₂ _+_ steps-is (ap (λ (z : Advanced). z .steps) then-is));
+        used = ap (λ (z : Advanced). z .used) both-is ∙ length-append old (then .progress .trace) ∙ sym (ap₂ _+_ used-is (ap (λ (z : Advanced). z .used) then-is));
+        run =
+            ap (λ (z : Advanced). z .run) both-is ∙ sym (stored-again _ (runBytes left) run as-long)
+            ∙ ap (stored (runBytes (record { opening = then .progress .opening; entries = then .progress .state }))) (sym run-is) ∙ sym (ap (λ (z : Advanced). z .run) then-is);
+        trace =
+            ap (λ (z : Advanced). z .trace) both-is ∙ stored-behind old (then .progress .trace) next
+            ∙ sym (ap₂ _++_ records-are (ap (λ (z : Advanced). z .trace) then-is));
+      }
+
+    pub resumes : a .number ≡ 15 → (next : Bytes) → Together a (advance file (a .run) t bag next) (advance file run t bag (take (a .used) (a .trace) ++ next))
+    resumes q next =
+        subst (λ (s : Bytes). Together a (advance file (a .run) t bag next) (advance file run t bag (s ++ next))) (sym records-are)
+        (resumes-old (sym number-is ∙ q) next)
+
+    -- where it did no instant
+    pub needs-longer : a .number ≡ 15 → a .instants ≡ 0 → AllBytes run → (next : Bytes) → length next ≤ length trace → advance file run t bag next ≡ refusedAdvance 15 run next
+    unfolding advanced stored ended runOf
+    needs-longer q i r next l =
+        let f = fits-run m run (h .run-fits) in
+        advance-done file run t bag next m e h
+        ∙ ap (λ (y : Ended (List Entry)). advanced run next (ok y))
+        (advance-only run t bag next m sound (h .run-fits) (h .not-early) (ended 15 (begins (openingOf m run) (runOf m run .entries)))
+        (overrun-again (nested m) t (toBag bag) (length trace) ends (sym number-is ∙ q) (sym instants-is ∙ i) (length next) l))
+        ∙ ap (λ (s : Bytes). refusedAdvance 15 s next) (run-written (atomicCount m) (f .1) (f .2) r)
+
+pub header : Header
+header = record {
+  model-length = λ file m b e.
+      let s = accepted-sound file m b e in
+      (subst (λ (z : Bytes). length z ≤ longestModel) (sym (sound-of file m b e .1)) (model-long m (s .sound)), model-long (flat m) (flat-sound m (s .sound) (s .few-routes)));
+  run-length = λ file m b e. run-long m (accepted-sound file m b e .sound);
+  resumes = λ file run t bag trace next m b e q. resumes file run t bag trace m b e (may file run t bag trace m b e (omega arith)) q next;
+  needs-longer = λ file run t bag trace next m b r e q i l. needs-longer file run t bag trace m b e (may file run t bag trace m b e (omega arith)) q i r next l;
+  refused-again = λ file run t bag trace next n m b e u q.
+      let l : 12 < n = go n u in
+      refused-again file run t bag trace m b e (may file run t bag trace m b e (omega (arith, q))) n u q (omega arith) next;
+}
+  where
+    go : (n : ℕ) → (n ≡ 13) ⊎ (n ≡ 14) → 12 < n
+    go n (inl e) = omega arith
+    go n (inr e) = omega arith
