@@ -60,7 +60,7 @@ def try_edit(path):
         crate, law = re.match(r"(\S+) `(.+)`", edit["law"]).groups()
         first = next((line for line in said.splitlines() if ": error" in line), "no error line")
         first = first.replace(str(folder) + "/", "")
-        right = first.startswith(f"crates/{crate}/") and f"`{law}`" in first
+        right = first.startswith(f"crates/{crate}/") and f": error: `{law}`" in first
         return path.stem, right, first[:200]
 
 

@@ -3,8 +3,10 @@
 use mathlib.Core.Path.{_≡_, refl}
 use Prim.Native.Nat.{ℕ}
 use mathlib.Core.List.{List, [], _∷_, _++_, map}
+use mathlib.Core.Bool.{false}
 use Rattle.definition.specs.Limits.{neverField}
 use Rattle.definition.specs.File.{modelBytes}
+use Rattle.definition.specs.Devs.{finite, never, sameTime}
 use Rattle.definition.specs.Flatten.{flat}
 use Rattle.definition.specs.Calls.{Call, startCall, readingCall, startAnswer, advanceAnswer, readingAnswer, engine, flatMachine}
 use Rattle.definition.proofs.EdgeModels.{onValueAt, colliding, waiting, restlessHeard, counting}
@@ -91,3 +93,8 @@ engine-long = refl
 pub flat-long : map (actual (λ m. flatMachine (modelBytes (flat m)))) longInstants ≡ map expected longInstants
 unfolding edged
 flat-long = refl
+
+-- "a never-due child is not imminent", also beside one that is never due
+pub never-imminent : (sameTime never never ≡ false) × (sameTime never (finite 0) ≡ false) × (sameTime (finite 0) never ≡ false)
+unfolding sameTime
+never-imminent = (refl, refl, refl)

@@ -5,3 +5,11 @@ pub mod Table
 pub mod NestTable
 pub mod EdgeModels
 pub mod EdgeTable
+-- literal bytes, refusals, runs, rules and flat forms: rows that fail where a definition's detail is changed
+pub mod Literals
+pub mod FileTable
+pub mod RefusalTable
+pub mod RunTable
+pub mod RuleTable
+pub mod FlatTable
+pub mod TraceTable

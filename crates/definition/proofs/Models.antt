@@ -17,13 +17,13 @@ atomicIn parent phases order = record { kind = 1; parent = parent; phases = phas
 
 -- a phase that puts out nothing, one message, two messages
 unfoldable pub silent : ℕ → ℕ → Phase
-silent advance next = record { advance = advance; next = next; count = 0; slot0 = noMessage; slot1 = noMessage; slot2 = noMessage; slot3 = noMessage }
+silent advance next = record { advance = advance; next = next; outputCount = 0; slot0 = noMessage; slot1 = noMessage; slot2 = noMessage; slot3 = noMessage }
 
 unfoldable pub saying : ℕ → ℕ → Message → Phase
-saying advance next x = record { advance = advance; next = next; count = 1; slot0 = x; slot1 = noMessage; slot2 = noMessage; slot3 = noMessage }
+saying advance next x = record { advance = advance; next = next; outputCount = 1; slot0 = x; slot1 = noMessage; slot2 = noMessage; slot3 = noMessage }
 
 unfoldable pub saying2 : ℕ → ℕ → Message → Message → Phase
-saying2 advance next x y = record { advance = advance; next = next; count = 2; slot0 = x; slot1 = y; slot2 = noMessage; slot3 = noMessage }
+saying2 advance next x y = record { advance = advance; next = next; outputCount = 2; slot0 = x; slot1 = y; slot2 = noMessage; slot3 = noMessage }
 
 -- in phase p of component c: `least` messages with value v on port 0, at any elapsed time, lead to phase next
 unfoldable pub onValue : ℕ → ℕ → ℕ → ℕ → ℕ → Rule
