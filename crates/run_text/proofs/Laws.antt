@@ -7,7 +7,7 @@ use native.Mathlib.Omega.{arith}
 use lib.ListN.{length, take, drop, getD, length-drop}
 use lib.Seq.{drop-cons, drop-drop}
 use borrow.Author.Tests.{lt-ltb, le-ltb, eq-eqb, ne-eqb}
-use Rattle.definition.specs.Bytes.{Bytes, number}
+use Rattle.definition.specs.Bytes.{Bytes, numberAt}
 use Rattle.definition.specs.Limits.{messageSize}
 use Rattle.engine.specs.declared.Written.{Written}
 use Rattle.engine.specs.declared.Advanced.{Advanced}
@@ -65,7 +65,7 @@ text-none (x ∷ text) (suc k) page h = text-none text k page (omega arith)
 
 pub message-line : (moment step : ℕ) (rows : Bytes) (page : Page) →
     put (messageLine moment step rows) page
-    ≡ put (field (number 2 1 rows) newline) (put (field (number 1 0 rows) space) (put (field step space) (put (field moment space) page)))
+    ≡ put (field (numberAt 2 1 rows) newline) (put (field (numberAt 1 0 rows) space) (put (field step space) (put (field moment space) page)))
 unfolding messageLine
 message-line moment step rows page = rw (put-append, put-append, put-append)
 
@@ -85,13 +85,13 @@ messages-none moment step rows page = refl
 
 -- One record more.
 pub lines-more : (turns from : ℕ) (trace : Bytes) (page : Page) → 0 < turns → from < length trace →
-    put (lines (turns - 1) (drop (from + (recordHead + messageSize * number 2 10 (drop from trace))) trace)) (put (recordLines (drop from trace)) page)
+    put (lines (turns - 1) (drop (from + (recordHead + messageSize * numberAt 2 10 (drop from trace))) trace)) (put (recordLines (drop from trace)) page)
     ≡ put (lines turns (drop from trace)) page
 unfolding lines behindRecord
 lines-more zero from trace page t h = absurd (omega arith)
 lines-more (suc n) from trace page t h =
     let e : suc n - 1 ≡ n = omega arith in
-    let k = recordHead + messageSize * number 2 10 (drop from trace) in
+    let k = recordHead + messageSize * numberAt 2 10 (drop from trace) in
     rw (e, ne-eqb (length (drop from trace)) 0 (λ z. omega (arith, z, length-drop from trace)), drop-drop k from trace, put-append)
 
 -- No record is left.
@@ -137,8 +137,8 @@ module _ (input run trace : Bytes) (page : Page) where
 
   pub input-long : momentSize ≤ length input →
       put (inputText input run trace) page
-      ≡ put (startedText (drop momentSize input) (number momentSize 0 input) trace (start (drop momentSize input) run)) (put firstLine page)
+      ≡ put (startedText (drop momentSize input) (numberAt momentSize 0 input) trace (start (drop momentSize input) run)) (put firstLine page)
   unfolding inputText
   input-long h =
       rw (le-ltb (length input) momentSize h)
-      (put-append firstLine (startedText (drop momentSize input) (number momentSize 0 input) trace (start (drop momentSize input) run)) page)
+      (put-append firstLine (startedText (drop momentSize input) (numberAt momentSize 0 input) trace (start (drop momentSize input) run)) page)

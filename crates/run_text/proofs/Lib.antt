@@ -1,2 +1,5 @@
 pub mod Laws
 pub mod Worked
+pub mod Fits
+pub mod Fronts
+pub mod Pages

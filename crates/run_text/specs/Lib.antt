@@ -1,3 +1,4 @@
 -- What the printing program writes.
 pub mod Text
 pub mod Put
+pub mod Printed

@@ -4,8 +4,8 @@ use mathlib.Core.List.{[], _∷_, _++_}
 use mathlib.Core.Bool.{cond}
 use lib.Dec.{ltb, eqb}
 use lib.ListN.{length, take, drop, replicate}
-use Rattle.definition.specs.Bytes.{Bytes, number}
-use Rattle.definition.specs.Limits.{messageSize}
+use Rattle.definition.specs.Bytes.{Bytes, numberAt}
+use Rattle.definition.specs.Limits.{messageSize, longestModel}
 use Rattle.definition.specs.Engine.{Wrote, Advanced, start, advance}
 
 -- ---- numbers
@@ -40,9 +40,9 @@ firstLine = 116 ∷ 105 ∷ 109 ∷ 101 ∷ 32 ∷ 115 ∷ 116 ∷ 101 ∷ 112 �
 
 -- "columns are moment, step, port, value"; the message is the row at the front of the bytes.
 unfoldable pub messageLine : ℕ → ℕ → Bytes → Bytes
-messageLine moment step row = field moment space ++ field step space ++ field (number 1 0 row) space ++ field (number 2 1 row) newline
+messageLine moment step row = field moment space ++ field step space ++ field (numberAt 1 0 row) space ++ field (numberAt 2 1 row) newline
 
--- "Each message of a record has a line."
+-- "Each message of a record has a line"
 unfoldable pub messageLines : ℕ → ℕ → ℕ → Bytes → Bytes
 messageLines zero moment step rows = []
 messageLines (suc n) moment step rows = messageLine moment step rows ++ messageLines n moment step (drop messageSize rows)
@@ -52,11 +52,11 @@ abbrev pub recordHead : ℕ
 recordHead = 12
 
 abbrev pub messageCount : Bytes → ℕ
-messageCount trace = number 2 10 trace
+messageCount trace = numberAt 2 10 trace
 
 -- The lines of the record at the front of the bytes.
 unfoldable pub recordLines : Bytes → Bytes
-recordLines trace = messageLines (messageCount trace) (number 8 0 trace) (number 2 8 trace) (drop recordHead trace)
+recordLines trace = messageLines (messageCount trace) (numberAt 8 0 trace) (numberAt 2 8 trace) (drop recordHead trace)
 
 -- The bytes behind it.
 unfoldable pub behindRecord : Bytes → Bytes
@@ -71,7 +71,7 @@ lines (suc n) trace = cond (eqb (length trace) 0) [] (recordLines trace ++ lines
 unfoldable pub traceLines : Bytes → Bytes
 traceLines trace = lines (length trace) trace
 
--- "end OPEN steps STEPS"
+-- The last line: end, the open moment, steps, their number.
 unfoldable pub endLine : ℕ → ℕ → Bytes
 endLine opening steps = (101 ∷ 110 ∷ 100 ∷ 32 ∷ []) ++ field opening space ++ (115 ∷ 116 ∷ 101 ∷ 112 ∷ 115 ∷ 32 ∷ []) ++ field steps newline
 
@@ -83,7 +83,7 @@ refusedLine n = (114 ∷ 101 ∷ 102 ∷ 117 ∷ 115 ∷ 101 ∷ 100 ∷ 32 ∷ 
 
 -- "the last line has the open moment and the steps, or `refused N` after the records of the instants done"
 unfoldable pub lastLine : ℕ → Bytes → ℕ → Bytes
-lastLine refusal run steps = cond (eqb refusal 0) (endLine (number 8 0 run) steps) (refusedLine refusal)
+lastLine refusal run steps = cond (eqb refusal 0) (endLine (numberAt 8 0 run) steps) (refusedLine refusal)
 
 unfoldable pub advancedText : Advanced → Bytes
 advancedText a = traceLines (take (a .used) (a .trace)) ++ lastLine (a .number) (a .run) (a .steps)
@@ -101,7 +101,7 @@ momentSize = 8
 unfoldable pub inputText : Bytes → Bytes → Bytes → Bytes
 inputText input run trace =
     firstLine ++ cond (ltb (length input) momentSize) (refusedLine 1)
-    (startedText (drop momentSize input) (number momentSize 0 input) trace (start (drop momentSize input) run))
+    (startedText (drop momentSize input) (numberAt momentSize 0 input) trace (start (drop momentSize input) run))
 
 -- The run of the largest model: 63 atomics.
 abbrev pub runRoom : ℕ
@@ -113,3 +113,21 @@ traceRoom = 16384
 -- "reads an eight-byte end moment and the model from standard input, uses a 16,384-byte trace and empty bags"
 unfoldable pub runText : Bytes → Bytes
 runText input = inputText input (replicate runRoom 0) (replicate traceRoom 0)
+
+-- ---- room
+
+-- The longest line of a message, whose numbers have 8, 2, 1 and 2 bytes: 20, 5, 3 and 5 digits, and a byte after each.
+abbrev pub longestLine : ℕ
+longestLine = 37
+
+-- The longest last line: two numbers of at most 20 digits, and twelve bytes beside them.
+abbrev pub longestLast : ℕ
+longestLast = 52
+
+-- Room for every text: each message takes three bytes of the trace.
+abbrev pub textRoom : ℕ
+textRoom = length firstLine + longestLine * (traceRoom / messageSize) + longestLast
+
+-- As much of an input as is ever asked for: the end moment, the longest model, and a byte by which a longer one is told.
+abbrev pub inputRoom : ℕ
+inputRoom = momentSize + longestModel + 1

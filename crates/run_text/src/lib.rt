@@ -2,10 +2,22 @@
 ghost use mathlib.Core.Path.{_≡_};
 ghost use Prim.Native.Nat.{_<_};
 ghost use mathlib.Core.List.{[]};
+ghost use lib.ListN.{length};
 ghost use Rattle.definition.specs.Engine.{start, advance};
 ghost use Rattle.run_text.specs.Put.{put1, put};
-ghost use Rattle.run_text.specs.Text.{digit as Text·digit};
+ghost use Rattle.run_text.specs.Printed.{Printed};
+ghost use Rattle.run_text.specs.Text.{digit as Text·digit, textRoom};
 ghost use Rattle.run_text.specs.Text.{decimalIn, field, messageLine, messageLines, traceLines, recordLines, endLine, refusedLine, lastLine, advancedText, startedText, inputText, runText};
+use limits::COMPONENT_SIZE;
+use limits::COUNT_SIZE;
+use limits::COUPLING_SIZE;
+use limits::MAX_COMPONENTS;
+use limits::MAX_COUPLINGS;
+use limits::MAX_PHASES;
+use limits::MAX_RULES;
+use limits::MESSAGE_SIZE;
+use limits::PHASE_SIZE;
+use limits::RULE_SIZE;
 use little_endian::byte_at;
 use little_endian::front;
 use little_endian::rest;
@@ -20,11 +32,29 @@ const TRACE_ROOM: usize = 16384;
 
 const MAX_DIGITS: usize = 20;
 
-const MESSAGE_SIZE: usize = 3;
-
 const RECORD_HEAD: usize = 12;
 
 const MOMENT_SIZE: usize = 8;
+
+const FIRST_LINE: usize = 21;
+
+// The longest line of a message: 20 digits of a moment, 5 of a step, 3 of a port, 5 of a value, and a byte after each.
+const LONGEST_LINE: usize = 37;
+
+const LONGEST_LAST: usize = 52;
+
+// Room for the text of every input: each message takes three bytes of the trace.
+pub const TEXT_ROOM: usize = FIRST_LINE + LONGEST_LINE * (TRACE_ROOM / MESSAGE_SIZE) + LONGEST_LAST;
+
+const LONGEST_MODEL: usize = 4 * COUNT_SIZE
+    + COMPONENT_SIZE * MAX_COMPONENTS
+    + PHASE_SIZE * MAX_PHASES
+    + RULE_SIZE * MAX_RULES
+    + COUPLING_SIZE * MAX_COUPLINGS;
+
+// As much of an input as is ever asked for: one byte more than the longest, so that a file with a byte too many is still seen to
+// have it.
+pub const INPUT_ROOM: usize = MOMENT_SIZE + LONGEST_MODEL + 1;
 
 fn digit(n: u64) -> u8
     requires { ⌜ n < 10 ⌝ }
@@ -223,10 +253,18 @@ fn put_input(out: &mut [u8], input: &[u8], run: &mut [u8], trace: &mut [u8]) -> 
 }
 
 // The lines of the run for an end moment and a model file, at the front of the lent buffer as far as it goes; answers their length.
-pub fn run_text(input: &[u8], out: &mut [u8]) -> usize
+fn run_text(input: &[u8], out: &mut [u8]) -> usize
     ensures { λ r. ⌜ (now (out .exit), r) ≡ put (runText (now (input .entry))) (now (out .entry), 0) ⌝ }
 {
     let mut run = [0u8; RUN_ROOM];
     let mut trace = [0u8; TRACE_ROOM];
     put_input(out, input, &mut run, &mut trace)
+}
+
+// The text of an input of which n bytes were read, all or as many as the buffer holds: it stands whole at the front of the page,
+// and the answer is its length.
+pub fn whole_text(input: &[u8; INPUT_ROOM], n: usize, text: &mut [u8; TEXT_ROOM]) -> usize
+    ensures { λ r. ⌜ Printed (now (input .entry)) n (now (text .exit)) r × (length (now (text .exit)) ≡ textRoom) ⌝ }
+{
+    run_text(front(input, n), text)
 }

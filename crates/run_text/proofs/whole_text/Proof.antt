@@ -1,0 +1,39 @@
+-- The text fits on the page, and what was read of a longer input gives the same text.
+use borrow.Author.Needs.{needs}
+use native.Mathlib.Omega.{arith}
+use mathlib.Core.Path.{_≡_, ap, _∙_}
+use lib.ListN.{length, take}
+use denote.Ref.{now}
+use Rattle.run_text.specs.Put.{put}
+use Rattle.run_text.specs.Text.{textRoom, inputRoom, runText}
+use Rattle.run_text.proofs.Fits.{text-fits}
+use Rattle.run_text.proofs.Fronts.{front-same}
+use Rattle.run_text.proofs.Pages.{put-whole}
+use Rattle.run_text.proofs.whole_text.Statement.{statement}
+use Rattle.run_text.proofs.whole_text.Tie as tie
+use Rattle.run_text.proofs.whole_text.Reads as reads
+use Rattle.run_text.proofs.whole_text.Lts as lts
+use Rattle.little_endian.proofs.front.Reads as front-reads
+use Rattle.run_text.proofs.run_text.Reads as run-text-reads
+
+front-requires : tie.Need-front-requires
+front-requires c κs = search needs
+
+run-text-requires : tie.Need-run-text-requires
+run-text-requires c κs = search needs
+
+returns : tie.Need-returns
+returns c =
+    let a = c .before .before .before .before .args in
+    let page : length (now (a .text)) ≡ textRoom = search needs in
+    let buffer : length (now (a .input)) ≡ inputRoom = search needs in (
+      λ input read.
+          let same : runText (now (c .before .before .front .result)) ≡ runText input
+          = ap runText (c .before .before .front .ensures ∙ read ∙ ap (λ k. take k input) buffer) ∙ front-same input in
+          put-whole (runText input) (now (a .text)) (c .run-text .last .1 .0) (c .run-text .result) (omega (arith, text-fits input, page))
+          (c .run-text .ensures ∙ ap (λ t. put t (now (a .text), 0)) same),
+      c .run-text .kept .1 .0 ∙ page,
+    )
+
+pub whole-text-spec : {M : Type 1} → statement M
+whole-text-spec = tie.close (tie.spec front-requires run-text-requires returns)

@@ -1,0 +1,1 @@
+// Laws about the definitions stand in proofs/: this crate has no code.
