@@ -11,10 +11,10 @@ use lib.Seq.{drop-drop}
 use borrow.Author.Tests.{ltb-true, eq-eqb, ne-eqb, eqb-false}
 use Rattle.definition.specs.Bytes.{Bytes, ok, refused}
 use Rattle.definition.specs.Model.{Bag}
-use Rattle.definition.specs.Devs.{Time, finite, never}
+use Rattle.definition.specs.Devs.{Time, finite, never, ticks}
 use Rattle.definition.specs.Step.{Simulator}
 use Rattle.definition.specs.Instant.{Instant, instant}
-use Rattle.definition.specs.Advance.{Progress, Ended, ended, tried, continued, succeeded, isBefore, moment, advancing}
+use Rattle.definition.specs.Advance.{Progress, Ended, ended, tried, continued, succeeded, isBefore, advancing}
 use Rattle.definition.specs.Engine.{dueNumber}
 use Rattle.clock.specs.Times.{latest}
 use Rattle.run_state.specs.declared.State.{State}
@@ -27,19 +27,19 @@ use Rattle.advance.specs.Ends.{endedOf, finishedOf}
 -- ---- the next moment
 
 abbrev pub nextOf : Time → ℕ → ℕ
-nextOf u t = cond (isBefore u t) (moment u) t
+nextOf u t = cond (isBefore u t) (ticks u) t
 
 -- The code's choice, by the number of the due moment.
 pub next-as : (u : Time) (due t v : ℕ) → due ≡ dueNumber u → t ≤ latest → v ≡ cond (ltb due t) due t → v ≡ nextOf u t
 next-as u due t v d l e =
     e ∙ ap (λ w. cond (ltb w t) w t) d ∙ ap (λ b. cond b (dueNumber u) t) (before-number u t l) ∙ go (isBefore u t) refl
   where
-    go : (b : Bool) → isBefore u t ≡ b → cond b (dueNumber u) t ≡ cond b (moment u) t
+    go : (b : Bool) → isBefore u t ≡ b → cond b (dueNumber u) t ≡ cond b (ticks u) t
     go true f = moment-number u t f
     go false f = refl
 
 pub not-before : (u : Time) (t v : ℕ) → v ≡ nextOf u t → t ≤ v → isBefore u t ≡ false
-unfolding isBefore moment
+unfolding isBefore ticks
 not-before (finite a) t v e h = go (ltb a t) refl e
   where
     go : (b : Bool) → ltb a t ≡ b → v ≡ cond b a t → b ≡ false
@@ -47,8 +47,8 @@ not-before (finite a) t v e h = go (ltb a t) refl e
     go false f e = refl
 not-before never t v e h = refl
 
-pub is-before : (u : Time) (t v : ℕ) → v ≡ nextOf u t → v < t → (isBefore u t ≡ true) × (moment u ≡ v)
-unfolding isBefore moment
+pub is-before : (u : Time) (t v : ℕ) → v ≡ nextOf u t → v < t → (isBefore u t ≡ true) × (ticks u ≡ v)
+unfolding isBefore ticks
 is-before (finite a) t v e h = go (ltb a t) refl e
   where
     go : (b : Bool) → ltb a t ≡ b → v ≡ cond b a t → (b ≡ true) × (a ≡ v)
@@ -60,17 +60,17 @@ is-before never t v e h = absurd (omega arith)
 
 module _ {S : Type 0} (k : Simulator S) (room t : ℕ) (x : Bag) where
   last-turn : (m : ℕ) (p : Progress S) → isBefore (k .next (p .state)) t ≡ false
-      → advancing k (suc m) room t x p ≡ continued (succeeded t) p (tried room t p (instant k t x (p .state)))
+      → advancing k room t x (suc m) p ≡ continued (succeeded t) p (tried room t p (instant k t x (p .state)))
   unfolding advancing
   last-turn m p e = rw e
 
   more-turn : (m : ℕ) (p : Progress S) → isBefore (k .next (p .state)) t ≡ true
-      → advancing k (suc m) room t x p
-      ≡ continued (λ q. advancing k m room t x q) p (tried room (moment (k .next (p .state))) p (instant k (moment (k .next (p .state))) [] (p .state)))
+      → advancing k room t x (suc m) p
+      ≡ continued (λ q. advancing k room t x m q) p (tried room (ticks (k .next (p .state))) p (instant k (ticks (k .next (p .state))) [] (p .state)))
   unfolding advancing
   more-turn m p e = rw e
 
-  pub no-turn : (m : ℕ) (p : Progress S) → m ≡ 0 → advancing k m room t x p ≡ ended 0 p
+  pub no-turn : (m : ℕ) (p : Progress S) → m ≡ 0 → advancing k room t x m p ≡ ended 0 p
   unfolding advancing
   no-turn m p e = rw e
 
@@ -125,7 +125,7 @@ module _ (k : Simulator State) (t : ℕ) (x : Bag) (g : Going) (st st′ : State
 
   -- The last turn: t with the bag.
   pub turn-last : Attempted t g st st′ trace trace′ (instant k t x st) e → isBefore (k .next st) t ≡ false
-      → advancing k (suc m) (length trace) t x p ≡ endedOf trace′ st′ (finishedOf t e)
+      → advancing k (length trace) t x (suc m) p ≡ endedOf trace′ st′ (finishedOf t e)
   turn-last a b =
       last-turn k (length trace) t x m p (subst (λ (s : State). isBefore (k .next s) t ≡ false) (sym (state-in trace st g)) b)
       ∙ ap (λ (s : State). continued (succeeded t) p (tried (length trace) t p (instant k t x s))) (state-in trace st g)
@@ -141,23 +141,23 @@ module _ (k : Simulator State) (t : ℕ) (x : Bag) (g : Going) (st st′ : State
 
   -- An instant before t, with no bag.
   module _ (u : ℕ) (y : Bag) (none : y ≡ []) (a : Attempted u g st st′ trace trace′ (instant k u y st) e)
-      (b : (isBefore (k .next st) t ≡ true) × (moment (k .next st) ≡ u)) where
+      (b : (isBefore (k .next st) t ≡ true) × (ticks (k .next st) ≡ u)) where
     abbrev on : Progress State → Ended State
-    on q = advancing k m (length trace) t x q
+    on q = advancing k (length trace) t x m q
 
-    turn : advancing k (suc m) (length trace) t x p ≡ continued on p (triedOf trace′ st′ e)
+    turn : advancing k (length trace) t x (suc m) p ≡ continued on p (triedOf trace′ st′ e)
     turn =
         more-turn k (length trace) t x m p (subst (λ (s : State). isBefore (k .next s) t ≡ true) (sym (state-in trace st g)) (b .0))
-        ∙ ap (λ (s : State). continued on p (tried (length trace) (moment (k .next s)) p (instant k (moment (k .next s)) [] s))) (state-in trace st g)
+        ∙ ap (λ (s : State). continued on p (tried (length trace) (ticks (k .next s)) p (instant k (ticks (k .next s)) [] s))) (state-in trace st g)
         ∙ ap₂ (λ (w : ℕ) (z : Bag). continued on p (tried (length trace) w p (instant k w z st))) (b .1) (sym none)
         ∙ ap (continued on p) (sym (a .same))
 
     -- It stands, and the call goes on.
-    pub turn-more : e .number ≡ 0 → advancing k (suc m) (length trace) t x p ≡ advancing k m (length trace) t x p′
+    pub turn-more : e .number ≡ 0 → advancing k (length trace) t x (suc m) p ≡ advancing k (length trace) t x m p′
     turn-more z = turn ∙ ap (continued on p) (tried-ok trace′ st′ e (eq-eqb (e .number) 0 z)) ∙ goes-ok on p p′
 
     -- It is undone, and the call ends.
-    pub turn-stop : (e .number ≡ 0 → ⊥) → advancing k (suc m) (length trace) t x p ≡ endedOf trace′ st′ e
+    pub turn-stop : (e .number ≡ 0 → ⊥) → advancing k (length trace) t x (suc m) p ≡ endedOf trace′ st′ e
     turn-stop z =
         turn ∙ ap (continued on p) (tried-no trace′ st′ e (ne-eqb (e .number) 0 z)) ∙ goes-no on p (e .number)
         ∙ ap (ended (e .number)) (left-as u g st st′ trace trace′ (instant k u y st) e a z)
@@ -181,11 +181,11 @@ used-as t e = go (eqb (e .number) 0) refl
 -- ---- a turn inside the loop: `whole` is what the call gives, and the turns left give it from here
 
 module _ (k : Simulator State) (t : ℕ) (x : Bag) (whole : Ended State) (trace₀ trace : Bytes) (st : State) (g : Going) (left : ℕ) (h : 0 < left)
-    (from-here : advancing k left (length trace₀) t x (progressOf trace st g) ≡ whole) (b : Beyond trace₀ trace (g .used)) where
-  here : advancing k (suc (left - 1)) (length trace) t x (progressOf trace st g) ≡ whole
+    (from-here : advancing k (length trace₀) t x left (progressOf trace st g) ≡ whole) (b : Beyond trace₀ trace (g .used)) where
+  here : advancing k (length trace) t x (suc (left - 1)) (progressOf trace st g) ≡ whole
   here =
       let q : suc (left - 1) ≡ left = omega arith in
-      ap₂ (λ (m room : ℕ). advancing k m room t x (progressOf trace st g)) q (b .1) ∙ from-here
+      ap₂ (λ (m room : ℕ). advancing k room t x m (progressOf trace st g)) q (b .1) ∙ from-here
 
   module _ (trace′ : Bytes) (st′ : State) (e : Ending) (v : ℕ) (next : v ≡ nextOf (k .next st) t) where
     pub ends-last : Attempted t g st st′ trace trace′ (instant k t x st) e → t ≤ v → (f : Ending) → f ≡ finishedOf t e
@@ -202,9 +202,9 @@ module _ (k : Simulator State) (t : ℕ) (x : Bag) (whole : Ended State) (trace�
         beyond-on trace₀ trace trace′ (g .used) (e .going .used) (a .more) b (a .beyond),
       )
 
-      pub goes-on : e .number ≡ 0 → Beyond trace₀ trace′ (e .going .used) × (advancing k (left - 1) (length trace₀) t x (progressOf trace′ st′ (e .going)) ≡ whole)
+      pub goes-on : e .number ≡ 0 → Beyond trace₀ trace′ (e .going .used) × (advancing k (length trace₀) t x (left - 1) (progressOf trace′ st′ (e .going)) ≡ whole)
       goes-on z = (
         beyond-on trace₀ trace trace′ (g .used) (e .going .used) (a .more) b (a .beyond),
-        ap (λ (room : ℕ). advancing k (left - 1) room t x (progressOf trace′ st′ (e .going))) (sym (b .1))
+        ap (λ (room : ℕ). advancing k room t x (left - 1) (progressOf trace′ st′ (e .going))) (sym (b .1))
             ∙ sym (turn-more k t x g st st′ trace trace′ e (left - 1) v y none a (is-before (k .next st) t v next l) z) ∙ here,
       )

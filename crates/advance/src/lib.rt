@@ -25,7 +25,7 @@ use limits::MAX_COMPONENTS;
 use little_endian::size;
 use table_words::TABLE_SIZE;
 
-// "Advance answers number, instants done, steps, trace bytes."
+// "Advance answers number, instants done, steps, trace bytes".
 pub struct Answer {
     pub number: u64,
     pub instants: u64,
@@ -82,7 +82,7 @@ pub fn advance_on(
         × Carried (phasesIn (now phases)) (now tables) n (held (now phase) (now last)) (now ends) ⌝ }
     ensures { λ r. ⌜ (endedOf (now (trace .exit)) (held (now (phase .exit)) (now (last .exit))) r
         ≡ advancing (simOf (now (phases .entry)) (now (rules .entry)) (now (tables .entry)) n (length (now (work .entry))))
-        (suc (t .0)) (length (now (trace .entry))) (t .0) (toBag (now (bag .entry))) (progressOf (now (trace .entry)) (held (now (phase .entry)) (now (last .entry))) from))
+        (length (now (trace .entry))) (t .0) (toBag (now (bag .entry))) (suc (t .0)) (progressOf (now (trace .entry)) (held (now (phase .entry)) (now (last .entry))) from))
         × Beyond (now (trace .entry)) (now (trace .exit)) (r .going .used) ⌝ }
 {
     let mut g = from;
@@ -166,7 +166,7 @@ pub fn advance_from(
     requires { ⌜ Lent (length (now work)) (length (now keys)) × (t .0 ≤ maxMoment) × Fit n (now tables) × (runLength n ≤ length (now run)) ⌝ }
     ensures { λ r. ⌜ outcomeOf (now (run .exit)) (now (trace .exit)) r ≡ advanced (now (run .entry)) (now (trace .entry))
         (ok (heldEnd n (advanceFrom (simOf (now (phases .entry)) (now (rules .entry)) (now (tables .entry)) n (length (now (work .entry))))
-        (opening .0) (held (now (phase .entry)) (now (last .entry))) (length (now (trace .entry))) (t .0) (toBag (now (bag .entry)))))) ⌝ }
+        (length (now (trace .entry))) (t .0) (toBag (now (bag .entry))) (opening .0) (held (now (phase .entry)) (now (last .entry)))))) ⌝ }
 {
     let from = Going {
         opening,

@@ -8,8 +8,8 @@ use borrow.Author.Tests.{lt-ltb, le-ltb}
 use Rattle.definition.specs.Bytes.{Bytes, ok, refused, _>>=_}
 use Rattle.definition.specs.Limits.{maxMoment}
 use Rattle.definition.specs.Model.{Model}
-use Rattle.definition.specs.Routes.{accepted}
-use Rattle.definition.specs.SavedRun.{runOf, fits}
+use Rattle.definition.specs.Pinned.Decoder.{accepted}
+use Rattle.definition.specs.SavedRun.{runOf, runFits}
 use Rattle.definition.specs.Step.{nested}
 use Rattle.definition.specs.Advance.{advanceFrom}
 use Rattle.definition.specs.Engine.{Advanced, advanceChecks, advanced, advance, bagFits, toBag}
@@ -23,7 +23,7 @@ unfolding advance advanced
 model-refused file run t bag trace k e = rw (← e)
 
 module _ (file run : Bytes) (t : ℕ) (bag trace : Bytes) (m : Model) (e : ok m ≡ accepted file) where
-  pub run-unfit : fits m run ≡ false → refusedWith 10 run trace ≡ advance file run t bag trace
+  pub run-unfit : runFits m run ≡ false → refusedWith 10 run trace ≡ advance file run t bag trace
   unfolding advance advanced advanceChecks
   run-unfit f = rw (← e, f)
 
@@ -31,7 +31,7 @@ module _ (file run : Bytes) (t : ℕ) (bag trace : Bytes) (m : Model) (e : ok m 
   or-true true = refl
   or-true false = refl
 
-  module _ (f : fits m run ≡ true) where
+  module _ (f : runFits m run ≡ true) where
     pub too-early : t < runOf m run .opening → refusedWith 11 run trace ≡ advance file run t bag trace
     unfolding advance advanced advanceChecks
     too-early l = rw (← e, f, lt-ltb t (runOf m run .opening) l)
@@ -51,6 +51,6 @@ module _ (file run : Bytes) (t : ℕ) (bag trace : Bytes) (m : Model) (e : ok m 
 
   -- what is let in is advanced
   pub advance-is : advanceChecks m run t bag ≡ ok tt
-      → advanced run trace (ok (advanceFrom (nested m) (runOf m run .opening) (runOf m run .entries) (length trace) t (toBag bag))) ≡ advance file run t bag trace
+      → advanced run trace (ok (advanceFrom (nested m) (length trace) t (toBag bag) (runOf m run .opening) (runOf m run .entries))) ≡ advance file run t bag trace
   unfolding advance
   advance-is c = rw (← e, c)

@@ -6,7 +6,8 @@ use lib.ListN.{length}
 use Rattle.definition.specs.Bytes.{Bytes, AllBytes, ok}
 use Rattle.definition.specs.Limits.{maxGiven}
 use Rattle.definition.specs.Model.{Model, atomics}
-use Rattle.definition.specs.Routes.{routes, accepted}
+use Rattle.definition.specs.Routes.{routes}
+use Rattle.definition.specs.Pinned.Decoder.{accepted}
 use Rattle.definition.specs.SavedRun.{runOf}
 use Rattle.definition.specs.Advance.{advanceFrom}
 use Rattle.definition.specs.Engine.{advanceChecks, advanced, advance, toBag}
@@ -23,7 +24,7 @@ pub call-on-tables : (file run : Bytes) (t : ℕ) (bag trace : Bytes) (m : Model
     → length (atomics (m .components)) ≤ length (st .phase) → length (atomics (m .components)) ≤ length (st .last)
     → (tables : List ℕ) → Tabled m tables → (room : ℕ) → maxGiven * length (routes m) ≤ room
     → advanced run trace (ok (heldEnd (length (atomics (m .components)))
-    (advanceFrom (tableSim (m .phases) tables (m .rules) (length (atomics (m .components))) room) (runOf m run .opening) st (length trace) t (toBag bag))))
+    (advanceFrom (tableSim (m .phases) tables (m .rules) (length (atomics (m .components))) room) (length trace) t (toBag bag) (runOf m run .opening) st)))
     ≡ advance file run t bag trace
 call-on-tables file run t bag trace m b c e ok-call st same phases lasts tables h room enough =
     let a = accepted-sound file m b (sym e) in

@@ -7,11 +7,12 @@ use native.Mathlib.Omega.{arith}
 use lib.Dec.{leb, eqb}
 use lib.ListN.{length, getD}
 use borrow.Author.Tests.{leb-true}
-use Rattle.definition.specs.Bytes.{Bytes, ok, number}
+use Rattle.definition.specs.Bytes.{Bytes, ok, numberAt}
 use Rattle.definition.specs.Limits.{maxComponents, maxGiven, maxRoutes, maxMoment}
 use Rattle.definition.specs.Model.{Model, atomics}
-use Rattle.definition.specs.Routes.{routes, accepted}
-use Rattle.definition.specs.SavedRun.{runLength, atomicCount, runOf, toRun, fits}
+use Rattle.definition.specs.Routes.{routes}
+use Rattle.definition.specs.Pinned.Decoder.{accepted}
+use Rattle.definition.specs.SavedRun.{runLength, atomicCount, runOf, toRun, runFits}
 use Rattle.definition.specs.Advance.{advanceFrom}
 use Rattle.definition.specs.Engine.{advanceChecks, advanced, advance, toBag}
 use Rattle.laws.proofs.Sorting.{and-left}
@@ -29,20 +30,20 @@ use Rattle.model_tables.proofs.Accepted.{fine}
 use Rattle.advance_call.proofs.OnTables.{call-on-tables}
 
 -- A run that fits is long enough.
-pub fits-long : (m : Model) (run : Bytes) → fits m run ≡ true → runLength (atomicCount m) ≤ length run
-unfolding fits
+pub fits-long : (m : Model) (run : Bytes) → runFits m run ≡ true → runLength (atomicCount m) ≤ length run
+unfolding runFits
 fits-long m run h =
     let a = leb (runLength (atomicCount m)) (length run) in
-    let b = eqb (number 2 8 run) (atomicCount m) in
+    let b = eqb (numberAt 2 8 run) (atomicCount m) in
     let d = leb (runOf m run .opening) (suc maxMoment) in
     leb-true (runLength (atomicCount m)) (length run) (and-left a b (and-left (a && b) d (and-left (a && b && d) _ h)))
 
 -- The open moment that the code reads is the run's.
-pub opens-after : (file : Bytes) (n : Counts) (run : Bytes) (t opening : ℕ) → opening ≡ number 8 0 run → t < opening → t < runOf (modelOf file n) run .opening
+pub opens-after : (file : Bytes) (n : Counts) (run : Bytes) (t opening : ℕ) → opening ≡ numberAt 8 0 run → t < opening → t < runOf (modelOf file n) run .opening
 unfolding runOf toRun
 opens-after file n run t opening e h = rw e at h
 
-pub opens-by : (file : Bytes) (n : Counts) (run : Bytes) (t opening : ℕ) → opening ≡ number 8 0 run → opening ≤ t → runOf (modelOf file n) run .opening ≤ t
+pub opens-by : (file : Bytes) (n : Counts) (run : Bytes) (t opening : ℕ) → opening ≡ numberAt 8 0 run → opening ≤ t → runOf (modelOf file n) run .opening ≤ t
 unfolding runOf toRun
 opens-by file n run t opening e h = rw e at h
 
@@ -65,8 +66,8 @@ module _ (file : Bytes) (n : Counts) (bytes : (i : ℕ) → getD file i 0 < 256)
       → (count : ℕ) → count ≡ length (atomics (modelOf file n .components)) → (st : State) → entriesOf count st ≡ toRun count run .entries
       → length (st .phase) ≡ maxComponents → length (st .last) ≡ maxComponents
       → (tables : List ℕ) → TablesOf (modelOf file n) tables → (room : ℕ) → maxGiven * length (routes (modelOf file n)) ≤ room
-      → (ps rs : Bytes) (opening : ℕ) → ps ≡ phasesPart file n → rs ≡ rulesPart file n → opening ≡ number 8 0 run
-      → advanced run trace (ok (heldEnd count (advanceFrom (simOf ps rs tables count room) opening st (length trace) t (toBag bag)))) ≡ advance file run t bag trace
+      → (ps rs : Bytes) (opening : ℕ) → ps ≡ phasesPart file n → rs ≡ rulesPart file n → opening ≡ numberAt 8 0 run
+      → advanced run trace (ok (heldEnd count (advanceFrom (simOf ps rs tables count room) (length trace) t (toBag bag) opening st))) ≡ advance file run t bag trace
   unfolding modelOf modelIn runOf toRun atomicCount heldEnd
   call-parts run t bag trace given c count e st same phases lasts tables h room enough ps rs opening p q o =
       rw (p, q, o, e) (call-on-tables file run t bag trace (modelOf file n) (all-bytes file bytes) (all-bytes bag given) told c st

@@ -4,7 +4,8 @@ ghost use lib.ListN.{length};
 ghost use Rattle.definition.specs.Bytes.{ok};
 ghost use Rattle.definition.specs.Model.{atomics};
 ghost use Rattle.definition.specs.Limits.{maxGiven};
-ghost use Rattle.definition.specs.Routes.{routes, accepted};
+ghost use Rattle.definition.specs.Routes.{routes};
+ghost use Rattle.definition.specs.Pinned.Decoder.{accepted};
 ghost use Rattle.instant.specs.Sim.{Lent};
 ghost use Prim.Native.Nat.{_*_, _≤_};
 ghost use Rattle.definition.specs.Engine.{advanceChecks, advance};
@@ -18,7 +19,7 @@ use model::Checked;
 use model::Counts;
 use table_words::TABLE_SIZE;
 
-// "Advance answers number, instants done, steps, trace bytes."
+// "Advance answers number, instants done, steps, trace bytes".
 pub struct Advanced {
     pub number: u64,
     pub instants: u64,

@@ -13,7 +13,7 @@ use Rattle.definition.specs.Bytes.{Bytes, ok, refused}
 use Rattle.definition.specs.Limits.{maxSteps}
 use Rattle.definition.specs.Model.{Bag}
 use Rattle.definition.specs.Step.{Simulator}
-use Rattle.definition.specs.Instant.{Instant, done, jammed, stepped, goesOn, stepsAt, instant, records, over}
+use Rattle.definition.specs.Instant.{Instant, done, jammed, stepped, goesOn, stepsAt, instant, instantTrace, over}
 use Rattle.definition.specs.Advance.{Progress, tried}
 use Rattle.definition.specs.Engine.{dueNumber}
 use Rattle.laws.proofs.Sorting.{clash}
@@ -47,11 +47,11 @@ module _ {S : Type 0} (room now : ℕ) (p : Progress S) where
   tried-none [] s e = refl
   tried-none (x ∷ xs) s e = absurd (omega arith)
 
-  tried-full : (xs : List Bag) (s : S) → over xs ≡ false → (length xs ≡ 0 → ⊥) → room < length (p .trace ++ records now xs)
+  tried-full : (xs : List Bag) (s : S) → over xs ≡ false → (length xs ≡ 0 → ⊥) → room < length (p .trace ++ instantTrace now xs)
       → tried room now p (done xs s) ≡ refused 15
   unfolding tried
   tried-full [] s o z l = absurd (z refl)
-  tried-full (x ∷ xs) s o z l = rw (o, lt-ltb room (length (p .trace ++ records now (x ∷ xs))) l)
+  tried-full (x ∷ xs) s o z l = rw (o, lt-ltb room (length (p .trace ++ instantTrace now (x ∷ xs))) l)
 
   unfoldable stood : List Bag → S → Progress S
   stood xs s = record {
@@ -59,14 +59,14 @@ module _ {S : Type 0} (room now : ℕ) (p : Progress S) where
     state = s;
     instants = suc (p .instants);
     steps = p .steps + length xs;
-    trace = p .trace ++ records now xs;
+    trace = p .trace ++ instantTrace now xs;
   }
 
-  tried-done : (xs : List Bag) (s : S) → over xs ≡ false → (length xs ≡ 0 → ⊥) → length (p .trace ++ records now xs) ≤ room
+  tried-done : (xs : List Bag) (s : S) → over xs ≡ false → (length xs ≡ 0 → ⊥) → length (p .trace ++ instantTrace now xs) ≤ room
       → tried room now p (done xs s) ≡ ok (stood xs s)
   unfolding tried stood
   tried-done [] s o z l = absurd (z refl)
-  tried-done (x ∷ xs) s o z l = rw (o, le-ltb room (length (p .trace ++ records now (x ∷ xs))) l)
+  tried-done (x ∷ xs) s o z l = rw (o, le-ltb room (length (p .trace ++ instantTrace now (x ∷ xs))) l)
 
 -- ---- an instant without a step leaves the state
 
@@ -110,7 +110,7 @@ pub record Stands (now from : ℕ) (st : State) (i : Instant State) (r : Ran) : 
   pub same : i ≡ done bags st
   pub fit : over bags ≡ false
   pub steps : r .steps ≡ length bags
-  pub used : r .used ≡ from + length (records now bags)
+  pub used : r .used ≡ from + length (instantTrace now bags)
 
 pub record Overs (i : Instant State) : Type 0 where
   pub bags : List Bag
@@ -131,8 +131,8 @@ said now from st (done xs s) due l = go (over xs) refl
   where
     go : (b : Bool) → over xs ≡ b
         → Said now from st (done xs s)
-        (cond {A = Ran} b (record { verdict = VV.Over; steps = 0; used = from; due = due }) (record { verdict = VV.Stands; steps = length xs; used = from + length (records now xs); due = due }))
-        (cond {A = Ran} b (record { verdict = VV.Over; steps = 0; used = from; due = due }) (record { verdict = VV.Stands; steps = length xs; used = from + length (records now xs); due = due }) .verdict)
+        (cond {A = Ran} b (record { verdict = VV.Over; steps = 0; used = from; due = due }) (record { verdict = VV.Stands; steps = length xs; used = from + length (instantTrace now xs); due = due }))
+        (cond {A = Ran} b (record { verdict = VV.Over; steps = 0; used = from; due = due }) (record { verdict = VV.Stands; steps = length xs; used = from + length (instantTrace now xs); due = due }) .verdict)
     go true e = record { bags = xs; state = s; same = refl; unfit = e }
     go false e = record { bags = xs; same = ap (done xs) (sym l); fit = e; steps = refl; used = refl }
 
@@ -195,7 +195,7 @@ module _ (now : ℕ) (g : Going) (due : ℕ) (st₀ : State) (trace : Bytes) (i 
 
   module _ (end : State) (d : Ran) (s : Stands now 0 end i d) where
     abbrev recs : Bytes
-    recs = records now (s .bags)
+    recs = instantTrace now (s .bags)
 
     pub attempt-none : end ≡ st₀ → d .steps ≡ 0 → Attempted now g st₀ end trace trace i (record { number = 0; going = g; due = due })
     attempt-none back z = left end back 0 (rw (s .same) (sym (tried-none (length trace) now (progressOf trace st₀ g) (s .bags) end (omega (arith, s .steps)))))

@@ -9,10 +9,11 @@ use native.Mathlib.Numerals.{add-one}
 use lib.Dec.{eqb}
 use lib.ListN.{length, take, drop, getD, length-take}
 use lib.Seq.{drop-cons, drop-length, getD-take}
-use Rattle.definition.specs.Bytes.{Bytes, number}
+use Rattle.definition.specs.Bytes.{Bytes, numberAt}
 use Rattle.definition.specs.Limits.{messageSize}
 use Rattle.definition.specs.Model.{Message, Bag, noMessage, noPhase, slots, outputs}
-use Rattle.definition.specs.Records.{messageAt, toPhase}
+use Rattle.definition.specs.Records.{messageAt}
+use Rattle.definition.specs.Pinned.Decoder.{toPhase}
 use Rattle.definition.specs.Engine.{toBag}
 use Rattle.byte_laws.specs.Parts.{recordsIn}
 use Rattle.byte_laws.proofs.Rows.{number-row}
@@ -51,12 +52,12 @@ module _ (xs : Bag) (q port i : ℕ) (st : List ℕ × ℕ) where
 
 -- ---- the slots of a phase record
 
-pub length-outputs : (r : Bytes) → length (outputs (toPhase r)) ≡ min (number 1 5 r) 4
+pub length-outputs : (r : Bytes) → length (outputs (toPhase r)) ≡ min (numberAt 1 5 r) 4
 unfolding outputs slots toPhase
-length-outputs r = length-take (number 1 5 r) (slots (toPhase r))
+length-outputs r = length-take (numberAt 1 5 r) (slots (toPhase r))
 
 slot-at : (r : Bytes) (j : ℕ) → j < 4
-    → getD (slots (toPhase r)) j noMessage ≡ record { port = number 1 (6 + messageSize * j) r; value = number 2 (6 + messageSize * j + 1) r }
+    → getD (slots (toPhase r)) j noMessage ≡ record { port = numberAt 1 (6 + messageSize * j) r; value = numberAt 2 (6 + messageSize * j + 1) r }
 unfolding slots toPhase messageAt
 slot-at r zero h = refl
 slot-at r (suc zero) h = refl
@@ -65,18 +66,18 @@ slot-at r (suc (suc (suc zero))) h = refl
 slot-at r (suc (suc (suc (suc j)))) h = absurd (omega arith)
 
 output-at : (r : Bytes) (j : ℕ) → j < length (outputs (toPhase r))
-    → getD (outputs (toPhase r)) j noMessage ≡ record { port = number 1 (6 + messageSize * j) r; value = number 2 (6 + messageSize * j + 1) r }
+    → getD (outputs (toPhase r)) j noMessage ≡ record { port = numberAt 1 (6 + messageSize * j) r; value = numberAt 2 (6 + messageSize * j + 1) r }
 output-at r j h =
-    let used : j < number 1 5 r = omega (arith, length-outputs r) in
+    let used : j < numberAt 1 5 r = omega (arith, length-outputs r) in
     let four : j < 4 = omega (arith, length-outputs r) in
     of-slots used ∙ slot-at r j four
   where
-    of-slots : j < number 1 5 r → getD (outputs (toPhase r)) j noMessage ≡ getD (slots (toPhase r)) j noMessage
-    of-slots used = unfold outputs toPhase in getD-take (number 1 5 r) (slots (toPhase r)) j noMessage used
+    of-slots : j < numberAt 1 5 r → getD (outputs (toPhase r)) j noMessage ≡ getD (slots (toPhase r)) j noMessage
+    of-slots used = unfold outputs toPhase in getD-take (numberAt 1 5 r) (slots (toPhase r)) j noMessage used
 
 pub slot-more : (r : Bytes) (q port j : ℕ) (st : List ℕ × ℕ) → j < length (outputs (toPhase r))
     → puts port (valuesOn q (drop (j + 1) (outputs (toPhase r))))
-    (puts port (wantedValue (eqb q (number 1 (6 + messageSize * j) r)) (number 2 (6 + messageSize * j + 1) r)) st)
+    (puts port (wantedValue (eqb q (numberAt 1 (6 + messageSize * j) r)) (numberAt 2 (6 + messageSize * j + 1) r)) st)
     ≡ puts port (valuesOn q (drop j (outputs (toPhase r)))) st
 slot-more r q port j st h = bag-more (outputs (toPhase r)) q port j st _ h (output-at r j h)
 
@@ -96,14 +97,14 @@ unfolding toBag
 length-given s = unfold recordsIn in length-records messageSize (messageAt 0) s
 
 given-at : (s : Bytes) (i : ℕ) → i < length s / messageSize
-    → getD (toBag s) i noMessage ≡ record { port = number 1 (messageSize * i) s; value = number 2 (messageSize * i + 1) s }
+    → getD (toBag s) i noMessage ≡ record { port = numberAt 1 (messageSize * i) s; value = numberAt 2 (messageSize * i + 1) s }
 unfolding toBag recordsIn messageAt
 given-at s i h =
     record-in messageSize (messageAt 0) s i noMessage h
     ∙ rw (number-row 1 0 messageSize i s (omega arith), number-row 2 1 messageSize i s (omega arith), add-zero)
 
 pub given-more : (s : Bytes) (q port i : ℕ) (st : List ℕ × ℕ) → i < length s / messageSize
-    → puts port (valuesOn q (drop (i + 1) (toBag s))) (puts port (wantedValue (eqb q (number 1 (messageSize * i) s)) (number 2 (messageSize * i + 1) s)) st)
+    → puts port (valuesOn q (drop (i + 1) (toBag s))) (puts port (wantedValue (eqb q (numberAt 1 (messageSize * i) s)) (numberAt 2 (messageSize * i + 1) s)) st)
     ≡ puts port (valuesOn q (drop i (toBag s))) st
 given-more s q port i st h = bag-more (toBag s) q port i st _ (rw (length-given s) h) (given-at s i h)
 

@@ -4,7 +4,7 @@ ghost use mathlib.Core.Path.{_≡_};
 ghost use lib.ListN.{length};
 ghost use Rattle.definition.specs.Engine.{toBag};
 ghost use Rattle.definition.specs.Model.{outputs};
-ghost use Rattle.definition.specs.Records.{toPhase};
+ghost use Rattle.definition.specs.Pinned.Decoder.{toPhase};
 ghost use Rattle.model_records.specs.Values.{phasesIn};
 ghost use Rattle.pull_laws.specs.Put.{put1, puts, valuesOn};
 ghost use Rattle.bag_keys.specs.Sent.{sentOn, wantedValue};

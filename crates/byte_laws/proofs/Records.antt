@@ -6,10 +6,10 @@ use native.Mathlib.Omega.{arith}
 use native.Mathlib.Nat.{mul-div-cancel}
 use lib.ListN.{length, drop, getD, length-drop, length-map, List·getD-eq-default}
 use lib.Seq.{length-take-le}
-use Rattle.definition.specs.Bytes.{Bytes, chunks, row}
+use Rattle.definition.specs.Bytes.{Bytes, chunks}
 use Rattle.definition.specs.Limits.{countSize}
 use Rattle.laws.proofs.Lists.{getD-map}
-use Rattle.byte_laws.specs.Parts.{recordsIn, partOf}
+use Rattle.byte_laws.specs.Parts.{recordsIn, partOf, row}
 use Rattle.byte_laws.proofs.Rows.{length-rows, getD-rows, rows-alone}
 
 module _ {A : Type 0} (size : ℕ) (to : Bytes → A) where

@@ -1,4 +1,4 @@
--- Numbers in rows, and rows in a file: what a reader by positions sees of `number` and `chunks`; numbers as a writer stores them.
+-- Numbers in rows, and rows in a file: what a reader by positions sees of `numberAt` and `chunks`; numbers as a writer stores them.
 -- Assumes nothing.
 use mathlib.Core.Path.{_≡_, refl, sym, ap, _∙_}
 use mathlib.Core.List.{[], _∷_}
@@ -7,48 +7,49 @@ use native.Mathlib.Omega.{arith}
 use native.Mathlib.Nat.{pow-succ', pow-le-pow-right, add-zero, sub-zero, le-refl}
 use lib.ListN.{length, take, drop, getD, set, length-drop}
 use lib.Seq.{take-nil, getD-drop, drop-drop, take-take, take-all, sets}
-use Rattle.definition.specs.Bytes.{Bytes, le, number, chunks, row, bytesOf}
+use Rattle.definition.specs.Bytes.{Bytes, littleEndian, numberAt, chunks, bytesOf}
+use Rattle.byte_laws.specs.Parts.{row}
 
 -- ---- numbers
 
-le-front : (w : ℕ) (s : Bytes) → le (take (suc w) s) ≡ getD s 0 0 + 256 * le (take w (drop 1 s))
-unfolding le
+le-front : (w : ℕ) (s : Bytes) → littleEndian (take (suc w) s) ≡ getD s 0 0 + 256 * littleEndian (take w (drop 1 s))
+unfolding littleEndian
 le-front w [] = rw (take-nil w)
 le-front w (b ∷ s) = refl
 
 -- A number is its first byte and the number after it, also past the end.
-pub number-more : (w at : ℕ) (s : Bytes) → number (suc w) at s ≡ getD s at 0 + 256 * number w (at + 1) s
-unfolding number
+pub number-more : (w at : ℕ) (s : Bytes) → numberAt (suc w) at s ≡ getD s at 0 + 256 * numberAt w (at + 1) s
+unfolding numberAt
 number-more w at s = le-front w (drop at s) ∙ rw (getD-drop at s 0 0, drop-drop 1 at s, add-zero)
 
-pub number-none : (at : ℕ) (s : Bytes) → number 0 at s ≡ 0
-unfolding number le
+pub number-none : (at : ℕ) (s : Bytes) → numberAt 0 at s ≡ 0
+unfolding numberAt littleEndian
 number-none at s = refl
 
-pub number-one : (at : ℕ) (s : Bytes) → number 1 at s ≡ getD s at 0
+pub number-one : (at : ℕ) (s : Bytes) → numberAt 1 at s ≡ getD s at 0
 number-one at s = omega (arith, number-more 0 at s, number-none (at + 1) s)
 
 -- w bytes hold a number below 256 to the w.
-pub number-below : (w at : ℕ) (s : Bytes) → ((i : ℕ) → getD s i 0 < 256) → number w at s < 256 ^ w
+pub number-below : (w at : ℕ) (s : Bytes) → ((i : ℕ) → getD s i 0 < 256) → numberAt w at s < 256 ^ w
 number-below zero at s b = rw (number-none at s) (omega arith)
 number-below (suc w) at s b = rw (number-more w at s, pow-succ') (omega (arith, number-below w (at + 1) s b, b at))
 
 -- A number of at most m bytes.
-pub number-fits : (m : ℕ) {w : ℕ} → w ≤ m → (at : ℕ) (s : Bytes) → ((i : ℕ) → getD s i 0 < 256) → number w at s < 256 ^ m
+pub number-fits : (m : ℕ) {w : ℕ} → w ≤ m → (at : ℕ) (s : Bytes) → ((i : ℕ) → getD s i 0 < 256) → numberAt w at s < 256 ^ m
 number-fits m {w} h at s b =
     let p : 256 ^ w ≤ 256 ^ m = pow-le-pow-right (omega arith) h in
     omega (arith, number-below w at s b, p)
 
 -- One byte more in front, as a loop from the last byte to the first takes it.
-pub number-back : (n k : ℕ) (s : Bytes) → 0 < k → k ≤ n → number (n - (k - 1)) (k - 1) s ≡ number 1 (k - 1) s + 256 * number (n - k) k s
+pub number-back : (n k : ℕ) (s : Bytes) → 0 < k → k ≤ n → numberAt (n - (k - 1)) (k - 1) s ≡ numberAt 1 (k - 1) s + 256 * numberAt (n - k) k s
 number-back n k s p h =
     let e : n - (k - 1) ≡ suc (n - k) = omega arith in
     let f : k - 1 + 1 ≡ k = omega arith in
     rw (e, number-more (n - k) (k - 1) s, f, number-one (k - 1) s)
 
 -- A number at a position is the number at the front of the rest from there.
-pub number-drop : (w at : ℕ) (s : Bytes) → number w 0 (drop at s) ≡ number w at s
-unfolding number
+pub number-drop : (w at : ℕ) (s : Bytes) → numberAt w 0 (drop at s) ≡ numberAt w at s
+unfolding numberAt
 number-drop w at s = rw (drop-drop 0 at s, add-zero)
 
 -- A byte stored, and the rest of the number from the next position on.
@@ -72,8 +73,8 @@ drop-take (suc a) zero s = let e : 0 - suc a ≡ 0 = omega arith in rw e
 drop-take (suc a) (suc n) [] = sym (take-nil (suc n - suc a))
 drop-take (suc a) (suc n) (b ∷ s) = let e : suc n - suc a ≡ n - a = omega arith in rw e (drop-take a n s)
 
-pub number-row : (w at size k : ℕ) (s : Bytes) → at + w ≤ size → number w at (row size k s) ≡ number w (size * k + at) s
-unfolding number row
+pub number-row : (w at size k : ℕ) (s : Bytes) → at + w ≤ size → numberAt w at (row size k s) ≡ numberAt w (size * k + at) s
+unfolding numberAt row
 number-row w at size k s h =
     rw (drop-take at size (drop (size * k) s), take-take w (size - at) (drop at (drop (size * k) s)) (omega arith), drop-drop at (size * k) s)
 

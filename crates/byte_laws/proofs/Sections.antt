@@ -9,9 +9,9 @@ use lib.Dec.{ltb}
 use lib.ListN.{length, drop}
 use borrow.Author.Tests.{ltb-false, ltb-true}
 use Rattle.definition.specs.Lists.{all, upFrom}
-use Rattle.definition.specs.Bytes.{Bytes, Result, ok, refused, _>>=_, refuseIf, number, chunks, numberOf}
+use Rattle.definition.specs.Bytes.{Bytes, Result, ok, refused, _>>=_, refuseIf, numberAt, chunks, numberOf}
 use Rattle.definition.specs.Limits.{countSize}
-use Rattle.definition.specs.File.{Section, sectionCount, section}
+use Rattle.definition.specs.Pinned.Decoder.{Section, sectionCount, section}
 use Rattle.byte_laws.specs.Parts.{recordsIn, partOf, restAfter}
 use Rattle.byte_laws.proofs.Alls.{all-no, all-end}
 use Rattle.byte_laws.proofs.Refusals.{number-refused}
@@ -19,24 +19,24 @@ use Rattle.byte_laws.proofs.Records.{part-records, part-count, length-r
 
 -- The count that a section announces.
 abbrev pub announced : Bytes → ℕ
-announced s = number countSize 0 s
+announced s = numberAt countSize 0 s
 
 -- A head without a refusal: its count is right, and its records are there.
 pub head-ok : (size : ℕ) (w : ℕ → ℕ) (s : Bytes) → numberOf (sectionCount size (λ _. w (announced s)) s) ≡ 0
     → (sectionCount size w s ≡ ok (announced s)) × (w (announced s) ≡ 0) × (countSize + announced s * size ≤ length s)
 unfolding sectionCount
-head-ok size w s = go (ltb (length s) countSize) (ltb 0 (w (number countSize 0 s))) refl (ltb (length s) (countSize + number countSize 0 s * size)) refl
+head-ok size w s = go (ltb (length s) countSize) (ltb 0 (w (numberAt countSize 0 s))) refl (ltb (length s) (countSize + numberAt countSize 0 s * size)) refl
   where
-    go : (a b : Bool) → ltb 0 (w (number countSize 0 s)) ≡ b → (c : Bool) → ltb (length s) (countSize + number countSize 0 s * size) ≡ c
-        → numberOf (refuseIf a 1 >>= λ _. refuseIf b (w (number countSize 0 s)) >>= λ _. refuseIf c 1 >>= λ _. ok (number countSize 0 s)) ≡ 0
-        → ((refuseIf a 1 >>= λ _. refuseIf b (w (number countSize 0 s)) >>= λ _. refuseIf c 1 >>= λ _. ok (number countSize 0 s)) ≡ ok (number countSize 0 s))
-        × (w (number countSize 0 s) ≡ 0) × (countSize + number countSize 0 s * size ≤ length s)
+    go : (a b : Bool) → ltb 0 (w (numberAt countSize 0 s)) ≡ b → (c : Bool) → ltb (length s) (countSize + numberAt countSize 0 s * size) ≡ c
+        → numberOf (refuseIf a 1 >>= λ _. refuseIf b (w (numberAt countSize 0 s)) >>= λ _. refuseIf c 1 >>= λ _. ok (numberAt countSize 0 s)) ≡ 0
+        → ((refuseIf a 1 >>= λ _. refuseIf b (w (numberAt countSize 0 s)) >>= λ _. refuseIf c 1 >>= λ _. ok (numberAt countSize 0 s)) ≡ ok (numberAt countSize 0 s))
+        × (w (numberAt countSize 0 s) ≡ 0) × (countSize + numberAt countSize 0 s * size ≤ length s)
     go true b f c g e = absurd (omega arith)
-    go false true f c g e = let l = ltb-true 0 (w (number countSize 0 s)) f in absurd (omega arith)
+    go false true f c g e = let l = ltb-true 0 (w (numberAt countSize 0 s)) f in absurd (omega arith)
     go false false f true g e = absurd (omega arith)
     go false false f false g e =
-        let l = ltb-false 0 (w (number countSize 0 s)) f in
-        let k = ltb-false (length s) (countSize + number countSize 0 s * size) g in
+        let l = ltb-false 0 (w (numberAt countSize 0 s)) f in
+        let k = ltb-false (length s) (countSize + numberAt countSize 0 s * size) g in
         (refl, omega arith, k)
 
 -- Only the number of the announced count matters.

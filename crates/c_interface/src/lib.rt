@@ -2,7 +2,7 @@
 // A slice stands for a pointer and a length.
 ghost use mathlib.Core.Path.{_≡_};
 ghost use Rattle.engine.specs.Answers.{wroteOf, advancedOf, readOf};
-ghost use Rattle.definition.specs.Routes.{checkModel};
+ghost use Rattle.definition.specs.Pinned.Decoder.{checkModel};
 ghost use Rattle.definition.specs.Engine.{start, advance, reading};
 ghost use Rattle.definition.specs.Flatten.{flatten};
 use engine::Advanced;

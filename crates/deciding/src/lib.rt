@@ -1,4 +1,4 @@
-// The deciding rule: "The first rule in file order whose conditions all hold decides." It is answered by its position, not by the
+// The deciding rule: "the first rule in file order whose conditions all hold decides". It is answered by its position, not by the
 // phase it leads to. A bag is a slice of message keys, port times 65,536 and value.
 ghost use mathlib.Core.Path.{_≡_};
 ghost use mathlib.Core.List.{map};

@@ -1,7 +1,7 @@
 // The engine's calls. Each has its whole outcome, numbers and the whole content of each lent buffer, as an equality with the
 // definitions, for all inputs.
 ghost use mathlib.Core.Path.{_≡_};
-ghost use Rattle.definition.specs.Routes.{checkModel};
+ghost use Rattle.definition.specs.Pinned.Decoder.{checkModel};
 ghost use Rattle.definition.specs.Engine.{start, advance, reading};
 ghost use Rattle.definition.specs.Flatten.{flatten};
 ghost use Rattle.engine.specs.Answers.{wroteOf, advancedOf, readOf};

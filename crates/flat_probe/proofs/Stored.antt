@@ -6,10 +6,11 @@ use native.Mathlib.Omega.{arith}
 use lib.ListN.{length, getD, drop, set, length-map, drop-of-length-le}
 use lib.Seq.{sets, sets-eq}
 use Rattle.definition.specs.Lists.{concat, upFrom}
-use Rattle.definition.specs.Bytes.{Bytes, bytesOf, chunks, number, le}
+use Rattle.definition.specs.Bytes.{Bytes, bytesOf, chunks, numberAt, littleEndian, laidOut}
 use Rattle.definition.specs.Limits.{maxComponents, phaseSize}
 use Rattle.definition.specs.Model.{noPhase, slots}
-use Rattle.definition.specs.Records.{messageAt, messageBytes, toPhase, phaseBytes}
+use Rattle.definition.specs.Records.{messageAt, messageBytes, phaseBytes}
+use Rattle.definition.specs.Pinned.Decoder.{toPhase}
 use Rattle.laws.proofs.Lists.{getD-map}
 use Rattle.byte_laws.specs.Parts.{recordsIn}
 use Rattle.model_records.specs.Values.{phasesIn}
@@ -26,12 +27,12 @@ length-up k zero = refl
 length-up k (suc n) = ap suc (length-up (suc k) n)
 
 pub slot-puts : (c q at : ℕ) (b : Bytes) → sets (sets b at (bytesOf 1 q)) (at + 1) (bytesOf 2 (8 * c + (4 + q))) ≡ sets b at (messageBytes (ownPort c q))
-unfolding messageBytes ownPort outputNode
+unfolding messageBytes laidOut bytesOf ownPort outputNode
 slot-puts c q at b =
     ap (λ k. sets (sets b at (bytesOf 1 q)) (at + k) (bytesOf 2 (8 * c + (4 + q)))) (sym (length-bytes 1 q)) ∙ sym (sets-append (bytesOf 1 q) (bytesOf 2 (8 * c + (4 + q))) b at)
 
 message-length : (c q : ℕ) → length (messageBytes (ownPort c q)) ≡ 3
-unfolding messageBytes ownPort bytesOf
+unfolding messageBytes laidOut bytesOf ownPort
 message-length c q = refl
 
 -- two pieces, the second at a known place
@@ -53,7 +54,7 @@ probe-puts c at b =
     ∙ ap (sets b at) parts
   where
     parts : bytesOf 5 0 ++ (bytesOf 1 4 ++ (messageBytes (ownPort c 0) ++ (messageBytes (ownPort c 1) ++ (messageBytes (ownPort c 2) ++ messageBytes (ownPort c 3))))) ≡ phaseBytes (probeOf c)
-    parts = unfold phaseBytes probeOf slots messageBytes ownPort bytesOf concat in refl
+    parts = unfold phaseBytes probeOf slots messageBytes laidOut bytesOf ownPort concat in refl
 
 -- ---- all of them
 
@@ -85,7 +86,7 @@ probes-none c b l = records-none 18 phaseBytes length-phase probes c (18 * c) b 
 
 -- read back
 probes-held : map (λ k. toPhase (phaseBytes k)) probes ≡ probes
-unfolding probes probeOf ownPort outputNode upFrom toPhase phaseBytes slots messageAt messageBytes number le bytesOf concat
+unfolding probes probeOf ownPort outputNode upFrom toPhase phaseBytes slots messageAt numberAt littleEndian laidOut bytesOf concat
 probes-held = refl
 
 pub probes-back : (b : Bytes) → length b ≡ maxComponents * phaseSize → phasesIn (sets b 0 (probesFrom 0)) ≡ probes

@@ -16,7 +16,7 @@ ownPort c q = record { port = q; value = outputNode c q }
 
 -- What component c puts out.
 unfoldable pub probeOf : ℕ → Phase
-probeOf c = record { advance = 0; next = 0; count = maxOutputs; slot0 = ownPort c 0; slot1 = ownPort c 1; slot2 = ownPort c 2; slot3 = ownPort c 3 }
+probeOf c = record { advance = 0; next = 0; outputCount = maxOutputs; slot0 = ownPort c 0; slot1 = ownPort c 1; slot2 = ownPort c 2; slot3 = ownPort c 3 }
 
 -- A record for each component, and its mark: the record and 1.
 unfoldable pub probes : List Phase

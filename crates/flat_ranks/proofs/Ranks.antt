@@ -7,7 +7,7 @@ use mathlib.Core.Bool.{true, cond}
 use lib.ListN.{getD}
 use Rattle.definition.specs.Model.{Model, isAtomic}
 use Rattle.definition.specs.Flatten.{renumbered}
-use Rattle.model_laws.proofs.Sound.{Sound}
+use Rattle.model_laws.proofs.WellFormed.{WellFormed}
 use Rattle.nest_laws.proofs.Numbers.{eqb-sym}
 use Rattle.nest_laws.proofs.Components.{rooted, root-not}
 use Rattle.nest_laws.proofs.Renumber.{isListed, new-root, new-atomic}
@@ -20,7 +20,7 @@ root-rank : (t : List ℕ) → rankOf t 0 ≡ 0
 unfolding rankOf
 root-rank t = refl
 
-pub rank-is : (m : Model) (w : Sound m) (t : List ℕ) (h : Tabled m t) (c : ℕ) → isListed (m .components) c ≡ true → rankOf t c ≡ renumbered (m .components) c
+pub rank-is : (m : Model) (w : WellFormed m) (t : List ℕ) (h : Tabled m t) (c : ℕ) → isListed (m .components) c ≡ true → rankOf t c ≡ renumbered (m .components) c
 rank-is m w t h c l = either (listed-cases (m .components) c l)
   where
     either : (0 ≡ c) ⊎ (isAtomic (m .components) c ≡ true) → rankOf t c ≡ renumbered (m .components) c

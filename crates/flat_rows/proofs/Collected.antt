@@ -7,7 +7,7 @@ use lib.Dec.{leb}
 use lib.ListN.{length, getD, take, drop, set, length-map, length-append, drop-of-length-le}
 use lib.Seq.{sets, drop-cons, getD-take, take-all, take-at, length-take-le}
 use Rattle.definition.specs.Lists.{sortBy, upFrom}
-use Rattle.definition.specs.Bytes.{chunks, number, le}
+use Rattle.definition.specs.Bytes.{chunks, numberAt, littleEndian}
 use Rattle.definition.specs.Limits.{maxAncestors, portCount}
 use Rattle.definition.specs.Model.{Bag, Phase}
 use Rattle.definition.specs.Records.{messageAt}
@@ -151,5 +151,5 @@ sorted-front n b rows l e =
 
 -- what the root is given
 pub given-bag : toBag (0 ∷ 0 ∷ 0 ∷ 1 ∷ 1 ∷ 0 ∷ 2 ∷ 2 ∷ 0 ∷ 3 ∷ 3 ∷ 0 ∷ []) ≡ probeGiven
-unfolding toBag chunks messageAt number le probeGiven inputNode upFrom
+unfolding toBag chunks messageAt numberAt littleEndian probeGiven inputNode upFrom
 given-bag = refl

@@ -17,7 +17,7 @@ use Rattle.definition.specs.File.{phaseTotal}
 use Rattle.definition.specs.Routes.{endsIn, rootEnds, routes}
 use Rattle.laws.proofs.Sums.{sumOf, sum-map, sum-cong, sum-swap}
 use Rattle.laws.proofs.Lists.{all-append, all-take, all-getD, sum-cong-if, count-sum, count-none}
-use Rattle.model_laws.proofs.Sound.{Sound, couplings-fit}
+use Rattle.model_laws.proofs.WellFormed.{WellFormed, couplings-fit}
 use Rattle.nest_laws.proofs.Numbers.{eqb-sym}
 use Rattle.nest_laws.proofs.Occurs.{occurs, once-up, pick-one}
 use Rattle.nest_laws.proofs.Trees.{only-in}
@@ -101,7 +101,7 @@ same-source : (b : Bool) (n k : ℕ) → (b ≡ true → n ≡ k) → cond b n 0
 same-source true n k h = h refl
 same-source false n k h = refl
 
-module _ (m : Model) (w : Sound m) where
+module _ (m : Model) (w : WellFormed m) where
   no-root : occurs 0 (atomics (m .components)) ≡ 0
   no-root =
       count-none (isAtomic (m .components)) (λ s. eqb 0 s) (atomics (m .components)) (atomics-atomic (m .components) (w .components .fit) (w .some-component))
@@ -193,7 +193,7 @@ module _ (m : Model) (w : Sound m) where
       let ps = replicate (phaseTotal (m .components)) noPhase ++ probes in
       let i = phasesBefore (m .components) c + p in
       let none : all hasValue (slots noPhase) ≡ true = (unfold all slots noPhase noMessage hasValue isValue in refl) in
-      all-take hasValue (getD ps i noPhase .count) _
+      all-take hasValue (getD ps i noPhase .outputCount) _
       (all-getD (λ (k : Phase). all hasValue (slots k)) ps i noPhase (all-append _ (replicate (phaseTotal (m .components)) noPhase) probes (all-same _ (phaseTotal (m .components)) noPhase none) probes-values) none)
 
   sends-values : (q c : ℕ) → all isValue (valuesOn q (outDue (probed m) (probeEntry m) 0 (leaf c))) ≡ true

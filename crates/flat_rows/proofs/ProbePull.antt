@@ -11,10 +11,10 @@ use borrow.Author.Tests.{eqb-true, ne-eqb}
 use Rattle.definition.specs.Lists.{all, isEmpty}
 use Rattle.definition.specs.Limits.{maxComponents, maxAncestors, portCount}
 use Rattle.definition.specs.Model.{Bag, Coupling, Model, noPhase, isChild, outputs}
-use Rattle.definition.specs.Records.{couplingFields}
+use Rattle.definition.specs.Pinned.Decoder.{couplingFields}
 use Rattle.laws.proofs.Sorting.{clash, and-left, and-right}
 use Rattle.laws.proofs.Lists.{all-and, all-if}
-use Rattle.model_laws.proofs.Sound.{Sound}
+use Rattle.model_laws.proofs.WellFormed.{WellFormed}
 use Rattle.pull_laws.specs.Pull.{coupledOut, inputIn}
 use Rattle.laws.specs.Keys.{keyOf}
 use Rattle.pull_laws.specs.Put.{keysOf, valuesOn}
@@ -45,7 +45,7 @@ mark-up : (c : ℕ) → c < maxComponents → isUp probeMarks c ≡ true
 unfolding isUp
 mark-up c l = ap (λ n. not (eqb n 0)) (mark-at c l) ∙ ap not (ne-eqb (suc c) 0 (omega arith))
 
-module _ (m : Model) (w : Sound m) (t : List ℕ) (h : Tabled m t) (x : Bag) where
+module _ (m : Model) (w : WellFormed m) (t : List ℕ) (h : Tabled m t) (x : Bag) where
   -- the flag of a node
   up : Node → Bool
   up y = isOpen probes t probeMarks probeMarks (code y)

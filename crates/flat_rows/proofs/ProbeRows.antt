@@ -18,7 +18,7 @@ use Rattle.laws.proofs.Sorting.{and-left, and-right, sort-perm, coupling-order}
 use Rattle.laws.proofs.Sums.{sumOf, sum-map, sum-cong}
 use Rattle.laws.proofs.Lists.{sum-cong-if, count-sum}
 use Rattle.laws.proofs.Bags.{count-append, same-perm}
-use Rattle.model_laws.proofs.Sound.{Sound}
+use Rattle.model_laws.proofs.WellFormed.{WellFormed}
 use Rattle.nest_laws.proofs.Numbers.{same-length}
 use Rattle.nest_laws.proofs.Components.{atomics-atomic}
 use Rattle.nest_laws.proofs.Renumber.{new-root, new-atomic, distinct-atomics, all-at}
@@ -106,7 +106,7 @@ eqCoupling-refl : (k : Coupling) → eqCoupling k k ≡ true
 unfolding eqCoupling
 eqCoupling-refl k = rw (eq-eqb (k .source) (k .source) refl, eq-eqb (k .sourcePort) (k .sourcePort) refl, eq-eqb (k .target) (k .target) refl, eq-eqb (k .targetPort) (k .targetPort) refl)
 
-module _ (m : Model) (w : Sound m) (t : List ℕ) (h : Tabled m t) where
+module _ (m : Model) (w : WellFormed m) (t : List ℕ) (h : Tabled m t) where
   byte-of : (n : ℕ) → n < 256 → n % 256 ≡ n
   byte-of n l = omega arith
 

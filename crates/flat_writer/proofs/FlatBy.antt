@@ -9,11 +9,11 @@ use lib.ListN.{length, getD}
 use Rattle.definition.specs.Lists.{upFrom}
 use Rattle.definition.specs.Limits.{portCount}
 use Rattle.definition.specs.Model.{Component, Rule, Model, noComponent, componentAt, isAtomic, atomics}
-use Rattle.definition.specs.Records.{ruleFields}
+use Rattle.definition.specs.Pinned.Decoder.{ruleFields}
 use Rattle.definition.specs.Flatten.{renumbered, flatAtomic, flatComponents, flatRule, flat}
 use Rattle.laws.proofs.Sorting.{and-left, and-right}
 use Rattle.laws.proofs.Lists.{map-cong-if}
-use Rattle.model_laws.proofs.Sound.{Sound, rules-fit}
+use Rattle.model_laws.proofs.WellFormed.{WellFormed, rules-fit}
 use Rattle.nest_laws.proofs.Renumber.{listed-atomic}
 use Rattle.pull_laws.specs.Tables.{numbersAt}
 use Rattle.pull_laws.specs.Tabled.{Tabled}
@@ -41,7 +41,7 @@ rule-atomic cs k h =
     let f = leb (k .low) (k .high) in
     and-right a b (and-left (a && b) c (and-left (a && b && c) d (and-left (a && b && c && d) e (and-left (a && b && c && d && e) f (and-left (a && b && c && d && e && f) _ h)))))
 
-module _ (m : Model) (w : Sound m) (t : List ℕ) (h : Tabled m t) where
+module _ (m : Model) (w : WellFormed m) (t : List ℕ) (h : Tabled m t) where
   numbers-are : numbersIn t (length (atomics (m .components))) ≡ atomics (m .components)
   unfolding numbersIn
   numbers-are = by-place (λ i. getD t (numbersAt + i) 0) (atomics (m .components)) 0 (λ i l. ap (λ j. getD t (numbersAt + j) 0) (let e : 0 + i ≡ i = omega arith in e) ∙ h .numbers i l)

@@ -6,10 +6,11 @@ use native.Mathlib.Omega.{arith}
 use lib.ListN.{length, getD, take, drop, length-take, length-drop, drop-of-length-le}
 use lib.Seq.{sets, drop-cons, take-all, take-add, drop-drop}
 use Rattle.definition.specs.Lists.{concat, sum}
-use Rattle.definition.specs.Bytes.{Bytes, AllBytes, number, bytesOf, chunks}
+use Rattle.definition.specs.Bytes.{Bytes, AllBytes, numberAt, bytesOf, chunks, laidOut}
 use Rattle.definition.specs.Limits.{componentSize, phaseSize, ruleSize, couplingSize}
 use Rattle.definition.specs.Model.{Component, Phase, Rule, Coupling, slots}
-use Rattle.definition.specs.Records.{componentBytes, couplingBytes, messageAt, messageBytes, toPhase, phaseBytes, toRule, ruleBytes}
+use Rattle.definition.specs.Records.{componentBytes, couplingBytes, messageAt, phaseBytes, ruleBytes}
+use Rattle.definition.specs.Pinned.Decoder.{toPhase, toRule}
 use Rattle.model_laws.proofs.Codec.{take-bytes, drop-bytes, number-written}
 use Rattle.store_laws.proofs.Stores.{sets-append}
 use Rattle.flat_ranks.specs.Ranks.{rankOf}
@@ -18,19 +19,19 @@ use Rattle.flat_writer.specs.Written.{ruleBy}
 -- ---- sizes
 
 pub length-component : (k : Component) → length (componentBytes k) ≡ componentSize
-unfolding componentBytes bytesOf concat
+unfolding componentBytes laidOut bytesOf
 length-component k = refl
 
 pub length-phase : (k : Phase) → length (phaseBytes k) ≡ phaseSize
-unfolding phaseBytes slots messageBytes bytesOf concat
+unfolding phaseBytes slots laidOut bytesOf concat
 length-phase k = refl
 
 pub length-rule : (k : Rule) → length (ruleBytes k) ≡ ruleSize
-unfolding ruleBytes bytesOf
+unfolding ruleBytes laidOut bytesOf
 length-rule k = refl
 
 pub length-coupling : (k : Coupling) → length (couplingBytes k) ≡ couplingSize
-unfolding couplingBytes bytesOf concat
+unfolding couplingBytes laidOut bytesOf
 length-coupling k = refl
 
 -- ---- records one after the other, each of `size` bytes
@@ -62,7 +63,7 @@ module _ {A : Type 0} (size : ℕ) (bytes : A → Bytes) (sized : (x : A) → le
 -- fields of such widths from a position on, written again
 fieldsBytes : List ℕ → ℕ → Bytes → Bytes
 fieldsBytes [] at s = []
-fieldsBytes (w ∷ ws) at s = bytesOf w (number w at s) ++ fieldsBytes ws (at + w) s
+fieldsBytes (w ∷ ws) at s = bytesOf w (numberAt w at s) ++ fieldsBytes ws (at + w) s
 
 fields-copied : (ws : List ℕ) (at : ℕ) {s : Bytes} → at + sum ws ≤ length s → AllBytes s → fieldsBytes ws at s ≡ take (sum ws) (drop at s)
 unfolding fieldsBytes sum
@@ -80,19 +81,19 @@ phase-copied {r} l h = fields ∙ fields-copied widths 0 (omega arith) h ∙ tak
     widths = 4 ∷ 1 ∷ 1 ∷ 1 ∷ 2 ∷ 1 ∷ 2 ∷ 1 ∷ 2 ∷ 1 ∷ 2 ∷ []
 
     fields : phaseBytes (toPhase r) ≡ fieldsBytes widths 0 r
-    fields = unfold phaseBytes toPhase messageAt messageBytes slots bytesOf concat fieldsBytes in refl
+    fields = unfold phaseBytes toPhase messageAt slots laidOut bytesOf concat fieldsBytes in refl
 
 -- a rule with another component
 pub rule-copied : (t : List ℕ) {r : Bytes} → length r ≡ ruleSize → AllBytes r
-    → ruleBytes (ruleBy t (toRule r)) ≡ bytesOf 1 (rankOf t (number 1 0 r)) ++ take 17 (drop 1 r)
+    → ruleBytes (ruleBy t (toRule r)) ≡ bytesOf 1 (rankOf t (numberAt 1 0 r)) ++ take 17 (drop 1 r)
 unfolding sum
-rule-copied t {r} l h = fields ∙ ap (λ b. bytesOf 1 (rankOf t (number 1 0 r)) ++ b) (fields-copied widths 1 (omega arith) h)
+rule-copied t {r} l h = fields ∙ ap (λ b. bytesOf 1 (rankOf t (numberAt 1 0 r)) ++ b) (fields-copied widths 1 (omega arith) h)
   where
     widths : List ℕ
     widths = 1 ∷ 1 ∷ 1 ∷ 2 ∷ 2 ∷ 2 ∷ 4 ∷ 4 ∷ []
 
-    fields : ruleBytes (ruleBy t (toRule r)) ≡ bytesOf 1 (rankOf t (number 1 0 r)) ++ fieldsBytes widths 1 r
-    fields = unfold ruleBytes ruleBy toRule bytesOf fieldsBytes in refl
+    fields : ruleBytes (ruleBy t (toRule r)) ≡ bytesOf 1 (rankOf t (numberAt 1 0 r)) ++ fieldsBytes widths 1 r
+    fields = unfold ruleBytes ruleBy toRule laidOut bytesOf fieldsBytes in refl
 
 -- all phases of a slice
 pub phases-copied : (n : ℕ) {s : Bytes} → n * phaseSize ≤ length s → AllBytes s

@@ -7,13 +7,14 @@ use native.Mathlib.Nat.{add-zero, le-refl}
 use lib.ListN.{length, getD, take, drop, set, length-map, length-append, length-take, length-drop}
 use lib.Seq.{sets, slice, take-all, getD-take, length-take-le}
 use Rattle.definition.specs.Lists.{concat, upFrom}
-use Rattle.definition.specs.Bytes.{Bytes, AllBytes, number, bytesOf, stored, row}
+use Rattle.definition.specs.Bytes.{Bytes, AllBytes, numberAt, bytesOf, stored, laidOut}
 use Rattle.definition.specs.Limits.{ruleSize, phaseSize}
 use Rattle.definition.specs.Model.{Component, Phase, Rule, noComponent, noRule, componentAt}
-use Rattle.definition.specs.Records.{componentBytes, toPhase, phaseBytes, toRule, ruleBytes, couplingBytes}
+use Rattle.definition.specs.Records.{componentBytes, phaseBytes, ruleBytes, couplingBytes}
 use Rattle.definition.specs.File.{sectionBytes, modelBytes}
+use Rattle.definition.specs.Pinned.Decoder.{toPhase, toRule}
 use Rattle.laws.proofs.Lists.{getD-map}
-use Rattle.byte_laws.specs.Parts.{recordsIn}
+use Rattle.byte_laws.specs.Parts.{recordsIn, row}
 use Rattle.byte_laws.proofs.Records.{length-records, record-in}
 use Rattle.model_records.specs.Values.{phasesIn, rulesIn}
 use Rattle.model_laws.proofs.Codec.{length-bytes, rows-length}
@@ -36,7 +37,7 @@ byte-byte n = omega arith
 
 pub row-puts : (k at : ℕ) (b : Bytes)
     → set (set (set (set b at (k / 16777216 % 256)) (at + 1) (k / 65536 % 256)) (at + 2) (k / 256 % 256)) (at + 3) (k % 256) ≡ sets b at (couplingBytes (couplingOf k))
-unfolding couplingBytes couplingOf concat bytesOf
+unfolding couplingBytes couplingOf laidOut bytesOf
 row-puts k at b =
     let e : at + 1 ≡ suc at = omega arith in
     let f : at + 2 ≡ suc (suc at) = omega arith in
@@ -45,7 +46,7 @@ row-puts k at b =
 
 pub atomic-puts : (k : Component) (at : ℕ) (b : Bytes) → k .phases < 256 → k .initial < 256 → k .order < 256
     → set (set (set (set (set b at 1) (at + 1) 0) (at + 2) (k .phases)) (at + 3) (k .initial)) (at + 4) (k .order) ≡ sets b at (componentBytes (underRoot k))
-unfolding componentBytes underRoot concat bytesOf
+unfolding componentBytes underRoot laidOut bytesOf
 atomic-puts k at b x y z =
     let e : at + 1 ≡ suc at = omega arith in
     let f : at + 2 ≡ suc (suc at) = omega arith in
@@ -102,7 +103,7 @@ module _ (cs : List Component) (t : List ℕ) (n : ℕ) where
       count = unfold componentsBy in (let l = length-atomics in omega arith)
 
       root-bytes : bytesOf 5 0 ≡ componentBytes noComponent
-      root-bytes = unfold componentBytes noComponent concat bytesOf in refl
+      root-bytes = unfold componentBytes noComponent laidOut bytesOf in refl
 
       pieces : (x y z : Bytes) → length x ≡ 2 → length y ≡ 5 → sets (sets (sets b 0 x) 2 y) 7 z ≡ sets b 0 (x ++ (y ++ z))
       pieces x y z p q =
@@ -176,10 +177,10 @@ pub rule-row : (s : Bytes) (i : ℕ) → i < length (rulesIn s) → length (take
 rule-row s i l = length-take 18 (drop (18 * i) s) ∙ omega (arith, length-drop (18 * i) s, length-rules s [])
 
 pub rule-puts : (t : List ℕ) (r : Bytes) (at : ℕ) (b : Bytes) → length r ≡ ruleSize → AllBytes r
-    → sets (sets b at (bytesOf 1 (rankOf t (number 1 0 r)))) (at + 1) (take 17 (drop 1 r)) ≡ sets b at (ruleBytes (ruleBy t (toRule r)))
+    → sets (sets b at (bytesOf 1 (rankOf t (numberAt 1 0 r)))) (at + 1) (take 17 (drop 1 r)) ≡ sets b at (ruleBytes (ruleBy t (toRule r)))
 rule-puts t r at b l h =
-    let x = bytesOf 1 (rankOf t (number 1 0 r)) in
-    ap (λ k. sets (sets b at x) (at + k) (take 17 (drop 1 r))) (sym (length-bytes 1 (rankOf t (number 1 0 r))))
+    let x = bytesOf 1 (rankOf t (numberAt 1 0 r)) in
+    ap (λ k. sets (sets b at x) (at + k) (take 17 (drop 1 r))) (sym (length-bytes 1 (rankOf t (numberAt 1 0 r))))
     ∙ sym (sets-append x (take 17 (drop 1 r)) b at) ∙ ap (sets b at) (sym (rule-copied t l h))
 
 -- ---- the whole

@@ -11,7 +11,7 @@ use Rattle.definition.specs.Bytes.{Bytes, ok, refused, stored}
 use Rattle.definition.specs.Limits.{maxComponents, maxPhases, maxRules, maxRoutes}
 use Rattle.definition.specs.Model.{atomics}
 use Rattle.definition.specs.File.{modelBytes}
-use Rattle.definition.specs.Routes.{accepted}
+use Rattle.definition.specs.Pinned.Decoder.{accepted}
 use Rattle.definition.specs.Engine.{wrote}
 use Rattle.definition.specs.Flatten.{flat, flatten}
 use Rattle.model_records.specs.Values.{componentsIn, phasesIn, rulesIn, modelIn}

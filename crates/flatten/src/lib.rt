@@ -4,7 +4,7 @@ ghost use Prim.Native.Nat.{_≤_};
 ghost use lib.ListN.{length};
 ghost use Rattle.definition.specs.Bytes.{ok};
 ghost use Rattle.definition.specs.Limits.{maxComponents, maxRoutes};
-ghost use Rattle.definition.specs.Routes.{accepted};
+ghost use Rattle.definition.specs.Pinned.Decoder.{accepted};
 ghost use Rattle.definition.specs.Flatten.{flatten};
 ghost use Rattle.model.specs.Checked.{modelOf};
 ghost use Rattle.pull_laws.specs.TablesOf.{TablesOf};

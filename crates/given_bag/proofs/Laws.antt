@@ -8,7 +8,7 @@ use native.Mathlib.Nat.{add-zero}
 use lib.Dec.{ltb}
 use lib.ListN.{length, getD}
 use Rattle.definition.specs.Lists.{all, upFrom}
-use Rattle.definition.specs.Bytes.{Bytes, number}
+use Rattle.definition.specs.Bytes.{Bytes, numberAt}
 use Rattle.definition.specs.Limits.{messageSize, portCount}
 use Rattle.definition.specs.Model.{noMessage}
 use Rattle.definition.specs.Records.{messageAt, portFits}
@@ -21,11 +21,11 @@ use Rattle.byte_laws.proofs.Records.{length-records, record-in}
 unfoldable pub portAt : Bytes → ℕ → Bool
 portAt s i = portFits (getD (toBag s) i noMessage)
 
-pub port-is : (s : Bytes) (i : ℕ) → i < length s / messageSize → portAt s i ≡ ltb (number 1 (messageSize * i) s) portCount
+pub port-is : (s : Bytes) (i : ℕ) → i < length s / messageSize → portAt s i ≡ ltb (numberAt 1 (messageSize * i) s) portCount
 unfolding portAt portFits toBag messageAt recordsIn
 port-is s i h =
     ap (λ x. ltb (x .port) portCount) (record-in messageSize (messageAt 0) s i noMessage h)
-    ∙ ap (λ n. ltb n portCount) (number-row 1 0 messageSize i s (omega arith) ∙ ap (λ k. number 1 k s) (add-zero (messageSize * i)))
+    ∙ ap (λ n. ltb n portCount) (number-row 1 0 messageSize i s (omega arith) ∙ ap (λ k. numberAt 1 k s) (add-zero (messageSize * i)))
 
 all-shift : (q : ℕ → Bool) (k n : ℕ) → all q (upFrom (suc k) n) ≡ all (λ i. q (suc i)) (upFrom k n)
 unfolding all upFrom

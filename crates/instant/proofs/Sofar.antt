@@ -14,7 +14,7 @@ use Rattle.definition.specs.Bytes.{Bytes}
 use Rattle.definition.specs.Limits.{maxSteps, maxRootBag}
 use Rattle.definition.specs.Model.{Bag, messageLe}
 use Rattle.definition.specs.Step.{Stepped, Simulator}
-use Rattle.definition.specs.Instant.{Instant, done, jammed, stepped, isDue, goesOn, stepsAt, instant, over, traceBytes, recordsFrom, records}
+use Rattle.definition.specs.Instant.{Instant, done, jammed, stepped, isDue, goesOn, stepsAt, instant, over, traceBytes, recordsFrom, instantTrace}
 use Rattle.definition.specs.Engine.{toBag}
 use Rattle.laws.proofs.Sorting.{clash}
 use Rattle.clock.specs.Times.{latest}
@@ -76,11 +76,11 @@ pub record Sofar {S : Type 0} (whole rest : Instant S) (now from : ℕ) (out₀ 
   pub count : k ≡ length bags
   pub split : whole ≡ after bags rest
   pub overs : flag ≡ over bags
-  pub sized : flag ≡ false → used ≡ from + length (records now bags)
-  pub put : flag ≡ false → used ≤ length out₀ → out ≡ sets out₀ from (records now bags)
+  pub sized : flag ≡ false → used ≡ from + length (instantTrace now bags)
+  pub put : flag ≡ false → used ≤ length out₀ → out ≡ sets out₀ from (instantTrace now bags)
 
 pub sofar-none : {S : Type 0} (i : Instant S) (now from : ℕ) (out : Bytes) → Sofar i i now from out out 0 from false
-unfolding after over all records recordsFrom traceBytes concat
+unfolding after over all instantTrace recordsFrom traceBytes concat
 sofar-none i now from out = record { bags = []; count = refl; split = refl; overs = refl; sized = λ h. omega arith; put = λ h l. refl }
 
 -- What the code has of a step: the state, how many messages it put out, and their keys.
@@ -122,21 +122,21 @@ module _ {S : Type 0} (whole rest : Instant S) (now from : ℕ) (out₀ out out�
     bounded : count ≤ maxRootBag
     bounded = ltb-false maxRootBag count (or-false flag (ltb maxRootBag count) h .1)
 
-    on : records now xs ≡ records now (s .bags) ++ new
+    on : instantTrace now xs ≡ instantTrace now (s .bags) ++ new
     on = records-snoc now (s .bags) x (take count ks) em ∙ rw (← s .count)
 
     size : length new ≡ stepSize count
     size = length-step now k count ks (keys-hold count ks x ec em)
 
-    sized-more : used′ ≡ from + length (records now xs)
-    sized-more = rw on (omega (arith, eu, length-append (records now (s .bags)) new, size, s .sized before))
+    sized-more : used′ ≡ from + length (instantTrace now xs)
+    sized-more = rw on (omega (arith, eu, length-append (instantTrace now (s .bags)) new, size, s .sized before))
 
-    put-more : used′ ≤ length out₀ → out′ ≡ sets out₀ from (records now xs)
+    put-more : used′ ≤ length out₀ → out′ ≡ sets out₀ from (instantTrace now xs)
     put-more l =
         let u : used ≤ length out₀ = omega (arith, eu) in
-        let f : out ≡ sets out₀ from (records now (s .bags)) = s .put before u in
+        let f : out ≡ sets out₀ from (instantTrace now (s .bags)) = s .put before u in
         eo ∙ put-when now k count used ks out bounded (omega (arith, eu, lo)) ∙ ap₂ (λ (b : Bytes) (n : ℕ). sets b n new) f (s .sized before)
-        ∙ sym (sets-append (records now (s .bags)) new out₀ from) ∙ ap (sets out₀ from) (sym on)
+        ∙ sym (sets-append (instantTrace now (s .bags)) new out₀ from) ∙ ap (sets out₀ from) (sym on)
 
   pub sofar-more : Sofar whole rest now from out₀ out′ (k + 1) used′ (flag || ltb maxRootBag count)
   sofar-more = record {

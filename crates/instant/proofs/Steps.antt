@@ -13,7 +13,7 @@ use Rattle.definition.specs.Lists.{concat, isEmpty, sortBy}
 use Rattle.definition.specs.Bytes.{Bytes, chunks}
 use Rattle.definition.specs.Model.{Message, Bag, messageLe}
 use Rattle.definition.specs.Records.{messageAt}
-use Rattle.definition.specs.Instant.{TraceRecord, recordBytes, traceBytes, recordsFrom, records}
+use Rattle.definition.specs.Instant.{TraceRecord, recordBytes, traceBytes, recordsFrom, instantTrace}
 use Rattle.definition.specs.Engine.{toBag}
 use Rattle.laws.proofs.Lists.{sort-permutes, length-perm}
 use Rattle.laws.specs.Keys.{messageOf}
@@ -91,8 +91,8 @@ step-bytes now k ks x e = go ks x (sym (length-map ks messageOf) ∙ ap length e
 
 -- The records of one step more.
 pub records-snoc : (now : ℕ) (xs : List Bag) (x : Bag) (ks : List ℕ) → map messageOf ks ≡ sortBy messageLe x
-    → records now (xs ++ (x ∷ [])) ≡ records now xs ++ stepBytes now (length xs) ks
-unfolding records
+    → instantTrace now (xs ++ (x ∷ [])) ≡ instantTrace now xs ++ stepBytes now (length xs) ks
+unfolding instantTrace
 records-snoc now xs x ks e =
     let z : 0 + length xs ≡ length xs = omega arith in
     ap traceBytes (records-append now 0 xs (x ∷ [])) ∙ traces-append (recordsFrom now 0 xs) (recordsFrom now (0 + length xs) (x ∷ []))

@@ -6,7 +6,7 @@ use lib.ListN.{length}
 use lib.Seq.{sets}
 use Rattle.definition.specs.Bytes.{Bytes}
 use Rattle.definition.specs.Limits.{maxSteps}
-use Rattle.definition.specs.Instant.{Instant, done, jammed, over, records}
+use Rattle.definition.specs.Instant.{Instant, done, jammed, over, instantTrace}
 use Rattle.run_state.specs.declared.State.{State}
 use Rattle.instant.specs.declared.Ran.{Ran}
 use Rattle.instant.specs.declared.Verdict.the-variants as VV
@@ -17,13 +17,13 @@ unfoldable pub ranOf : ℕ → ℕ → Instant State → ℕ → Ran
 ranOf now from jammed due = record { verdict = VV.Jammed; steps = 0; used = from; due = due }
 ranOf now from (done xs s) due =
     cond (over xs) (record { verdict = VV.Over; steps = 0; used = from; due = due })
-    (record { verdict = VV.Stands; steps = length xs; used = from + length (records now xs); due = due })
+    (record { verdict = VV.Stands; steps = length xs; used = from + length (instantTrace now xs); due = due })
 
 -- The records of an instant that may stand are in the buffer from `from` on, where all of them fit there. Otherwise its content
 -- behind `from` is left open.
 abbrev pub Recorded : ℕ → ℕ → Bytes → Bytes → Instant State → Type 0
 Recorded now from out₀ out jammed = Unit {0}
-Recorded now from out₀ out (done xs s) = over xs ≡ false → from + length (records now xs) ≤ length out₀ → out ≡ sets out₀ from (records now xs)
+Recorded now from out₀ out (done xs s) = over xs ≡ false → from + length (instantTrace now xs) ≤ length out₀ → out ≡ sets out₀ from (instantTrace now xs)
 
 -- The state is the one that the instant leaves; where it never ends, nothing is said.
 abbrev pub Left : Instant State → State → Type 0

@@ -40,7 +40,7 @@ pub struct Ran {
     pub due: u64,
 }
 
-// "A step is taken if something is due or the given bag is not empty."
+// "A step is taken if something is due or the given bag is not empty"
 fn goes_on(due: u64, at: Moment, bag: &[u8], len: usize) -> bool
     ensures { λ r. ⌜ r ≡ (eqb due (at .0) || not (isEmpty (toBag (take len (now (bag .entry)))))) ⌝ }
 {

@@ -2,7 +2,7 @@
 use Prim.Native.Nat.{ℕ, _+_, _*_, _/_, _%_}
 use Rattle.definition.specs.Model.{Message, Coupling}
 
--- Values are 16-bit numbers: "port × 65,536 + value".
+-- Values are 16-bit numbers: port × 65,536 + value.
 abbrev pub valueRange : ℕ
 valueRange = 65536
 

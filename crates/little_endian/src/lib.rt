@@ -3,7 +3,7 @@ ghost use mathlib.Core.Path.{_≡_};
 ghost use Prim.Native.Nat.{_+_, _≤_};
 ghost use lib.ListN.{length, drop, take};
 ghost use lib.Seq.{sets};
-ghost use Rattle.definition.specs.Bytes.{number, bytesOf};
+ghost use Rattle.definition.specs.Bytes.{numberAt, bytesOf};
 
 // A byte, and a two-byte number, as a position.
 pub fn size(x: u8) -> usize
@@ -39,7 +39,7 @@ pub fn front<'a>(s: &'a [u8], n: usize) -> &'a [u8]
 }
 
 pub fn byte_at(s: &[u8], at: usize) -> u8
-    ensures { λ r. ⌜ r ≡ number 1 at (now (s .entry)) ⌝ }
+    ensures { λ r. ⌜ r ≡ numberAt 1 at (now (s .entry)) ⌝ }
 {
     if at < s.len() { s[at] } else { 0 }
 }
@@ -47,7 +47,7 @@ pub fn byte_at(s: &[u8], at: usize) -> u8
 // The number in the first n bytes, n at most 8.
 fn number_of(s: &[u8], n: usize) -> u64
     requires { ⌜ n ≤ 8 ⌝ }
-    ensures { λ r. ⌜ r ≡ number n 0 (now (s .entry)) ⌝ }
+    ensures { λ r. ⌜ r ≡ numberAt n 0 (now (s .entry)) ⌝ }
 {
     let mut k = n;
     let mut v: u64 = 0;
@@ -59,21 +59,21 @@ fn number_of(s: &[u8], n: usize) -> u64
 }
 
 pub fn u16_at(s: &[u8], at: usize) -> u16
-    ensures { λ r. ⌜ r ≡ number 2 at (now (s .entry)) ⌝ }
+    ensures { λ r. ⌜ r ≡ numberAt 2 at (now (s .entry)) ⌝ }
 {
     let t = rest(s, at);
     number_of(t, 2) as u16
 }
 
 pub fn u32_at(s: &[u8], at: usize) -> u32
-    ensures { λ r. ⌜ r ≡ number 4 at (now (s .entry)) ⌝ }
+    ensures { λ r. ⌜ r ≡ numberAt 4 at (now (s .entry)) ⌝ }
 {
     let t = rest(s, at);
     number_of(t, 4) as u32
 }
 
 pub fn u64_at(s: &[u8], at: usize) -> u64
-    ensures { λ r. ⌜ r ≡ number 8 at (now (s .entry)) ⌝ }
+    ensures { λ r. ⌜ r ≡ numberAt 8 at (now (s .entry)) ⌝ }
 {
     let t = rest(s, at);
     number_of(t, 8)

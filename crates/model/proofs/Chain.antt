@@ -7,8 +7,7 @@ use lib.ListN.{length}
 use Rattle.definition.specs.Bytes.{Bytes, Result, ok, refused, _>>=_}
 use Rattle.definition.specs.Limits.{maxComponents, componentSize}
 use Rattle.definition.specs.Model.{Component, Phase, Rule, Coupling, Model}
-use Rattle.definition.specs.Records.{toComponent, componentFits}
-use Rattle.definition.specs.File.{Section, componentCount, componentSection, phaseSection, ruleSection, couplingSection, endOfFile, decode}
+use Rattle.definition.specs.Pinned.Decoder.{toComponent, componentFits, Section, componentCountRefusal, componentSection, phaseSection, ruleSection, couplingSection, endOfFile, decode}
 use Rattle.byte_laws.specs.Parts.{recordsIn, partOf, restAfter}
 use Rattle.byte_laws.proofs.Sections.{section-gives}
 use Rattle.byte_laws.proofs.Refusals.{then-ok, then-refused}
@@ -39,7 +38,7 @@ decode-from s = refl
 pub component-limit : (s : Bytes) {x : Section Component} → componentSection s ≡ ok x → (0 < length (x .records)) × (length (x .records) ≤ maxComponents)
 unfolding componentSection
 component-limit s {x} e =
-    let g = section-gives 5 componentCount toComponent componentFits 4 s (omega arith) e in
+    let g = section-gives 5 componentCountRefusal toComponent componentFits 4 s (omega arith) e in
     let f : length (x .records) ≡ _ = ap (λ y. length (y .records)) (g .is) ∙ g .count in
     rw f (component-count _ (g .right))
 

@@ -1,7 +1,7 @@
 // Reading a model file down to its end, and the parts of an accepted file that later calls read: four slices, one for each section,
 // that hold exactly the records.
 ghost use mathlib.Core.Path.{_≡_};
-ghost use Rattle.definition.specs.File.{decode};
+ghost use Rattle.definition.specs.Pinned.Decoder.{decode};
 ghost use Rattle.model.specs.Checked.{componentsPart, phasesPart, rulesPart, couplingsPart, afterComponents, afterPhases, afterRules, checkedAs, checkedNumber};
 use limits::COMPONENT_SIZE;
 use limits::COUPLING_SIZE;

@@ -10,7 +10,7 @@ use lib.ListN.{getD}
 use borrow.Author.Tests.{le-leb, ne-eqb}
 use Rattle.definition.specs.Bytes.{ok, refused}
 use Rattle.definition.specs.Model.{Component, Coupling, componentAt, noCoupling}
-use Rattle.definition.specs.Records.{rootWithin, notFalling}
+use Rattle.definition.specs.Pinned.Decoder.{rootWithin, notFalling}
 use Rattle.sort.proofs.Keys.{coupling-key-order}
 use Rattle.model_checks.specs.Reads.{rowOf, checked}
 use Rattle.model_checks.specs.Known.{Behind}

@@ -7,7 +7,8 @@ use lib.Dec.{leb, ltb, eqb}
 use borrow.Author.Tests.{ltb-true, ltb-false, leb-true, eqb-true, eqb-false, lt-ltb, le-ltb, lt-leb, le-leb, eq-eqb, ne-eqb}
 use Rattle.definition.specs.Limits.{maxOutputs}
 use Rattle.definition.specs.Model.{Phase, outputs, slots}
-use Rattle.definition.specs.Records.{portFits, advanceFits, usedFit, unusedFit, phaseFields}
+use Rattle.definition.specs.Records.{portFits}
+use Rattle.definition.specs.Pinned.Decoder.{advanceFits, usedFit, unusedFit, phaseFields}
 use Rattle.laws.specs.Keys.{messageOf}
 use Rattle.byte_laws.proofs.Four.{all-take, rises-take, all-drop}
 use Rattle.sort.proofs.Keys.{message-key-order}
@@ -52,7 +53,7 @@ module _ (n a b c d : ℕ) where
   byKeys = (havePorts && neverFall) && areZero
 
 pub slots-keys : (p : Phase) (a b c d : ℕ) → messageOf a ≡ p .slot0 → messageOf b ≡ p .slot1 → messageOf c ≡ p .slot2 → messageOf d ≡ p .slot3
-    → (usedFit p && unusedFit p) ≡ byKeys (p .count) a b c d
+    → (usedFit p && unusedFit p) ≡ byKeys (p .outputCount) a b c d
 unfolding usedFit unusedFit outputs slots byKeys havePorts neverFall areZero
 slots-keys p a b c d e f g h =
     rw (all-take, rises-take, all-drop, ← e, ← f, ← g, ← h, key-port a, key-port b, key-port c, key-port d, key-zero a, key-zero b, key-zero c, key-zero d, message-key-order a b, message-key-order b c, message-key-order c d)
@@ -150,16 +151,16 @@ module _ (n a b c d : ℕ) where
 -- ---- a phase's fields: those before the slots, and the slots
 
 module _ (bound : ℕ) (k : Phase) where
-  pub numbers-break : (advanceFits (k .advance) && ltb (k .next) bound && leb (k .count) maxOutputs) ≡ false → phaseFields bound k ≡ false
+  pub numbers-break : (advanceFits (k .advance) && ltb (k .next) bound && leb (k .outputCount) maxOutputs) ≡ false → phaseFields bound k ≡ false
   unfolding phaseFields
   numbers-break e = rw e
 
   pub slots-break : (usedFit k && unusedFit k) ≡ false → phaseFields bound k ≡ false
   unfolding phaseFields
   slots-break e =
-      rw (and-assoc (advanceFits (k .advance) && ltb (k .next) bound && leb (k .count) maxOutputs) (usedFit k) (unusedFit k), e) (simp and-false)
+      rw (and-assoc (advanceFits (k .advance) && ltb (k .next) bound && leb (k .outputCount) maxOutputs) (usedFit k) (unusedFit k), e) (simp and-false)
 
-  pub phase-keeps : (advanceFits (k .advance) && ltb (k .next) bound && leb (k .count) maxOutputs) ≡ true → (usedFit k && unusedFit k) ≡ true
+  pub phase-keeps : (advanceFits (k .advance) && ltb (k .next) bound && leb (k .outputCount) maxOutputs) ≡ true → (usedFit k && unusedFit k) ≡ true
       → phaseFields bound k ≡ true
   unfolding phaseFields
   phase-keeps e f = rw e f

@@ -8,7 +8,7 @@ use lib.Dec.{leb}
 use lib.ListN.{length, getD}
 use Rattle.definition.specs.Limits.{maxComponents}
 use Rattle.definition.specs.Model.{Component, Coupling, componentAt, noCoupling}
-use Rattle.definition.specs.Records.{rootWithin, componentFits}
+use Rattle.definition.specs.Pinned.Decoder.{rootWithin, componentFits}
 use Rattle.laws.specs.Keys as Keys
 
 pub record Accepted (cs : List Component) (n : ℕ) : Type 0 where

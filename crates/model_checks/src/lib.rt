@@ -7,7 +7,7 @@ ghost use lib.ListN.{length, getD};
 ghost use Rattle.definition.specs.Bytes.{numberOf};
 ghost use Rattle.definition.specs.Limits.{maxOutputs};
 ghost use Rattle.definition.specs.Model.{noPhase, noRule, noCoupling, componentAt};
-ghost use Rattle.definition.specs.Records.{kindFields, componentFits, advanceFits, usedFit, unusedFit, phaseFields, ruleFields, related, couplingFields, couplingFits};
+ghost use Rattle.definition.specs.Pinned.Decoder.{kindFields, componentFits, advanceFits, usedFit, unusedFit, phaseFields, ruleFields, related, couplingFields, couplingFits};
 ghost use Rattle.model_records.specs.Values.{componentOf, phaseOf, ruleOf, couplingOf, componentsIn, phasesIn, rulesIn, couplingsIn};
 ghost use Rattle.laws.specs.Keys.{messageOf};
 ghost use Rattle.model_checks.specs.Reads.{rowOf, checked, componentRead, phaseRead, ruleRead, couplingRead};

@@ -3,8 +3,8 @@ use mathlib.Core.Path.{_≡_, sym}
 use Prim.Native.Nat.{ℕ, _+_, _*_, _-_, _/_, _<_}
 use lib.ListN.{length, take, drop, getD}
 use native.Mathlib.Omega.{arith}
-use Rattle.definition.specs.Bytes.{Bytes, row}
-use Rattle.byte_laws.specs.Parts.{recordsIn}
+use Rattle.definition.specs.Bytes.{Bytes}
+use Rattle.byte_laws.specs.Parts.{recordsIn, row}
 use Rattle.byte_laws.proofs.Records.{length-records, record-in}
 
 -- A record that there is lies within the slice.

@@ -4,7 +4,7 @@ use mathlib.Core.List.{List}
 use Rattle.definition.specs.Bytes.{Bytes}
 use Rattle.definition.specs.Limits.{componentSize, phaseSize, ruleSize, couplingSize}
 use Rattle.definition.specs.Model.{Component, Phase, Rule, Coupling, Model}
-use Rattle.definition.specs.Records.{toComponent, toPhase, toRule, toCoupling}
+use Rattle.definition.specs.Pinned.Decoder.{toComponent, toPhase, toRule, toCoupling}
 use Rattle.byte_laws.specs.Parts.{recordsIn}
 use Rattle.model_records.specs.declared.Component as C
 use Rattle.model_records.specs.declared.Phase as P
@@ -20,7 +20,7 @@ abbrev pub phaseOf : P.Phase → Phase
 phaseOf p = record {
   advance = p .advance;
   next = p .next;
-  count = p .count;
+  outputCount = p .count;
   slot0 = record { port = p .port0; value = p .value0 };
   slot1 = record { port = p .port1; value = p .value1 };
   slot2 = record { port = p .port2; value = p .value2 };

@@ -12,8 +12,8 @@ use borrow.Author.Tests.{ltb-false, eqb-true, eqb-false}
 use Rattle.definition.specs.Lists.{sum, concat}
 use Rattle.definition.specs.Limits.{maxComponents, maxPhases}
 use Rattle.definition.specs.Model.{Component, Phase, componentAt, noPhase, phasesBefore}
-use Rattle.definition.specs.Records.{bounds, phaseFields, phaseFits}
-use Rattle.definition.specs.File.{orElse, componentCount, phaseCount, phaseTotal}
+use Rattle.definition.specs.File.{phaseTotal}
+use Rattle.definition.specs.Pinned.Decoder.{bounds, phaseFields, phaseFits, orElse, componentCountRefusal, phaseCountRefusal}
 use Rattle.model_records.proofs.Before.{before-more, before-total}
 
 -- The bound of phase p of component c is the component's phase count.
@@ -36,8 +36,8 @@ unfolding phaseFits
 phase-fits-at cs ps c p i l h e = ap (λ b. phaseFields b (getD ps i noPhase)) (ap (λ i. getD (bounds cs) i 0) e ∙ bound-at cs c p l h)
 
 -- A right count of components.
-pub component-count : (n : ℕ) → componentCount n ≡ 0 → (0 < n) × (n ≤ maxComponents)
-unfolding componentCount
+pub component-count : (n : ℕ) → componentCountRefusal n ≡ 0 → (0 < n) × (n ≤ maxComponents)
+unfolding componentCountRefusal
 component-count n e = go (ltb maxComponents n) refl (eqb n 0) refl e
   where
     go : (a : Bool) → ltb maxComponents n ≡ a → (b : Bool) → eqb n 0 ≡ b → orElse (a || b) 3 0 ≡ 0 → (0 < n) × (n ≤ maxComponents)
@@ -46,8 +46,8 @@ component-count n e = go (ltb maxComponents n) refl (eqb n 0) refl e
     go false f false g e = let u = ltb-false maxComponents n f in let v = eqb-false n 0 g in (omega arith, omega arith)
 
 -- A right count is the sum.
-pub count-total : (total n : ℕ) → phaseCount total n ≡ 0 → n ≡ total
-unfolding phaseCount
+pub count-total : (total n : ℕ) → phaseCountRefusal total n ≡ 0 → n ≡ total
+unfolding phaseCountRefusal
 count-total total n e = go (ltb maxPhases n) (eqb n total) refl e
   where
     go : (a b : Bool) → eqb n total ≡ b → orElse a 3 (orElse (not b) 5 0) ≡ 0 → n ≡ total

@@ -9,7 +9,7 @@ use lib.ListN.{length}
 use Rattle.definition.specs.Lists.{all, upFrom}
 use Rattle.definition.specs.Bytes.{Bytes, ok, refused, numberOf}
 use Rattle.definition.specs.Limits.{componentSize}
-use Rattle.definition.specs.File.{sectionCount, section}
+use Rattle.definition.specs.Pinned.Decoder.{sectionCount, section}
 use Rattle.byte_laws.specs.Parts.{recordsIn, partOf, restAfter}
 use Rattle.model_records.specs.Values.{componentsIn}
 use Rattle.model_checks.specs.Known.{Accepted, Parents, PhaseCounts}

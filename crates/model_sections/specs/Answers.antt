@@ -4,7 +4,7 @@ use Prim.Native.Nat.{ℕ}
 use mathlib.Core.List.{List}
 use Rattle.definition.specs.Bytes.{Bytes, Result, ok, refused}
 use Rattle.definition.specs.Limits.{componentSize}
-use Rattle.definition.specs.File.{Section}
+use Rattle.definition.specs.Pinned.Decoder.{Section}
 use Rattle.byte_laws.specs.Parts.{recordsIn, partOf, restAfter}
 use Rattle.model_records.specs.Values.{componentsIn}
 use Rattle.model_checks.specs.Known.{Counted, Placed}

@@ -5,8 +5,8 @@ ghost use Prim.Native.Nat.{_*_, _≤_};
 ghost use lib.ListN.{length};
 ghost use Rattle.definition.specs.Bytes.{numberOf};
 ghost use Rattle.definition.specs.Limits.{maxComponents, componentSize, phaseSize, ruleSize, couplingSize};
-ghost use Rattle.definition.specs.Records.{toComponent, toPhase, toRule, toCoupling};
-ghost use Rattle.definition.specs.File.{sectionCount, componentCount, phaseCount, phaseTotal, atMost, componentSection, phaseSection, ruleSection, couplingSection};
+ghost use Rattle.definition.specs.File.{phaseTotal};
+ghost use Rattle.definition.specs.Pinned.Decoder.{toComponent, toPhase, toRule, toCoupling, sectionCount, componentCountRefusal, phaseCountRefusal, limitRefusal, componentSection, phaseSection, ruleSection, couplingSection};
 ghost use Rattle.byte_laws.specs.Parts.{partOf, restAfter};
 ghost use Rattle.model_records.specs.Values.{componentsIn};
 ghost use Rattle.model_checks.specs.Known.{Counted, Placed};
@@ -90,7 +90,7 @@ fn head_number(s: &[u8], size: usize, wrong: u16) -> u16
 // ---- the numbers of counts
 
 fn component_wrong(n: usize) -> u16
-    ensures { λ r. ⌜ r ≡ componentCount n ⌝ }
+    ensures { λ r. ⌜ r ≡ componentCountRefusal n ⌝ }
 {
     if (MAX_COMPONENTS < n) | (n == 0) {
         3
@@ -100,7 +100,7 @@ fn component_wrong(n: usize) -> u16
 }
 
 fn phase_wrong(total: usize, n: usize) -> u16
-    ensures { λ r. ⌜ r ≡ phaseCount total n ⌝ }
+    ensures { λ r. ⌜ r ≡ phaseCountRefusal total n ⌝ }
 {
     if MAX_PHASES < n {
         return 3;
@@ -112,7 +112,7 @@ fn phase_wrong(total: usize, n: usize) -> u16
 }
 
 fn over_wrong(limit: usize, n: usize) -> u16
-    ensures { λ r. ⌜ r ≡ atMost limit n ⌝ }
+    ensures { λ r. ⌜ r ≡ limitRefusal limit n ⌝ }
 {
     if limit < n { 3 } else { 0 }
 }

@@ -7,9 +7,9 @@ use lib.ListN.{length, getD}
 use Rattle.definition.specs.Bytes.{Bytes, ok}
 use Rattle.definition.specs.Limits.{maxComponents, maxRules, maxCouplings}
 use Rattle.definition.specs.Model.{atomics}
-use Rattle.definition.specs.Routes.{accepted}
+use Rattle.definition.specs.Pinned.Decoder.{accepted}
 use Rattle.byte_laws.proofs.Slices.{all-bytes}
-use Rattle.model_laws.proofs.Sound.{Accepted}
+use Rattle.model_laws.proofs.WellFormed.{Accepted}
 use Rattle.model_laws.proofs.Reading.{accepted-sound}
 use Rattle.model_records.specs.Values.{componentsIn, rulesIn, couplingsIn, modelIn}
 use Rattle.model.specs.Checked.{modelOf, componentsPart, rulesPart, couplingsPart}

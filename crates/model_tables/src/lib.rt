@@ -1,7 +1,7 @@
 // A model file opened for a call: the whole check, and where it is accepted the tables of its model.
 ghost use mathlib.Core.Path.{_≡_};
 ghost use Rattle.definition.specs.Bytes.{ok};
-ghost use Rattle.definition.specs.Routes.{accepted};
+ghost use Rattle.definition.specs.Pinned.Decoder.{accepted};
 ghost use Rattle.model.specs.Checked.{modelOf, checkedAs};
 ghost use Rattle.coupling_tables.specs.Links.{zeros};
 ghost use Rattle.route_count.specs.Routed.{Routed, Linked};

@@ -11,7 +11,7 @@ use borrow.Author.Tests.{eqb-true, ltb-true, lt-ltb}
 use Rattle.definition.specs.Lists.{upFrom}
 use Rattle.definition.specs.Limits.{maxAncestors}
 use Rattle.definition.specs.Model.{Message, Bag, Model, componentAt, isAtomic, isChild, children, leaf, node, forest, nameOf}
-use Rattle.definition.specs.Records.{rootWithin}
+use Rattle.definition.specs.Pinned.Decoder.{rootWithin}
 use Rattle.definition.specs.Devs.{translate}
 use Rattle.definition.specs.SavedRun.{Entry}
 use Rattle.laws.proofs.Sorting.{and-left, and-right}

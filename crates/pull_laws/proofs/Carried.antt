@@ -11,8 +11,8 @@ use lib.Dec.{eqb, ltb}
 use borrow.Author.Tests.{eqb-true, eqb-false, ne-eqb, lt-ltb, le-ltb}
 use Rattle.definition.specs.Limits.{maxComponents, neverField, neverMoment}
 use Rattle.definition.specs.Model.{Bag, Phase, Rule}
-use Rattle.definition.specs.Devs.{Time, finite, never, earlier, sameTime}
-use Rattle.definition.specs.Advance.{isBefore, moment}
+use Rattle.definition.specs.Devs.{Time, finite, never, earlier, sameTime, ticks}
+use Rattle.definition.specs.Advance.{isBefore}
 use Rattle.definition.specs.Engine.{dueNumber}
 use Rattle.clock.specs.Times.{latest}
 use Rattle.run_state.specs.declared.State.{State}
@@ -36,8 +36,8 @@ before-number (finite a) t l = refl
 before-number never t l = le-ltb neverMoment t l
 
 -- and where it lies before t the number is the moment
-pub moment-number : (u : Time) (t : ℕ) → isBefore u t ≡ true → dueNumber u ≡ moment u
-unfolding dueNumber isBefore moment
+pub moment-number : (u : Time) (t : ℕ) → isBefore u t ≡ true → dueNumber u ≡ ticks u
+unfolding dueNumber isBefore ticks
 moment-number (finite a) t e = refl
 moment-number never t e = absurd (true≢false (sym e))
 

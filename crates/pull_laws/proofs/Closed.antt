@@ -11,10 +11,10 @@ use borrow.Author.Tests.{eqb-true, eqb-false}
 use Rattle.definition.specs.Lists.{all, isEmpty}
 use Rattle.definition.specs.Limits.{portCount, maxAdvance}
 use Rattle.definition.specs.Model.{Bag, Coupling, Model, isAtomic, atomics, isChild, leaf}
-use Rattle.definition.specs.Records.{couplingFields}
+use Rattle.definition.specs.Pinned.Decoder.{couplingFields}
 use Rattle.laws.proofs.Sorting.{clash, and-left, and-right}
 use Rattle.laws.proofs.Lists.{and-true, all-and, all-if}
-use Rattle.model_laws.proofs.Sound.{Sound}
+use Rattle.model_laws.proofs.WellFormed.{WellFormed}
 use Rattle.nest_laws.proofs.Nest.{outOf, outDue}
 use Rattle.clock.specs.Times.{latest}
 use Rattle.run_state.specs.declared.State.{State}
@@ -35,7 +35,7 @@ both-down : (a b : Bool) → a && b ≡ false → a ≡ true → b ≡ false
 both-down true b h e = h
 both-down false b h e = absurd (clash e refl)
 
-module _ (m : Model) (w : Sound m) (st : State) (t : List ℕ) (h : Tabled m t) (now : ℕ)
+module _ (m : Model) (w : WellFormed m) (st : State) (t : List ℕ) (h : Tabled m t) (now : ℕ)
     (soon : (i : ℕ) → i < length (atomics (m .components)) → getD (st .last) i 0 + maxAdvance ≤ latest) (x : Bag) where
   abbrev pub marked : List ℕ
   marked = es m w st t h now soon

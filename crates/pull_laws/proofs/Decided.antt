@@ -15,7 +15,7 @@ use Rattle.definition.specs.Model.{Bag, Phase, Rule, Model, noRule, componentAt
 use Rattle.definition.specs.Devs.{finite, never, ticks}
 use Rattle.definition.specs.Atomic.{meets, withinElapsed, holds, deciding, ledTo, advanceOf, internal, external, confluent}
 use Rattle.laws.proofs.Sorting.{and-left}
-use Rattle.model_laws.proofs.Sound.{Sound}
+use Rattle.model_laws.proofs.WellFormed.{WellFormed}
 use Rattle.run_state.specs.declared.State.{State}
 use Rattle.pull_laws.specs.TableStep.{firstFrom, decidingIn, phaseIn, decidedIn, confluentIn}
 use Rattle.pull_laws.specs.Tabled.{Tabled}
@@ -84,7 +84,7 @@ deciding-first test at (k ∷ ks) rs h =
 
 -- ---- transitions
 
-module _ (m : Model) (w : Sound m) (st : State) (t : List ℕ) (h : Tabled m t) (c : ℕ) (l : c < length (m .components)) where
+module _ (m : Model) (w : WellFormed m) (st : State) (t : List ℕ) (h : Tabled m t) (c : ℕ) (l : c < length (m .components)) where
   names : (p e : ℕ) (x : Bag) (k : Rule) → holds c p e x k ≡ true → k .component ≡ c
   unfolding holds
   names p e x k f =

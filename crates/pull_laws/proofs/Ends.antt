@@ -12,7 +12,7 @@ use Rattle.definition.specs.Limits.{maxAncestors, portCount}
 use Rattle.definition.specs.Model.{Bag, Model, isAtomic, isChild, children, Tree, Forest, leaf, node, stop, forest, tree}
 use Rattle.definition.specs.Records.{portFits}
 use Rattle.definition.specs.SavedRun.{Entry}
-use Rattle.model_laws.proofs.Sound.{Sound, couplings-fit}
+use Rattle.model_laws.proofs.WellFormed.{WellFormed, couplings-fit}
 use Rattle.nest_laws.proofs.Components.{atomic-below, rooted, near-root, partsOfRoot, root, shape}
 use Rattle.nest_laws.proofs.Nest.{Fresh, Ready, ReadyAll, outTo, bagAt}
 use Rattle.laws.specs.Keys.{messageOf}
@@ -32,7 +32,7 @@ below : Tree → Forest
 below (leaf c) = stop
 below (node c f) = f
 
-module _ (m : Model) (w : Sound m) where
+module _ (m : Model) (w : WellFormed m) where
   pub rising : Rising (m .components)
   rising = P.rising (m .components) (w .components .fit)
 

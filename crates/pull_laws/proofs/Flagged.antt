@@ -12,13 +12,13 @@ use borrow.Author.Tests.{eqb-true, ne-eqb, lt-ltb, ltb-true}
 use Rattle.definition.specs.Lists.{all, isEmpty}
 use Rattle.definition.specs.Limits.{maxComponents, portCount, maxAdvance}
 use Rattle.definition.specs.Model.{Bag, Coupling, Model, isAtomic, atomics, isChild, componentAt, phasesBefore, leaf}
-use Rattle.definition.specs.Records.{couplingFields}
+use Rattle.definition.specs.Pinned.Decoder.{couplingFields}
 use Rattle.definition.specs.Devs.{finite, sameTime}
 use Rattle.definition.specs.SavedRun.{Entry, dueOf, dueAt}
 use Rattle.definition.specs.Flatten.{placeIn}
 use Rattle.laws.proofs.Sorting.{clash, and-left, and-right}
 use Rattle.laws.proofs.Lists.{all-and, all-if}
-use Rattle.model_laws.proofs.Sound.{Sound}
+use Rattle.model_laws.proofs.WellFormed.{WellFormed}
 use Rattle.nest_laws.proofs.Kin.{par}
 use Rattle.nest_laws.proofs.Places.{place-below, place-at}
 use Rattle.nest_laws.proofs.Components.{atomic-below, atomic-once, rooted}
@@ -50,7 +50,7 @@ unfolding anyOf
 any-map p f [] = refl
 any-map p f (a ∷ l) = ap (λ b. p (f a) || b) (any-map p f l)
 
-module _ (m : Model) (w : Sound m) (st : State) (t : List ℕ) (h : Tabled m t) (now : ℕ)
+module _ (m : Model) (w : WellFormed m) (st : State) (t : List ℕ) (h : Tabled m t) (now : ℕ)
     (soon : (i : ℕ) → i < length (atomics (m .components)) → getD (st .last) i 0 + maxAdvance ≤ latest) where
   -- ---- marks
 

@@ -13,7 +13,7 @@ use Rattle.definition.specs.Limits.{neverField}
 use Rattle.definition.specs.Model.{Bag, Model, phaseAt}
 use Rattle.definition.specs.SavedRun.{Entry}
 use Rattle.definition.specs.FlatMachine.{moved}
-use Rattle.model_laws.proofs.Sound.{Sound}
+use Rattle.model_laws.proofs.WellFormed.{WellFormed}
 use Rattle.run_state.specs.declared.State.{State}
 use Rattle.run_state.specs.Held.{changedAt}
 use Rattle.laws.specs.Keys.{messageOf}
@@ -47,7 +47,7 @@ set-room : (st : State) (i p l : ℕ) → SameRoom (changedAt st i p l) st
 unfolding changedAt
 set-room st i p l = (length-set (st .phase) i p, length-set (st .last) i l)
 
-module _ (m : Model) (w : Sound m) (t : List ℕ) (h : Tabled m t) (now : ℕ) where
+module _ (m : Model) (w : WellFormed m) (t : List ℕ) (h : Tabled m t) (now : ℕ) where
   -- ---- one atomic
 
   changed-own : (st : State) (i c : ℕ) (b : Bool) (y : Bag) → c < length (m .components) → i < length (st .phase) → i < length (st .last)

@@ -14,7 +14,7 @@ use Rattle.definition.specs.Devs.{Time, earlier}
 use Rattle.definition.specs.SavedRun.{dueOf, dueAt, dueAll, nextDue}
 use Rattle.definition.specs.Flatten.{placeIn}
 use Rattle.laws.proofs.Sorting.{and-left, and-right}
-use Rattle.model_laws.proofs.Sound.{Sound}
+use Rattle.model_laws.proofs.WellFormed.{WellFormed}
 use Rattle.nest_laws.proofs.Occurs.{kept-tests}
 use Rattle.nest_laws.proofs.Places.{place-below, place-at}
 use Rattle.nest_laws.proofs.Components.{atomic-once}
@@ -28,7 +28,7 @@ use Rattle.pull_laws.proofs.Ends.{rising}
 use Rattle.pull_laws.proofs.Positions.{heldAt, entries, atEntry, entry-at, due-at}
 use Rattle.pull_laws.proofs.StepLaw.{Holds}
 
-module _ (m : Model) (w : Sound m) (t : List ℕ) (h : Tabled m t) (st : State) (now : ℕ) (k : Holds m now st) where
+module _ (m : Model) (w : WellFormed m) (t : List ℕ) (h : Tabled m t) (st : State) (now : ℕ) (k : Holds m now st) where
   least-cong : (q : ℕ → Bool) (f g : ℕ → Time) (l : List ℕ) → all q l ≡ true → ((c : ℕ) → q c ≡ true → f c ≡ g c) → leastOf (m .phases) t f l ≡ leastOf (m .phases) t g l
   unfolding leastOf all
   least-cong q f g [] e s = refl

@@ -11,7 +11,7 @@ use lib.ListN.{length}
 use borrow.Author.Tests.{eqb-true, eq-eqb, ne-eqb, lt-ltb}
 use Rattle.definition.specs.Lists.{all, keep}
 use Rattle.definition.specs.Model.{Bag, Component, Coupling, Model, componentAt, isAtomic, isChild, isSibling, leaf}
-use Rattle.definition.specs.Records.{related, couplingFields}
+use Rattle.definition.specs.Pinned.Decoder.{related, couplingFields}
 use Rattle.definition.specs.SavedRun.{Entry}
 use Rattle.laws.proofs.Sorting.{clash, and-left, and-right}
 use Rattle.laws.proofs.Sums.{sumOf, sum-map}

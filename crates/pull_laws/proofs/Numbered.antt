@@ -11,10 +11,10 @@ use borrow.Author.Tests.{eqb-true, eqb-false, eq-eqb, ne-eqb, ltb-true, lt-ltb, 
 use Rattle.definition.specs.Lists.{all, keep}
 use Rattle.definition.specs.Limits.{portCount}
 use Rattle.definition.specs.Model.{Component, Coupling, Model, isAtomic, isChild}
-use Rattle.definition.specs.Records.{couplingFields}
+use Rattle.definition.specs.Pinned.Decoder.{couplingFields}
 use Rattle.laws.proofs.Sorting.{and-left, and-right}
 use Rattle.laws.proofs.Lists.{and-true, all-if, all-and, all-every, all-keep, all-map, map-cong-if}
-use Rattle.model_laws.proofs.Sound.{Sound, couplings-fit}
+use Rattle.model_laws.proofs.WellFormed.{WellFormed, couplings-fit}
 use Rattle.route_laws.proofs.Placed.{kept}
 use Rattle.route_laws.specs.Nodes.{portNodes, inputNode, outputNode, sourceNumber, targetNumber}
 use Rattle.pull_laws.specs.Tables.{nodeComponent, nodePort, isOutput, isRootNode, kindsAt, chainRows, atomicAt, atomicNode}
@@ -127,7 +127,7 @@ target-code cs x l k h = go (isChild cs (k .target) (k .source)) (x .output)
         let b : portNodes * x .component + x .port ≡ portNodes * x .component + (0 + x .port) = omega arith in
         rw (a, b) (same-side 0 (k .target) (k .targetPort) (x .component) (x .port) (omega arith) p l)
 
-module _ (m : Model) (w : Sound m) where
+module _ (m : Model) (w : WellFormed m) where
   -- the nodes that there are
   unfoldable pub good : Node → Bool
   good y = ltb (y .component) (length (m .components)) && ltb (y .port) portCount

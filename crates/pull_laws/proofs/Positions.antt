@@ -12,14 +12,14 @@ use borrow.Author.Tests.{leb-true, ltb-true, ltb-false}
 use Rattle.definition.specs.Lists.{all, upFrom, count}
 use Rattle.definition.specs.Limits.{maxAdvance, neverField}
 use Rattle.definition.specs.Model.{Phase, Model, noPhase, isAtomic, atomics, phasesBefore, phaseAt}
-use Rattle.definition.specs.Records.{advanceFits, phaseFields, phaseFits, usedFit}
+use Rattle.definition.specs.Pinned.Decoder.{advanceFits, phaseFields, phaseFits, usedFit}
 use Rattle.definition.specs.Devs.{finite, never, later}
 use Rattle.definition.specs.Atomic.{advanceOf}
 use Rattle.definition.specs.SavedRun.{Entry, lookUp, entryOf, dueOf}
 use Rattle.definition.specs.Flatten.{placeIn}
 use Rattle.laws.proofs.Sorting.{and-left, and-right}
 use Rattle.laws.proofs.Lists.{getD-map}
-use Rattle.model_laws.proofs.Sound.{Sound}
+use Rattle.model_laws.proofs.WellFormed.{WellFormed}
 use Rattle.nest_laws.proofs.Numbers.{eqb-sym}
 use Rattle.nest_laws.proofs.Occurs.{occurs, Distinct}
 use Rattle.nest_laws.proofs.Places.{places}
@@ -61,7 +61,7 @@ lookUp-place f (a ∷ l) k c h = go (eqb a c) refl (lookUp-place f l (suc k) c)
 -- ---- advances
 
 -- every phase record has an advance that fits
-advances : (m : Model) → Sound m → (i : ℕ) → advanceFits (getD (m .phases) i noPhase .advance) ≡ true
+advances : (m : Model) → WellFormed m → (i : ℕ) → advanceFits (getD (m .phases) i noPhase .advance) ≡ true
 advances m w i = go (ltb i (length (m .phases))) refl
   where
     fields : (j : ℕ) → j < length (m .phases) → advanceFits (getD (m .phases) j noPhase .advance) ≡ true
@@ -87,7 +87,7 @@ all-at p (a ∷ l) (suc i) h b = all-at p l i (and-right (p a) (all p l) h) (ome
 abbrev pub heldAt : State → ℕ → Entry
 heldAt st i = record { phase = getD (st .phase) i 0; last = getD (st .last) i 0 }
 
-module _ (m : Model) (w : Sound m) (st : State) where
+module _ (m : Model) (w : WellFormed m) (st : State) where
   -- the entries that the state holds
   abbrev pub entries : List Entry
   entries = entriesOf (length (atomics (m .components))) st

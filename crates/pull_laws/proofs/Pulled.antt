@@ -11,7 +11,7 @@ use borrow.Author.Tests.{eqb-true, eqb-false, ne-eqb, ltb-true}
 use Rattle.definition.specs.Lists.{all}
 use Rattle.definition.specs.Limits.{maxAncestors}
 use Rattle.definition.specs.Model.{Message, Bag, Component, Model, componentAt, isAtomic, isChild, children, leaf, node, forest, nameOf}
-use Rattle.definition.specs.Records.{rootWithin, couplingFields}
+use Rattle.definition.specs.Pinned.Decoder.{rootWithin, couplingFields}
 use Rattle.definition.specs.Devs.{translate}
 use Rattle.definition.specs.SavedRun.{Entry}
 use Rattle.laws.proofs.Sorting.{and-left, and-right}

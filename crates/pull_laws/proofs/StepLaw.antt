@@ -19,7 +19,7 @@ use Rattle.definition.specs.SavedRun.{Entry, entryOf, dueOf, dueAt}
 use Rattle.definition.specs.Step.{Stepped, step}
 use Rattle.definition.specs.FlatMachine.{moved}
 use Rattle.laws.proofs.Sorting.{clash}
-use Rattle.model_laws.proofs.Sound.{Sound}
+use Rattle.model_laws.proofs.WellFormed.{WellFormed}
 use Rattle.nest_laws.proofs.Numbers.{same-length}
 use Rattle.nest_laws.proofs.Places.{take-up}
 use Rattle.nest_laws.proofs.Pairs.{pairs-lookUp}
@@ -58,7 +58,7 @@ due-timed m c now r = go (eqb (phaseAt m c (r .phase) .advance) neverField)
     go false e = refl
 
 -- where the moment itself is not too late
-pub soon-at : (m : Model) (w : Sound m) (st : State) (now : ℕ) → Good m now (entriesOf (length (atomics (m .components))) st) → now + maxAdvance ≤ latest
+pub soon-at : (m : Model) (w : WellFormed m) (st : State) (now : ℕ) → Good m now (entriesOf (length (atomics (m .components))) st) → now + maxAdvance ≤ latest
     → (i : ℕ) → i < length (atomics (m .components)) → getD (st .last) i 0 + maxAdvance ≤ latest
 unfolding entryOf
 soon-at m w st now g early i l =
@@ -75,7 +75,7 @@ pub record Holds (m : Model) (now : ℕ) (st : State) : Type 0 where
   pub lasts : length (atomics (m .components)) ≤ length (st .last)
   pub soon : (i : ℕ) → i < length (atomics (m .components)) → getD (st .last) i 0 + maxAdvance ≤ latest
 
-module _ (m : Model) (w : Sound m) (t : List ℕ) (h : Tabled m t) (st : State) (now : ℕ) (k : Holds m now st) where
+module _ (m : Model) (w : WellFormed m) (t : List ℕ) (h : Tabled m t) (st : State) (now : ℕ) (k : Holds m now st) where
   abbrev at : ℕ → Entry
   at = atEntry m w st
 

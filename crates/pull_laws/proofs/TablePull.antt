@@ -11,7 +11,7 @@ use borrow.Author.Tests.{ne-eqb}
 use Rattle.definition.specs.Lists.{all}
 use Rattle.definition.specs.Limits.{maxAncestors, portCount, maxAdvance}
 use Rattle.definition.specs.Model.{Bag, Model, noPhase, atomics, phasesBefore, phaseAt, outputs, leaf}
-use Rattle.model_laws.proofs.Sound.{Sound}
+use Rattle.model_laws.proofs.WellFormed.{WellFormed}
 use Rattle.nest_laws.proofs.Nest.{due, outOf, outDue}
 use Rattle.clock.specs.Times.{latest}
 use Rattle.run_state.specs.declared.State.{State}
@@ -35,7 +35,7 @@ unfolding keysOf
 keys-cong f g zero q h = refl
 keys-cong f g (suc n) q h = ap₂ _++_ (ap (map (keyOf q)) (h q (omega arith) (omega arith))) (keys-cong f g n (q + 1) (λ i a b. h i (omega arith) (omega arith)))
 
-module _ (m : Model) (w : Sound m) (st : State) (t : List ℕ) (h : Tabled m t) (now : ℕ)
+module _ (m : Model) (w : WellFormed m) (st : State) (t : List ℕ) (h : Tabled m t) (now : ℕ)
     (soon : (i : ℕ) → i < length (atomics (m .components)) → getD (st .last) i 0 + maxAdvance ≤ latest) (x : Bag) where
   abbrev marked : List ℕ
   marked = es m w st t h now soon

@@ -9,17 +9,19 @@ use lib.Dec.{eqb, ltb}
 use lib.ListN.{getD, drop}
 use borrow.Author.Tests.{lt-ltb}
 use Rattle.definition.specs.Lists.{all, concat}
-use Rattle.definition.specs.Bytes.{le, number, bytesOf}
+use Rattle.definition.specs.Bytes.{littleEndian, numberAt, bytesOf, laidOut}
 use Rattle.definition.specs.Limits.{portCount, maxAncestors}
 use Rattle.definition.specs.Model.{Message, Bag, Coupling, Phase, Model, noMessage, noPhase, phasesBefore, phaseAt, slots, outputs, Tree, Forest, leaf, node, stop, more, nameOf}
-use Rattle.definition.specs.Records.{portFits, messageAt, messageBytes, toPhase, phaseBytes, couplingFields}
+use Rattle.definition.specs.Records.{portFits, messageAt, phaseBytes}
 use Rattle.definition.specs.Routes.{portsTo}
-use Rattle.definition.specs.Devs.{through, translate}
+use Rattle.definition.specs.Pinned.Decoder.{toPhase, couplingFields}
+use Rattle.definition.specs.Devs.{translateOne, translate}
 use Rattle.definition.specs.SavedRun.{Entry}
 use Rattle.laws.proofs.Sorting.{and-left, and-right}
 use Rattle.laws.proofs.Lists.{all-append, all-take, all-map, all-getD, and-true}
-use Rattle.model_laws.proofs.Sound.{Sound}
+use Rattle.model_laws.proofs.WellFormed.{WellFormed}
 use Rattle.route_laws.proofs.Placed.{kept}
+use Rattle.nest_laws.proofs.Paths.{translate-ports}
 use Rattle.nest_laws.proofs.Nest.{due, outOf, outTo, bagAt, bagAtAll, outDue}
 use Rattle.pull_laws.specs.Pull.{joined, childOut, coupledOut, sourceIn, inputIn}
 use Rattle.laws.specs.Keys.{valueRange}
@@ -73,7 +75,7 @@ values-all p q (y ∷ x) h =
 
 -- a phase that its bytes spell
 phase-values : (k : Phase) → toPhase (phaseBytes k) ≡ k → all hasValue (slots k) ≡ true
-unfolding toPhase phaseBytes messageAt messageBytes number bytesOf le concat slots all hasValue isValue
+unfolding toPhase phaseBytes messageAt numberAt laidOut bytesOf littleEndian concat slots all hasValue isValue
 phase-values k h =
     let a = ap (λ (p : Phase). p .slot0 .value) h in
     let b = ap (λ (p : Phase). p .slot1 .value) h in
@@ -97,16 +99,16 @@ held-all p f h (a ∷ l) e = and-true (p a) (all p l) (h a (head e)) (held-all p
     tail : f a ∷ map f l ≡ a ∷ l → map f l ≡ l
     tail e = ap (drop 1) e
 
-pub outputs-values : (m : Model) → Sound m → (c p : ℕ) → all hasValue (outputs (phaseAt m c p)) ≡ true
+pub outputs-values : (m : Model) → WellFormed m → (c p : ℕ) → all hasValue (outputs (phaseAt m c p)) ≡ true
 unfolding phaseAt outputs noPhase
 outputs-values m w c p =
     let i = phasesBefore (m .components) c + p in
     let h = held-all (λ (k : Phase). all hasValue (slots k)) (λ k. toPhase (phaseBytes k)) phase-values (m .phases) (w .phases .held) in
-    all-take hasValue (getD (m .phases) i noPhase .count) _
+    all-take hasValue (getD (m .phases) i noPhase .outputCount) _
     (all-getD (λ (k : Phase). all hasValue (slots k)) (m .phases) i noPhase h (unfold all slots noMessage hasValue isValue in refl))
 
 -- what an atomic that is due puts out
-pub sent-values : (m : Model) → Sound m → (at : ℕ → Entry) (now q c : ℕ) → all isValue (valuesOn q (outDue m at now (leaf c))) ≡ true
+pub sent-values : (m : Model) → WellFormed m → (at : ℕ → Entry) (now q c : ℕ) → all isValue (valuesOn q (outDue m at now (leaf c))) ≡ true
 unfolding outDue outOf hasValue
 sent-values m w at now q c =
     values-all isValue q _ (all-cond hasValue (due m at now (leaf c)) (outputs (phaseAt m c (at c .phase))) [] (outputs-values m w c (at c .phase)) (unfold all in refl))
@@ -123,11 +125,11 @@ module _ (m : Model) (at : ℕ → Entry) (now : ℕ) (fit : all (couplingFields
       (and-true (ltb (k .targetPort) portCount) _ (lt-ltb _ _ (kept (m .components) k (and-left (couplingFields (m .components) k) _ h) .target-port)) rest) rest
 
   translate-fits : (i d : ℕ) (x : Bag) → all portFits (translate (m .couplings) i d x) ≡ true
-  unfolding translate through all portFits
+  unfolding translate all portFits
   translate-fits i d [] = refl
   translate-fits i d (y ∷ x) =
-      all-append portFits (through (m .couplings) i d y) (translate (m .couplings) i d x)
-      (all-map portFits (λ q. record { port = q; value = y .value }) (portsTo (m .couplings) i d (y .port)) ∙ port-fits (m .couplings) i d (y .port) fit)
+      all-append portFits (translateOne (m .couplings) i d y) (translate (m .couplings) i d x)
+      (ap (all portFits) (translate-ports (m .couplings) i d y) ∙ all-map portFits (λ q. record { port = q; value = y .value }) (portsTo (m .couplings) i d (y .port)) ∙ port-fits (m .couplings) i d (y .port) fit)
       (translate-fits i d x)
 
   pub out-fits : (f : Forest) (to : ℕ) → all portFits (outTo m at now f to) ≡ true

@@ -9,9 +9,9 @@ use borrow.Author.Tests.{le-leb, lt-leb}
 use Rattle.definition.specs.Bytes.{Bytes, ok, refused, chunks}
 use Rattle.definition.specs.Limits.{headSize, entrySize}
 use Rattle.definition.specs.Model.{Model, atomics, phaseAt}
-use Rattle.definition.specs.Routes.{accepted}
+use Rattle.definition.specs.Pinned.Decoder.{accepted}
 use Rattle.definition.specs.Atomic.{advanceOf}
-use Rattle.definition.specs.SavedRun.{Entry, noEntry, atomicCount, runOf, toRun, toEntry, dueOf, entryFits, entriesFit, fits, nextDue}
+use Rattle.definition.specs.SavedRun.{Entry, noEntry, atomicCount, runOf, toRun, toEntry, dueOf, entryFits, entriesFit, runFits, nextDue}
 use Rattle.definition.specs.Engine.{dueNumber, wasRead, readingChecks, readAt, reading}
 use Rattle.laws.proofs.Lists.{getD-map}
 use Rattle.byte_laws.proofs.Rows.{length-rows, getD-rows}
@@ -29,11 +29,11 @@ module _ (components phases rules couplings : Bytes) where
   entries-alone o (c ∷ cs) [] = refl
   entries-alone o (c ∷ cs) (r ∷ rs) = ap (λ b. entryFits (modelIn components phases rules couplings) o c r && b) (entries-alone o cs rs)
 
-  fits-alone : (s : Bytes) → fits (bare components phases) s ≡ fits (modelIn components phases rules couplings) s
-  unfolding fits runOf atomicCount bare modelIn
+  fits-alone : (s : Bytes) → runFits (bare components phases) s ≡ runFits (modelIn components phases rules couplings) s
+  unfolding runFits runOf atomicCount bare modelIn
   fits-alone s = rw (entries-alone _ (atomics (componentsIn components)) _)
 
-pub fits-file : (file s : Bytes) (n : Counts) → fits (bare (componentsPart file n) (phasesPart file n)) s ≡ fits (modelOf file n) s
+pub fits-file : (file s : Bytes) (n : Counts) → runFits (bare (componentsPart file n) (phasesPart file n)) s ≡ runFits (modelOf file n) s
 unfolding modelOf
 fits-file file s n = fits-alone (componentsPart file n) (phasesPart file n) _ _ s
 
@@ -48,11 +48,11 @@ unfolding reading wasRead
 read-refused file run position k e = rw (← e)
 
 module _ (file run : Bytes) (position : ℕ) (m : Model) (e : ok m ≡ accepted file) where
-  pub read-unfit : fits m run ≡ false → record { number = 10; phase = 0; last = 0; due = 0 } ≡ reading file run position
+  pub read-unfit : runFits m run ≡ false → record { number = 10; phase = 0; last = 0; due = 0 } ≡ reading file run position
   unfolding reading wasRead readingChecks
   read-unfit f = rw (← e, f)
 
-  module _ (f : fits m run ≡ true) where
+  module _ (f : runFits m run ≡ true) where
     pub read-past : length (atomics (m .components)) ≤ position → record { number = 16; phase = 0; last = 0; due = 0 } ≡ reading file run position
     unfolding reading wasRead readingChecks atomicCount
     read-past l = rw (← e, f, le-leb (length (atomics (m .components))) position l)

@@ -9,8 +9,8 @@ use lib.ListN.{length, getD}
 use Rattle.definition.specs.Bytes.{Bytes, ok}
 use Rattle.definition.specs.Limits.{maxComponents}
 use Rattle.definition.specs.Model.{atomics}
-use Rattle.definition.specs.Routes.{accepted}
-use Rattle.definition.specs.SavedRun.{atomicCount, runOf, toRun, nextDue, fits}
+use Rattle.definition.specs.Pinned.Decoder.{accepted}
+use Rattle.definition.specs.SavedRun.{atomicCount, runOf, toRun, nextDue, runFits}
 use Rattle.definition.specs.Engine.{dueNumber}
 use Rattle.model_records.specs.Values.{phasesIn, modelIn}
 use Rattle.model.specs.Checked.{modelOf, phasesPart}
@@ -35,7 +35,7 @@ not-false false e = sym e
 
 -- The next due moment, by what the code has: the model's tables, a state that holds the run's entries, and its carried due moments.
 pub due-whole : (file : Bytes) (n : Counts) → ((i : ℕ) → getD file i 0 < 256) → ok (modelOf file n) ≡ accepted file → (run : Bytes) (t : List ℕ) → TablesOf (modelOf file n) t
-    → (st : State) (count : ℕ) → fits (modelOf file n) run ≡ true → count ≡ length (atomics (modelOf file n .components)) → entriesOf count st ≡ toRun count run .entries
+    → (st : State) (count : ℕ) → runFits (modelOf file n) run ≡ true → count ≡ length (atomics (modelOf file n .components)) → entriesOf count st ≡ toRun count run .entries
     → length (st .phase) ≡ maxComponents → length (st .last) ≡ maxComponents
     → (ps : Bytes) (ends : List ℕ) → ps ≡ phasesPart file n → Carried (phasesIn ps) t count st ends
     → nextEnd t ends ≡ dueNumber (nextDue (modelOf file n) (runOf (modelOf file n) run .entries))

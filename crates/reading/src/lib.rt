@@ -4,8 +4,8 @@ ghost use mathlib.Core.Bool.{true};
 ghost use lib.ListN.{length};
 ghost use Rattle.definition.specs.Bytes.{ok};
 ghost use Rattle.definition.specs.Model.{atomics};
-ghost use Rattle.definition.specs.Routes.{accepted};
-ghost use Rattle.definition.specs.SavedRun.{runOf, nextDue, fits};
+ghost use Rattle.definition.specs.Pinned.Decoder.{accepted};
+ghost use Rattle.definition.specs.SavedRun.{runOf, nextDue, runFits};
 ghost use Rattle.definition.specs.Engine.{dueNumber, reading};
 ghost use Rattle.model.specs.Checked.{modelOf};
 ghost use Rattle.pull_laws.specs.TablesOf.{TablesOf};
@@ -49,7 +49,7 @@ fn refused(number: u64) -> Reading
 
 // The next due moment of the whole model as a number, for a run of `count` atomics that fits.
 fn whole_due(file: &[u8], n: Counts, tables: &[u16; TABLE_SIZE], run: &[u8], count: usize) -> u64
-    requires { ⌜ (ok (modelOf (now file) n) ≡ accepted (now file)) × TablesOf (modelOf (now file) n) (now tables) × (fits (modelOf (now file) n) (now run) ≡ true)
+    requires { ⌜ (ok (modelOf (now file) n) ≡ accepted (now file)) × TablesOf (modelOf (now file) n) (now tables) × (runFits (modelOf (now file) n) (now run) ≡ true)
         × (count ≡ length (atomics (modelOf (now file) n .components))) ⌝ }
     ensures { λ r. ⌜ r ≡ dueNumber (nextDue (modelOf (now (file .entry)) n) (runOf (modelOf (now (file .entry)) n) (now (run .entry)) .entries)) ⌝ }
 {

@@ -10,9 +10,8 @@ use borrow.Author.Tests.{ltb-false}
 use Rattle.definition.specs.Bytes.{Bytes, Result, ok, refused, _>>=_, refuseIf, numberOf}
 use Rattle.definition.specs.Limits.{maxComponents, maxCouplings, maxRoutes}
 use Rattle.definition.specs.Model.{Model}
-use Rattle.definition.specs.Records.{toComponent, componentFits, toCoupling, couplingFits}
-use Rattle.definition.specs.File.{Section, orElse, componentCount, atMost, componentSection, phaseSection, ruleSection, couplingSection, endOfFile, decode}
-use Rattle.definition.specs.Routes.{routes, accepted}
+use Rattle.definition.specs.Routes.{routes}
+use Rattle.definition.specs.Pinned.Decoder.{toComponent, componentFits, toCoupling, couplingFits, Section, orElse, componentCountRefusal, limitRefusal, componentSection, phaseSection, ruleSection, couplingSection, endOfFile, decode, accepted}
 use Rattle.byte_laws.proofs.Alls.{each}
 use Rattle.byte_laws.proofs.Sections.{Gives, section-gives}
 use Rattle.model_records.specs.Values.{componentsIn, couplingsIn, modelIn}
@@ -44,8 +43,8 @@ kept-all size w to fits s x g =
     rw e (λ i l. each (fits _) 0 _ (g .each) i (omega arith) (omega (arith, g .count)))
 
 -- A right count of couplings.
-coupling-count : (n : ℕ) → atMost maxCouplings n ≡ 0 → n ≤ maxCouplings
-unfolding atMost
+coupling-count : (n : ℕ) → limitRefusal maxCouplings n ≡ 0 → n ≤ maxCouplings
+unfolding limitRefusal
 coupling-count n e = go (ltb maxCouplings n) refl e
   where
     go : (b : Bool) → ltb maxCouplings n ≡ b → orElse b 3 0 ≡ 0 → n ≤ maxCouplings
@@ -63,13 +62,13 @@ decode-placed s m e =
     let f = bind-ok (endOfFile (d .0 .rest)) _ m (d .2) in
     let g : record { components = a .0 .records; phases = b .0 .records; rules = c .0 .records; couplings = d .0 .records } ≡ m = ok-same _ m (f .2) in
     let h = component-limit s (a .1) in
-    let u = section-gives 5 componentCount toComponent componentFits 4 s (omega arith) (a .1) in
-    let v = section-gives 4 (atMost maxCouplings) toCoupling (couplingFits (a .0 .records)) 8 (c .0 .rest) (omega arith) (d .1) in
+    let u = section-gives 5 componentCountRefusal toComponent componentFits 4 s (omega arith) (a .1) in
+    let v = section-gives 4 (limitRefusal maxCouplings) toCoupling (couplingFits (a .0 .records)) 8 (c .0 .rest) (omega arith) (d .1) in
     rw (← g) (
       record {
         some-component = h .0;
-        components = kept-all 5 componentCount toComponent componentFits s (a .0) u;
-        couplings = kept-all 4 (atMost maxCouplings) toCoupling (couplingFits (a .0 .records)) (c .0 .rest) (d .0) v;
+        components = kept-all 5 componentCountRefusal toComponent componentFits s (a .0) u;
+        couplings = kept-all 4 (limitRefusal maxCouplings) toCoupling (couplingFits (a .0 .records)) (c .0 .rest) (d .0) v;
       },
       h .1,
       rw (ap (λ y. length (y .records)) (v .is) ∙ v .count) (coupling-count _ (v .right)),

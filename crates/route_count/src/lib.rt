@@ -5,7 +5,7 @@ ghost use mathlib.Core.Bool.{cond};
 ghost use lib.ListN.{length};
 ghost use Rattle.definition.specs.Limits.{maxComponents, maxCouplings, portCount};
 ghost use Rattle.definition.specs.Model.{isAtomic};
-ghost use Rattle.definition.specs.Routes.{accepted, checkModel};
+ghost use Rattle.definition.specs.Pinned.Decoder.{accepted, checkModel};
 ghost use Rattle.model_records.specs.Values.{componentsIn};
 ghost use Rattle.model.specs.Checked.{checkedAs};
 ghost use Rattle.route_laws.specs.Nodes.{portNodes};

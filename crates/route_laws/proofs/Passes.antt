@@ -13,7 +13,7 @@ use lib.Seq.{getD-set-same, getD-set-other}
 use borrow.Author.Tests.{eqb-true, eqb-false, lt-ltb, le-ltb, ltb-true, ltb-false, le-leb, lt-leb}
 use Rattle.definition.specs.Lists.{upFrom}
 use Rattle.definition.specs.Model.{Component, Coupling, noCoupling, isChild}
-use Rattle.definition.specs.Records.{componentFits, couplingFits}
+use Rattle.definition.specs.Pinned.Decoder.{componentFits, couplingFits}
 use Rattle.laws.proofs.Sums.{sumOf, sum-add, sum-zero, sum-cong}
 use Rattle.route_laws.specs.Nodes.{portNodes, inputNode, outputNode, sourceNumber, targetNumber}
 use Rattle.route_laws.specs.Ways.{waysOn, endAt, waysCap, Counted, Rising}

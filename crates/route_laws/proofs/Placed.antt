@@ -11,7 +11,7 @@ use borrow.Author.Tests.{ltb-true, eqb-true, eqb-false, ne-eqb}
 use Rattle.definition.specs.Lists.{all, lexLe}
 use Rattle.definition.specs.Limits.{portCount, maxAncestors}
 use Rattle.definition.specs.Model.{Component, Coupling, componentAt, noCoupling, isAtomic, isChild, couplingLe, couplingRow}
-use Rattle.definition.specs.Records.{kindFields, rootWithin, placeFits, componentFits, related, couplingFields, notFalling, couplingFits}
+use Rattle.definition.specs.Pinned.Decoder.{kindFields, rootWithin, placeFits, componentFits, related, couplingFields, notFalling, couplingFits}
 use Rattle.laws.proofs.Sorting.{clash, and-left, and-right}
 use Rattle.route_laws.specs.Ways.{Rising}
 

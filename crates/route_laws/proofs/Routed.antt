@@ -73,7 +73,7 @@ module _ (ks : List Coupling) (cs : List Component) where
   par c = componentAt cs c .parent
 
   abbrev pub some : Port
-  some = record { component = 0; number = 0 }
+  some = record { component = 0; port = 0 }
 
   unfoldable pub ways : ℕ → ℕ
   ways c = length (waysFrom ks (λ q. replicate (up cs ks c q) some) (sub cs c))

@@ -11,7 +11,7 @@ use lib.ListN.{length}
 use borrow.Author.Tests.{eqb-true, eq-eqb, ne-eqb, lt-ltb, ltb-true, ltb-false}
 use Rattle.definition.specs.Lists.{all}
 use Rattle.definition.specs.Model.{Component, Coupling, componentAt, isAtomic, isChild, isSibling}
-use Rattle.definition.specs.Records.{related, couplingFields}
+use Rattle.definition.specs.Pinned.Decoder.{related, couplingFields}
 use Rattle.laws.proofs.Sorting.{clash, and-left, and-right}
 use Rattle.laws.proofs.Sums.{sumOf, sum-zero}
 use Rattle.laws.proofs.Lists.{sum-cong-if}

@@ -9,8 +9,8 @@ use lib.ListN.{length, getD}
 use Rattle.definition.specs.Lists.{upFrom}
 use Rattle.definition.specs.Limits.{portCount, maxRoutes}
 use Rattle.definition.specs.Model.{Component, Coupling, componentAt, isAtomic, isChild, children, Tree, forest, treeAt}
-use Rattle.definition.specs.Records.{componentFits, couplingFits}
 use Rattle.definition.specs.Routes.{portsTo, endsIn, endsFrom}
+use Rattle.definition.specs.Pinned.Decoder.{componentFits, couplingFits}
 use Rattle.laws.proofs.Sums.{sumOf}
 use Rattle.route_laws.specs.Nodes.{portNodes}
 

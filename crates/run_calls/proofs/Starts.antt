@@ -7,7 +7,7 @@ use borrow.Author.Tests.{lt-ltb, le-ltb}
 use Rattle.definition.specs.Bytes.{Bytes, ok, refused, stored}
 use Rattle.definition.specs.Limits.{maxComponents}
 use Rattle.definition.specs.Model.{atomics}
-use Rattle.definition.specs.Routes.{accepted}
+use Rattle.definition.specs.Pinned.Decoder.{accepted}
 use Rattle.definition.specs.SavedRun.{runLength, runBytes}
 use Rattle.definition.specs.Engine.{wrote, startRun, start}
 use Rattle.byte_laws.proofs.Slices.{all-bytes}

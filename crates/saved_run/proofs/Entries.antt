@@ -9,9 +9,10 @@ use lib.ListN.{length, take, drop, getD, length-set, length-append}
 use lib.Seq.{drop-drop, getD-set-same, getD-set-other}
 use borrow.Author.Tests.{ltb-true, lt-ltb}
 use Rattle.definition.specs.Lists.{keep, upFrom}
-use Rattle.definition.specs.Bytes.{Bytes, number, chunks, row}
+use Rattle.definition.specs.Bytes.{Bytes, numberAt, chunks}
 use Rattle.definition.specs.Limits.{headSize, entrySize, maxComponents}
 use Rattle.definition.specs.SavedRun.{Entry, toEntry, toRun}
+use Rattle.byte_laws.specs.Parts.{row}
 use Rattle.laws.proofs.Lists.{map-cong-if}
 use Rattle.byte_laws.proofs.Rows.{number-row}
 use Rattle.model_laws.proofs.Sections.{all-numbers}
@@ -60,12 +61,12 @@ rows-more size (suc n) s =
 
 -- ---- an entry
 
-number-behind : (w at k : ℕ) (s : Bytes) → number w at (drop k s) ≡ number w (k + at) s
-unfolding number
+number-behind : (w at k : ℕ) (s : Bytes) → numberAt w at (drop k s) ≡ numberAt w (k + at) s
+unfolding numberAt
 number-behind w at k s = rw (drop-drop at k s)
 
 -- The bytes of an entry, where they stand in the run.
-pub entry-place : (s : Bytes) (i : ℕ) → record { phase = number 1 (headSize + entrySize * i) s; last = number 8 (headSize + entrySize * i + 1) s } ≡ entryAt s i
+pub entry-place : (s : Bytes) (i : ℕ) → record { phase = numberAt 1 (headSize + entrySize * i) s; last = numberAt 8 (headSize + entrySize * i + 1) s } ≡ entryAt s i
 unfolding entryAt toEntry
 entry-place s i =
     let a : headSize + (entrySize * i + 0) ≡ headSize + entrySize * i = omega arith in

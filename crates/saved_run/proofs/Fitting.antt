@@ -10,12 +10,13 @@ use lib.Dec.{leb, ltb, eqb}
 use lib.ListN.{length, drop, getD}
 use lib.Seq.{drop-drop}
 use Rattle.definition.specs.Lists.{keep, upFrom}
-use Rattle.definition.specs.Bytes.{Bytes, number, chunks, row}
+use Rattle.definition.specs.Bytes.{Bytes, numberAt, chunks}
 use Rattle.definition.specs.Limits.{headSize, entrySize}
 use Rattle.definition.specs.Model.{Component, noPhase, componentAt, isAtomic, atomics, phasesBefore, phaseAt}
 use Rattle.definition.specs.Devs.{Time}
 use Rattle.definition.specs.Atomic.{advanceOf}
-use Rattle.definition.specs.SavedRun.{Entry, toEntry, toRun, atomicCount, runOf, dueOf, notBefore, runLength, entryFits, entriesFit, fits}
+use Rattle.definition.specs.SavedRun.{Entry, toEntry, toRun, atomicCount, runOf, dueOf, notBefore, runLength, entryFits, entriesFit, runFits}
+use Rattle.byte_laws.specs.Parts.{row}
 use Rattle.laws.proofs.Sorting.{clash}
 use Rattle.model_records.specs.Values.{componentsIn, phasesIn, modelIn}
 use Rattle.clock.specs.Times.{latest}
@@ -71,7 +72,7 @@ from-end cs c h = let e : length cs - c ≡ 0 = omega arith in rw e
 -- The test of the entries from component c on, with k atomics before it.
 unfoldable pub fitFrom : Bytes → Bytes → Bytes → ℕ → ℕ → Bool
 fitFrom components phases s c k =
-    entriesFit (bare components phases) (number 8 0 s) (atomicsFrom (componentsIn components) c)
+    entriesFit (bare components phases) (numberAt 8 0 s) (atomicsFrom (componentsIn components) c)
     (map toEntry (chunks (length (atomics (componentsIn components)) - k) entrySize (drop (entrySize * k) (drop headSize s))))
 
 pub fit-first : (components phases s : Bytes) → entriesFitIn components phases s ≡ fitFrom components phases s 0 0
@@ -83,7 +84,7 @@ fit-first components phases s =
 module _ (components phases s : Bytes) (c k : ℕ) (h : c < length (componentsIn components))
     (left : k + length (atomicsFrom (componentsIn components) c) ≡ length (atomics (componentsIn components))) where
   abbrev opening : ℕ
-  opening = number 8 0 s
+  opening = numberAt 8 0 s
 
   fit-here : isAtomic (componentsIn components) c ≡ true
       → fitFrom components phases s c k ≡ (entryFits (bare components phases) opening c (entryAt s k) && fitFrom components phases s (c + 1) (k + 1))
@@ -137,10 +138,10 @@ entry-tested components phases opening c own first e p q h =
 -- What the test of one entry says, where its parts are what they should be.
 pub tested-at : (components phases s : Bytes) (c k first opening : ℕ) (own : Component) (e : Entry) (due : Time) (r : Bool)
     → own ≡ componentAt (componentsIn components) c → first ≡ phasesBefore (componentsIn components) c
-    → opening ≡ number 8 0 s → opening ≤ latest → e ≡ entryAt s k
+    → opening ≡ numberAt 8 0 s → opening ≤ latest → e ≡ entryAt s k
     → due ≡ dueAfter (e .last) (getD (phasesIn phases) (first + e .phase) noPhase .advance)
     → r ≡ (ltb (e .phase) (own .phases) && (ltb (e .last) opening || (eqb opening 0 && eqb (e .last) 0)) && notBefore opening due)
-    → r ≡ entryFits (bare components phases) (number 8 0 s) c (entryAt s k)
+    → r ≡ entryFits (bare components phases) (numberAt 8 0 s) c (entryAt s k)
 tested-at components phases s c k first opening own e due r p q o h f d t =
     t ∙ rw d (entry-tested components phases opening c own first e p q h)
     ∙ ap₂ (λ (n : ℕ) (x : Entry). entryFits (bare components phases) n c x) o f
@@ -152,9 +153,9 @@ atomic-said cs c own e = ap (λ (k : Component). eqb (k .kind) 1) e
 -- ---- the whole test
 
 pub fits-said : (components phases s : Bytes) (n : ℕ) → n ≡ length (atomics (componentsIn components))
-    → (leb (headSize + entrySize * n) (length s) && eqb (number 2 8 s) n && leb (number 8 0 s) 1000000000001 && entriesFitIn components phases s)
-    ≡ fits (bare components phases) s
-unfolding fits runLength atomicCount entriesFitIn bare modelIn runOf toRun
+    → (leb (headSize + entrySize * n) (length s) && eqb (numberAt 2 8 s) n && leb (numberAt 8 0 s) 1000000000001 && entriesFitIn components phases s)
+    ≡ runFits (bare components phases) s
+unfolding runFits runLength atomicCount entriesFitIn bare modelIn runOf toRun
 fits-said components phases s n e = rw e
 
 kept-most : (p : ℕ → Bool) (l : List ℕ) → length (keep p l) ≤ length l

@@ -4,10 +4,11 @@ use mathlib.Core.List.{List, [], map}
 use mathlib.Core.Bool.{Bool}
 use lib.ListN.{drop, getD}
 use Rattle.definition.specs.Lists.{concat, upFrom}
-use Rattle.definition.specs.Bytes.{Bytes, row}
+use Rattle.definition.specs.Bytes.{Bytes}
 use Rattle.definition.specs.Limits.{headSize, entrySize}
 use Rattle.definition.specs.Model.{Component, Model, componentAt, atomics}
 use Rattle.definition.specs.SavedRun.{Entry, Run, toEntry, entryBytes, runOf, entriesFit}
+use Rattle.byte_laws.specs.Parts.{row}
 use Rattle.model_records.specs.Values.{modelIn}
 use Rattle.run_state.specs.declared.State.{State}
 use Rattle.run_state.specs.Held.{entriesOf}

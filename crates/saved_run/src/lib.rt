@@ -5,10 +5,10 @@ ghost use Prim.Native.Nat.{_+_, _≤_, _<_};
 ghost use lib.Dec.{ltb, eqb};
 ghost use lib.ListN.{length, getD};
 ghost use lib.Seq.{sets};
-ghost use Rattle.definition.specs.Bytes.{number, stored};
+ghost use Rattle.definition.specs.Bytes.{numberAt, stored};
 ghost use Rattle.definition.specs.Limits.{maxComponents};
 ghost use Rattle.definition.specs.Model.{noPhase, atomics};
-ghost use Rattle.definition.specs.SavedRun.{runLength, toRun, entryBytes, runBytes, notBefore, fits};
+ghost use Rattle.definition.specs.SavedRun.{runLength, toRun, entryBytes, runBytes, notBefore, runFits};
 ghost use Rattle.model_records.specs.Values.{componentsIn, phasesIn};
 ghost use Rattle.due.specs.After.{dueAfter};
 ghost use Rattle.clock.specs.Times.{timeOf};
@@ -64,7 +64,7 @@ pub fn atomic_count(components: &[u8]) -> usize
 // ---- reading
 
 pub fn opening_of(run: &[u8]) -> Moment
-    ensures { λ r. ⌜ r .0 ≡ number 8 0 (now (run .entry)) ⌝ }
+    ensures { λ r. ⌜ r .0 ≡ numberAt 8 0 (now (run .entry)) ⌝ }
 {
     Moment(little_endian::u64_at(run, 0))
 }
@@ -148,7 +148,7 @@ fn entries_fit(components: &[u8], phases: &[u8], run: &[u8]) -> bool
 // The bytes are those of a run of the model with these components and phases.
 pub fn fits(components: &[u8], phases: &[u8], run: &[u8]) -> bool
     requires { ⌜ length (componentsIn (now components)) ≤ maxComponents ⌝ }
-    ensures { λ r. ⌜ r ≡ fits (bare (now (components .entry)) (now (phases .entry))) (now (run .entry)) ⌝ }
+    ensures { λ r. ⌜ r ≡ runFits (bare (now (components .entry)) (now (phases .entry))) (now (run .entry)) ⌝ }
 {
     let n = atomic_count(components);
     let opening = opening_of(run);

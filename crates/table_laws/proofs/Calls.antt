@@ -9,18 +9,18 @@ use lib.Dec.{ltb, leb, eqb}
 use lib.ListN.{length, take, length-map}
 use borrow.Author.Tests.{leb-true, lt-ltb, ltb-true}
 use Rattle.definition.specs.Lists.{all}
-use Rattle.definition.specs.Bytes.{Bytes, AllBytes, none, more, le, number, chunks, ok, _>>=_, refuseIf, numberOf}
+use Rattle.definition.specs.Bytes.{Bytes, AllBytes, none, more, littleEndian, numberAt, chunks, ok, _>>=_, refuseIf, numberOf}
 use Rattle.definition.specs.Limits.{maxComponents, messageSize, maxGiven, maxMoment}
 use Rattle.definition.specs.Model.{Bag, Model, atomics}
 use Rattle.definition.specs.Records.{portFits, messageAt}
 use Rattle.definition.specs.Routes.{routes}
-use Rattle.definition.specs.SavedRun.{Entry, runOf, fits, nextDue}
+use Rattle.definition.specs.SavedRun.{Entry, runOf, runFits, nextDue}
 use Rattle.definition.specs.Step.{nested}
 use Rattle.definition.specs.Advance.{Ended, advanceFrom}
 use Rattle.definition.specs.Engine.{toBag, bagFits, advanceChecks}
 use Rattle.laws.proofs.Sorting.{and-left, and-right}
 use Rattle.laws.proofs.Lists.{and-true}
-use Rattle.model_laws.proofs.Sound.{Sound}
+use Rattle.model_laws.proofs.WellFormed.{WellFormed}
 use Rattle.model_laws.proofs.Codec.{take-bytes, drop-bytes, length-chunks}
 use Rattle.nest_laws.proofs.Stepping.{Good}
 use Rattle.flat_laws.proofs.FlatComponents.{few-atomics}
@@ -41,7 +41,7 @@ use Rattle.table_laws.proofs.Tables.{BetweenTables, advance-tables}
 
 -- ---- the outcome
 
-module _ (m : Model) (w : Sound m) (t : List ℕ) (h : Tabled m t) (room : ℕ) (enough : maxGiven * length (routes m) ≤ room) where
+module _ (m : Model) (w : WellFormed m) (t : List ℕ) (h : Tabled m t) (room : ℕ) (enough : maxGiven * length (routes m) ≤ room) where
   ends-held : (u : ℕ) (a : Ended (List Entry)) (b : Ended State) → EndsAlike (BetweenTables m w t h room enough) u a b → a ≡ heldEnd (length (atomics (m .components))) b
   unfolding heldEnd
   ends-held u a b e =
@@ -55,20 +55,20 @@ module _ (m : Model) (w : Sound m) (t : List ℕ) (h : Tabled m t) (room : ℕ) 
   pub advance-held : (o trace u : ℕ) (x : Bag) (st : State) → length x ≤ maxGiven → all portFits x ≡ true → all hasValue x ≡ true
       → Fit m o (entriesOf (length (atomics (m .components))) st)
       → length (atomics (m .components)) ≤ length (st .phase) → length (atomics (m .components)) ≤ length (st .last) → o ≤ u → u ≤ maxMoment
-      → advanceFrom (nested m) o (entriesOf (length (atomics (m .components))) st) trace u x
-      ≡ heldEnd (length (atomics (m .components))) (advanceFrom (tableSim (m .phases) t (m .rules) (length (atomics (m .components))) room) o st trace u x)
+      → advanceFrom (nested m) trace u x o (entriesOf (length (atomics (m .components))) st)
+      ≡ heldEnd (length (atomics (m .components))) (advanceFrom (tableSim (m .phases) t (m .rules) (length (atomics (m .components))) room) trace u x o st)
   advance-held o trace u x st few ports values fit phases lasts l b = ends-held u _ _ (advance-tables m w t h room enough o trace u x st few ports values fit phases lasts l b)
 
 -- ---- the given bag
 
-le-two : {s : Bytes} → AllBytes s → le (take 2 s) < valueRange
-unfolding le
+le-two : {s : Bytes} → AllBytes s → littleEndian (take 2 s) < valueRange
+unfolding littleEndian
 le-two none = omega arith
 le-two (more {b = b} h none) = omega (arith, ltb-true b 256 h)
 le-two (more {b = b} h (more {b = c} g t)) = omega (arith, ltb-true b 256 h, ltb-true c 256 g)
 
 rows-values : (n : ℕ) {s : Bytes} → AllBytes s → all hasValue (map (messageAt 0) (chunks n messageSize s)) ≡ true
-unfolding chunks all messageAt number hasValue isValue
+unfolding chunks all messageAt numberAt hasValue isValue
 rows-values zero a = refl
 rows-values (suc n) {s} a =
     and-true (hasValue (messageAt 0 (take messageSize s))) _ (lt-ltb _ valueRange (le-two (drop-bytes 1 (take-bytes messageSize a)))) (rows-values n (drop-bytes messageSize a))
@@ -96,20 +96,20 @@ checked-bag true false true h = refl
 
 pub bag-fits : (m : Model) (run : Bytes) (t : ℕ) (bag : Bytes) → advanceChecks m run t bag ≡ ok tt → bagFits bag ≡ true
 unfolding advanceChecks
-bag-fits m run t bag h = checked-bag (fits m run) (ltb t (runOf m run .opening) || ltb maxMoment t) (bagFits bag) h
+bag-fits m run t bag h = checked-bag (runFits m run) (ltb t (runOf m run .opening) || ltb maxMoment t) (bagFits bag) h
 
 -- The code's state has room for every atomic.
-pub atomics-few : (m : Model) → Sound m → length (atomics (m .components)) ≤ maxComponents
+pub atomics-few : (m : Model) → WellFormed m → length (atomics (m .components)) ≤ maxComponents
 atomics-few m w = omega (arith, few-atomics m w, w .components .few)
 
-module _ (m : Model) (w : Sound m) (tables : List ℕ) (h : Tabled m tables) (run : Bytes) (st : State)
+module _ (m : Model) (w : WellFormed m) (tables : List ℕ) (h : Tabled m tables) (run : Bytes) (st : State)
     (same : entriesOf (length (atomics (m .components))) st ≡ runOf m run .entries)
     (phases : length (atomics (m .components)) ≤ length (st .phase)) (lasts : length (atomics (m .components)) ≤ length (st .last)) where
-  fit-held : fits m run ≡ true → Fit m (runOf m run .opening) (entriesOf (length (atomics (m .components))) st)
+  fit-held : runFits m run ≡ true → Fit m (runOf m run .opening) (entriesOf (length (atomics (m .components))) st)
   fit-held f = subst (Fit m (runOf m run .opening)) (sym same) (fits-run m run f .0 .0)
 
   -- the next due moment of a run that fits
-  pub next-on-tables : fits m run ≡ true → tableNext (m .phases) tables st ≡ nextDue m (runOf m run .entries)
+  pub next-on-tables : runFits m run ≡ true → tableNext (m .phases) tables st ≡ nextDue m (runOf m run .entries)
   next-on-tables f =
       let good = subst (Good m (runOf m run .opening)) (sym same) (fits-good m run f) in
       table-next m w tables h st (runOf m run .opening)
@@ -118,10 +118,10 @@ module _ (m : Model) (w : Sound m) (tables : List ℕ) (h : Tabled m tables) (ru
 
   -- the instants of a call that the checks let through
   pub advance-on-tables : (room : ℕ) → maxGiven * length (routes m) ≤ room → (t : ℕ) (bag : Bytes) (trace : ℕ) → AllBytes bag → advanceChecks m run t bag ≡ ok tt
-      → advanceFrom (nested m) (runOf m run .opening) (runOf m run .entries) trace t (toBag bag)
-      ≡ heldEnd (length (atomics (m .components))) (advanceFrom (tableSim (m .phases) tables (m .rules) (length (atomics (m .components))) room) (runOf m run .opening) st trace t (toBag bag))
+      → advanceFrom (nested m) trace t (toBag bag) (runOf m run .opening) (runOf m run .entries)
+      ≡ heldEnd (length (atomics (m .components))) (advanceFrom (tableSim (m .phases) tables (m .rules) (length (atomics (m .components))) room) trace t (toBag bag) (runOf m run .opening) st)
   advance-on-tables room enough t bag trace bytes ok-call =
       let k = advance-ok m run t bag ok-call in
-      ap (λ rs. advanceFrom (nested m) (runOf m run .opening) rs trace t (toBag bag)) (sym same)
+      ap (λ rs. advanceFrom (nested m) trace t (toBag bag) (runOf m run .opening) rs) (sym same)
       ∙ advance-held m w tables h room enough (runOf m run .opening) trace t (toBag bag) st (bag-few bag (bag-fits m run t bag ok-call)) (k .bag-ports) (bag-values bytes)
       (fit-held (k .run-fits)) phases lasts (k .from-opening) (k .low-moment)

@@ -17,7 +17,7 @@ use Rattle.definition.specs.SavedRun.{Entry, nextDue}
 use Rattle.definition.specs.Step.{Stepped, Simulator, step, nested}
 use Rattle.definition.specs.Instant.{isDue}
 use Rattle.definition.specs.Advance.{advanceFrom}
-use Rattle.model_laws.proofs.Sound.{Sound}
+use Rattle.model_laws.proofs.WellFormed.{WellFormed}
 use Rattle.nest_laws.proofs.Pairs.{pairs-if}
 use Rattle.nest_laws.proofs.Nest.{Fresh}
 use Rattle.nest_laws.proofs.Stepping.{Good}
@@ -41,7 +41,7 @@ pub record Given (x y : Bag) : Type 0 where
   pub ports : all portFits x ≡ true
   pub values : all hasValue x ≡ true
 
-module _ (m : Model) (w : Sound m) (t : List ℕ) (h : Tabled m t) (room : ℕ) (enough : maxGiven * length (routes m) ≤ room) where
+module _ (m : Model) (w : WellFormed m) (t : List ℕ) (h : Tabled m t) (room : ℕ) (enough : maxGiven * length (routes m) ≤ room) where
   abbrev held : State → List Entry
   held st = entriesOf (length (atomics (m .components))) st
 
@@ -134,9 +134,9 @@ module _ (m : Model) (w : Sound m) (t : List ℕ) (h : Tabled m t) (room : ℕ) 
   -- from a state whose entries fit at the open moment, to a moment that may be asked for
   pub advance-tables : (o trace u : ℕ) (x : Bag) (st : State) → length x ≤ maxGiven → all portFits x ≡ true → all hasValue x ≡ true
       → Fit m o (held st) → length (atomics (m .components)) ≤ length (st .phase) → length (atomics (m .components)) ≤ length (st .last) → o ≤ u → u ≤ maxMoment
-      → EndsAlike BetweenTables u (advanceFrom (nested m) o (held st) trace u x) (advanceFrom sim o st trace u x)
+      → EndsAlike BetweenTables u (advanceFrom (nested m) trace u x o (held st)) (advanceFrom sim trace u x o st)
   advance-tables o trace u x st few ports values fit phases lasts l b =
-      subst (λ e. EndsAlike BetweenTables u e (advanceFrom sim o st trace u x)) (advance-until maxMoment (nested m) trace u x b o (held st))
-      (subst (λ e. EndsAlike BetweenTables u (advanceFrom (until maxMoment (nested m)) o (held st) trace u x) e) (advance-until maxMoment sim trace u x b o st)
+      subst (λ e. EndsAlike BetweenTables u e (advanceFrom sim trace u x o st)) (advance-until maxMoment (nested m) trace u x b o (held st))
+      (subst (λ e. EndsAlike BetweenTables u (advanceFrom (until maxMoment (nested m)) trace u x o (held st)) e) (advance-until maxMoment sim trace u x b o st)
       (advance-alike (agree-tables maxMoment (omega arith)) trace u x x (record { same = refl; few = few; ports = ports; values = values }) o (held st) st
       (record { entries = refl; phases = phases; lasts = lasts; soon = soon-at m w st o (pairs-if _ (Fresh m o) (atomics (m .components)) (held st) (entry-fresh m o) fit) (omega arith) }, fit) l))

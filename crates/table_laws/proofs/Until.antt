@@ -10,10 +10,10 @@ use borrow.Author.Tests.{le-leb, ltb-true}
 use Rattle.definition.specs.Bytes.{Result, ok, refused}
 use Rattle.definition.specs.Limits.{maxSteps}
 use Rattle.definition.specs.Model.{Bag}
-use Rattle.definition.specs.Devs.{Time, finite, never}
+use Rattle.definition.specs.Devs.{Time, finite, never, ticks}
 use Rattle.definition.specs.Step.{Simulator}
 use Rattle.definition.specs.Instant.{goesOn, isDue, stepsAt, instant}
-use Rattle.definition.specs.Advance.{Progress, Ended, tried, continued, succeeded, isBefore, moment, advancing, advanceFrom}
+use Rattle.definition.specs.Advance.{Progress, Ended, tried, continued, succeeded, isBefore, advancing, advanceFrom}
 use Rattle.laws.proofs.Sorting.{clash}
 
 -- a simulator that stands still after a limit
@@ -32,8 +32,8 @@ module _ {S : Type 0} (limit : ℕ) (k : Simulator S) where
   unfolding instant
   instant-until now x s l = steps-until maxSteps now x s l
 
-  before : (t : ℕ) (u : Time) → isBefore u t ≡ true → moment u ≤ t
-  unfolding isBefore moment
+  before : (t : ℕ) (u : Time) → isBefore u t ≡ true → ticks u ≤ t
+  unfolding isBefore ticks
   before t (finite a) e = omega (arith, ltb-true a t e)
   before t never e = absurd (clash e refl)
 
@@ -43,22 +43,22 @@ module _ {S : Type 0} (limit : ℕ) (k : Simulator S) where
     continued-cong f g p (ok q) h = h q
     continued-cong f g p (refused n) h = refl
 
-    advancing-until : (n : ℕ) (p : Progress S) → advancing (until limit k) n room t x p ≡ advancing k n room t x p
+    advancing-until : (n : ℕ) (p : Progress S) → advancing (until limit k) room t x n p ≡ advancing k room t x n p
     unfolding advancing
     advancing-until zero p = refl
     advancing-until (suc n) p = go (isBefore (k .next (p .state)) t) refl (advancing-until n)
       where
-        go : (b : Bool) → isBefore (k .next (p .state)) t ≡ b → ((q : Progress S) → advancing (until limit k) n room t x q ≡ advancing k n room t x q)
-            → cond b (continued (λ q. advancing (until limit k) n room t x q) p (tried room (moment (k .next (p .state))) p (instant (until limit k) (moment (k .next (p .state))) [] (p .state))))
+        go : (b : Bool) → isBefore (k .next (p .state)) t ≡ b → ((q : Progress S) → advancing (until limit k) room t x n q ≡ advancing k room t x n q)
+            → cond b (continued (λ q. advancing (until limit k) room t x n q) p (tried room (ticks (k .next (p .state))) p (instant (until limit k) (ticks (k .next (p .state))) [] (p .state))))
             (continued (succeeded t) p (tried room t p (instant (until limit k) t x (p .state))))
-            ≡ cond b (continued (λ q. advancing k n room t x q) p (tried room (moment (k .next (p .state))) p (instant k (moment (k .next (p .state))) [] (p .state))))
+            ≡ cond b (continued (λ q. advancing k room t x n q) p (tried room (ticks (k .next (p .state))) p (instant k (ticks (k .next (p .state))) [] (p .state))))
             (continued (succeeded t) p (tried room t p (instant k t x (p .state))))
         go true e ih =
-            ap (λ i. continued (λ q. advancing (until limit k) n room t x q) p (tried room (moment (k .next (p .state))) p i))
-            (instant-until (moment (k .next (p .state))) [] (p .state) (omega (arith, before t (k .next (p .state)) e)))
+            ap (λ i. continued (λ q. advancing (until limit k) room t x n q) p (tried room (ticks (k .next (p .state))) p i))
+            (instant-until (ticks (k .next (p .state))) [] (p .state) (omega (arith, before t (k .next (p .state)) e)))
             ∙ continued-cong _ _ p _ ih
         go false e ih = ap (λ i. continued (succeeded t) p (tried room t p i)) (instant-until t x (p .state) l)
 
-    pub advance-until : (o : ℕ) (s : S) → advanceFrom (until limit k) o s room t x ≡ advanceFrom k o s room t x
+    pub advance-until : (o : ℕ) (s : S) → advanceFrom (until limit k) room t x o s ≡ advanceFrom k room t x o s
     unfolding advanceFrom
     advance-until o s = advancing-until (suc t) _

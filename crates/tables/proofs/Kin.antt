@@ -7,7 +7,7 @@ use mathlib.Core.Bool.{Bool, true, false, not}
 use native.Mathlib.Omega.{arith}
 use lib.ListN.{length, getD}
 use Rattle.definition.specs.Model.{Component, Coupling, noCoupling, isChild}
-use Rattle.definition.specs.Records.{couplingFits}
+use Rattle.definition.specs.Pinned.Decoder.{couplingFits}
 use Rattle.laws.proofs.Sorting.{clash}
 use Rattle.route_laws.specs.Nodes.{sourceNumber, targetNumber}
 use Rattle.route_laws.specs.Ways.{Rising}

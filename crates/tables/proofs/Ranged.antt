@@ -10,10 +10,10 @@ use lib.Dec.{eqb, ltb}
 use borrow.Author.Tests.{eqb-true, ltb-true, ltb-false}
 use Rattle.definition.specs.Limits.{maxComponents, maxCouplings}
 use Rattle.definition.specs.Model.{Model, Component, Rule, Coupling, componentAt, isAtomic, atomics}
-use Rattle.definition.specs.Records.{kindFields, rootFields, componentFits}
+use Rattle.definition.specs.Pinned.Decoder.{kindFields, rootFields, componentFits}
 use Rattle.definition.specs.Flatten.{placeIn}
 use Rattle.laws.proofs.Sorting.{and-right}
-use Rattle.model_laws.proofs.Sound.{Sound}
+use Rattle.model_laws.proofs.WellFormed.{WellFormed}
 use Rattle.nest_laws.proofs.Places.{place-below}
 use Rattle.nest_laws.proofs.Components.{atomic-once}
 use Rattle.route_laws.specs.Nodes.{portNodes}
@@ -185,7 +185,7 @@ module _ (cs : List Component) (few : length cs ≤ maxComponents) where
 
 -- ---- the filled tables of a sound model
 
-module _ (m : Model) (w : Sound m) where
+module _ (m : Model) (w : WellFormed m) where
   words-filled : Words (m .components) (w .components .few) (filled (m .components) (m .rules) (m .couplings))
   unfolding filled begun byCoupling byLink
   words-filled =

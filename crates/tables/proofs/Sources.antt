@@ -10,7 +10,7 @@ use borrow.Author.Tests.{eqb-true, lt-ltb}
 use Rattle.definition.specs.Limits.{maxComponents, maxCouplings, portCount}
 use Rattle.definition.specs.Lists.{keep}
 use Rattle.definition.specs.Model.{Component, Rule, Coupling, noCoupling, isAtomic, componentAt}
-use Rattle.definition.specs.Records.{couplingFits}
+use Rattle.definition.specs.Pinned.Decoder.{couplingFits}
 use Rattle.laws.proofs.Sorting.{clash}
 use Rattle.route_laws.specs.Nodes.{portNodes, inputNode, sourceNumber, targetNumber}
 use Rattle.route_laws.specs.Ways.{Rising}

@@ -3,7 +3,7 @@ use mathlib.Core.Path.{_∙_, subst, sym}
 use Prim.Native.Nat.{_+_}
 use native.Mathlib.Omega.{arith}
 use Rattle.definition.specs.Model.{Model}
-use Rattle.model_laws.proofs.Sound.{Sound}
+use Rattle.model_laws.proofs.WellFormed.{WellFormed}
 use Rattle.route_laws.proofs.Placed.{rising}
 use Rattle.pull_laws.specs.Tables.{numbersAt, positionsAt, kindsAt, ordersAt, phasesAt, parentsAt}
 use Rattle.pull_laws.specs.Tabled.{Tabled}
@@ -13,7 +13,7 @@ use Rattle.tables.proofs.Rows.{atomic-known, place-right, atomics-few, 
 use Rattle.tables.proofs.Holding.{t0, l0, is-filled, kept1, count-holds, children-hold, rows-hold, ranges-in, ranges-from, ranges-to}
 use Rattle.tables.proofs.Sources.{given-holds, live-holds}
 
-pub tables-hold : (m : Model) → Sound m → Tabled m (filled (m .components) (m .rules) (m .couplings))
+pub tables-hold : (m : Model) → WellFormed m → Tabled m (filled (m .components) (m .rules) (m .couplings))
 unfolding ruleNames
 tables-hold m w =
     let cs = m .components in

@@ -8,7 +8,7 @@ use lib.Dec.{leb}
 use lib.ListN.{length, length-append, length-map, getD, take}
 use lib.Seq.{sets, length-take-le, slice, slice-cons, slice-empty}
 use borrow.Author.Tests.{le-leb, lt-leb}
-use Rattle.definition.specs.Bytes.{Bytes, bytesOf}
+use Rattle.definition.specs.Bytes.{Bytes, bytesOf, laidOut}
 use Rattle.definition.specs.Lists.{concat}
 use Rattle.definition.specs.Limits.{maxRootBag}
 use Rattle.definition.specs.Model.{Message}
@@ -24,11 +24,15 @@ use Rattle.trace_records.specs.Written.{recordOf, stepBytes, stepSize, s
 abbrev pub keyBytes : List ℕ → Bytes
 keyBytes keys = concat (map messageBytes (map messageOf keys))
 
+message-parts : (k : ℕ) → messageBytes (messageOf k) ≡ bytesOf 1 (k / 65536) ++ bytesOf 2 (k % 65536)
+unfolding messageBytes laidOut bytesOf messageOf
+message-parts k = refl
+
 -- A message stored, and the rest from the next position on.
 pub key-more : (ks : List ℕ) (count i at : ℕ) (d : List ℕ) → i < count → count ≤ length ks
     → sets (sets (sets d (at + 3 * i) (bytesOf 1 (getD ks i 0 / 65536))) (at + 3 * i + 1) (bytesOf 2 (getD ks i 0 % 65536))) (at + 3 * (i + 1)) (keyBytes (slice (i + 1) count ks))
     ≡ sets d (at + 3 * i) (keyBytes (slice i count ks))
-unfolding concat messageBytes messageOf
+unfolding concat
 key-more ks count i at d h l =
     let k = getD ks i 0 in
     let p = bytesOf 1 (k / 65536) in
@@ -41,14 +45,14 @@ key-more ks count i at d h l =
     let r = keyBytes (slice (i + 1) count ks) in
     let g : sets d (at + 3 * i) (p ++ v ++ r) ≡ sets (sets (sets d (at + 3 * i) p) (at + 3 * i + 1) v) (at + 3 * i + 3) r
     = sets-append (p ++ v) r d (at + 3 * i) ∙ rw (la, sets-append p v d (at + 3 * i), lp) in
-    rw (e, f) (sym g)
+    rw (e, f) (sym g ∙ ap (λ b. sets d (at + 3 * i) (b ++ r)) (sym (message-parts k)))
 
 pub key-none : (ks : List ℕ) (count at : ℕ) (d : List ℕ) → sets d at (keyBytes (slice count count ks)) ≡ d
 unfolding concat
 key-none ks count at d = rw slice-empty
 
 size-of-message : (x : Message) → length (messageBytes x) ≡ 3
-unfolding messageBytes bytesOf
+unfolding messageBytes laidOut bytesOf
 size-of-message x = refl
 
 length-keys : (ks : List ℕ) → length (keyBytes ks) ≡ 3 * length ks

@@ -58,7 +58,7 @@ returns c =
     let e = r .result in
     let put = c .before .before .store .ensures ∙ ap (λ (n : ℕ). stored (runBytes (runIn (e .going .opening .0) n new)) (now (a .run))) (c .before .before .before .before .before .size .ensures) in
     outcome (a .n) (now (a .run)) (c .before .before .store .last .0) (now (a .trace)) (r .last .1 .1 .1 .1 .1 .1 .1 .1 .1 .1 .1 .1 .1 .0) new e
-    (advanceFrom k (a .opening .0) old (length (now (a .trace))) (a .t .0) x)
+    (advanceFrom k (length (now (a .trace))) (a .t .0) x (a .opening .0) old)
     (r .ensures .0 ∙ begins k (length (now (a .trace))) (a .t .0) x (now (a .trace)) old first refl refl refl) (r .ensures .1) put
 
 pub advance-from-spec : {M : Type 1} → statement M

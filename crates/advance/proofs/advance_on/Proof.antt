@@ -27,7 +27,7 @@ use Rattle.advance.proofs.advance_on.Tie as tie
 
 abbrev Inv-loop : tie.InvT-loop
 Inv-loop phases rules tables n t bag phase₀ last₀ ends₀ work₀ keys₀ scratch₀ trace₀ g₀ due₀ left₀ phase last ends work keys scratch trace g due left =
-    (left ≤ suc (t .0)) × (length work ≡ length work₀) × (length keys ≡ length keys₀) × (length scratch ≡ length scratch₀) × (g .instants + left ≤ latest) × (g .steps + maxSteps * left ≤ latest) × Beyond trace₀ trace (g .used) × (advancing (simOf phases rules tables n (length work₀)) left (length trace₀) (t .0) (toBag bag) (progressOf trace (held phase last) g) ≡ advancing (simOf phases rules tables n (length work₀)) (suc (t .0)) (length trace₀) (t .0) (toBag bag) (progressOf trace₀ (held phase₀ last₀) g₀)) × Ready phases tables n (held phase last) ends due
+    (left ≤ suc (t .0)) × (length work ≡ length work₀) × (length keys ≡ length keys₀) × (length scratch ≡ length scratch₀) × (g .instants + left ≤ latest) × (g .steps + maxSteps * left ≤ latest) × Beyond trace₀ trace (g .used) × (advancing (simOf phases rules tables n (length work₀)) (length trace₀) (t .0) (toBag bag) left (progressOf trace (held phase last) g) ≡ advancing (simOf phases rules tables n (length work₀)) (length trace₀) (t .0) (toBag bag) (suc (t .0)) (progressOf trace₀ (held phase₀ last₀) g₀)) × Ready phases tables n (held phase last) ends due
 
 abbrev μ-loop : tie.MeasureT-loop
 μ-loop phases rules tables n t bag phase₀ last₀ ends₀ work₀ keys₀ scratch₀ trace₀ g₀ due₀ left₀ phase last ends work keys scratch trace g due left =
@@ -41,7 +41,7 @@ sim c = simOf (now (c .before .before .before .before .before .before .before .b
 
 -- What all turns give from the start.
 abbrev whole : tie.After-next-moment Inv-loop μ-loop → Ended State
-whole c = advancing (sim c) (suc (c .before .before .before .before .before .before .before .before .before .before .before .before .before .args .t .0)) (length (now (c .before .before .before .before .before .before .before .before .before .before .before .before .before .args .trace))) (c .before .before .before .before .before .before .before .before .before .before .before .before .before .args .t .0) (toBag (now (c .before .before .before .before .before .before .before .before .before .before .before .before .before .args .bag))) (progressOf (now (c .before .before .before .before .before .before .before .before .before .before .before .before .before .args .trace)) (held (now (c .before .before .before .before .before .before .before .before .before .before .before .before .before .args .phase)) (now (c .before .before .before .before .before .before .before .before .before .before .before .before .before .args .last))) (c .before .before .before .before .before .before .before .before .before .before .before .before .before .args .from))
+whole c = advancing (sim c) (length (now (c .before .before .before .before .before .before .before .before .before .before .before .before .before .args .trace))) (c .before .before .before .before .before .before .before .before .before .before .before .before .before .args .t .0) (toBag (now (c .before .before .before .before .before .before .before .before .before .before .before .before .before .args .bag))) (suc (c .before .before .before .before .before .before .before .before .before .before .before .before .before .args .t .0)) (progressOf (now (c .before .before .before .before .before .before .before .before .before .before .before .before .before .args .trace)) (held (now (c .before .before .before .before .before .before .before .before .before .before .before .before .before .args .phase)) (now (c .before .before .before .before .before .before .before .before .before .before .before .before .before .args .last))) (c .before .before .before .before .before .before .before .before .before .before .before .before .before .args .from))
 
 -- The state at the turn.
 abbrev state : tie.After-next-moment Inv-loop μ-loop → State

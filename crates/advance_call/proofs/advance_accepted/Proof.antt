@@ -5,7 +5,7 @@ use mathlib.Core.Path.{_∙_, ap, ap₂, sym}
 use lib.ListN.{length}
 use Rattle.definition.specs.Bytes.{Bytes}
 use Rattle.definition.specs.Model.{atomics}
-use Rattle.definition.specs.SavedRun.{fits}
+use Rattle.definition.specs.SavedRun.{runFits}
 use Rattle.model.specs.Checked.{modelOf}
 use Rattle.model_records.specs.Values.{componentsIn}
 use Rattle.saved_run.specs.Runs.{bare}
@@ -38,7 +38,7 @@ returns : tie.Need-returns
 returns c =
     let a = c .before .before .before .before .before .before .before .before .before .before .args in
     let m = modelOf (a .file .now) (a .n) in
-    let f = c .before .before .fits2 .ensures ∙ ap₂ (λ (x y : Bytes). fits (bare x y) (a .run .now)) (c .before .before .before .before .before .components-of .ensures) (c .before .before .before .before .phases-of .ensures) ∙ fits-file (a .file .now) (a .run .now) (a .n) in
+    let f = c .before .before .fits2 .ensures ∙ ap₂ (λ (x y : Bytes). runFits (bare x y) (a .run .now)) (c .before .before .before .before .before .components-of .ensures) (c .before .before .before .before .phases-of .ensures) ∙ fits-file (a .file .now) (a .run .now) (a .n) in
     rw (c .refused .ensures) (run-unfit (a .file .now) (a .run .now) (a .t) (a .bag .now) (a .trace .now) m (c .before .before .before .before .before .before .before .before .before .before .pre .0) (sym f ∙ not-true (c .before .before .fits2 .result) (c .before .if1 .taken)))
 
 opening-of-requires : tie.Need-opening-of-requires
@@ -54,7 +54,7 @@ returns-2 : tie.Need-returns-2
 returns-2 c =
     let a = c .before .before .before .before .before .before .before .before .before .before .before .before .before .before .args in
     let m = modelOf (a .file .now) (a .n) in
-    let f = c .before .before .before .before .before .before .fits2 .ensures ∙ ap₂ (λ (x y : Bytes). fits (bare x y) (a .run .now)) (c .before .before .before .before .before .before .before .before .before .components-of .ensures) (c .before .before .before .before .before .before .before .before .phases-of .ensures) ∙ fits-file (a .file .now) (a .run .now) (a .n) in
+    let f = c .before .before .before .before .before .before .fits2 .ensures ∙ ap₂ (λ (x y : Bytes). runFits (bare x y) (a .run .now)) (c .before .before .before .before .before .before .before .before .before .components-of .ensures) (c .before .before .before .before .before .before .before .before .phases-of .ensures) ∙ fits-file (a .file .now) (a .run .now) (a .n) in
     let g = sym f ∙ not-false (c .before .before .before .before .before .before .fits2 .result) (c .before .before .before .before .before .if1 .left) in
     rw (c .refused2 .ensures) (too-early (a .file .now) (a .run .now) (a .t) (a .bag .now) (a .trace .now) m (c .before .before .before .before .before .before .before .before .before .before .before .before .before .before .pre .0) g (opens-after (a .file .now) (a .n) (a .run .now) (a .t) _ (c .before .before .before .opening-of .ensures) (c .before .if2 .taken)))
 
@@ -68,7 +68,7 @@ returns-3 : tie.Need-returns-3
 returns-3 c =
     let a = c .before .before .before .before .before .before .before .before .before .before .before .before .before .before .before .args in
     let m = modelOf (a .file .now) (a .n) in
-    let f = c .before .before .before .before .before .before .before .fits2 .ensures ∙ ap₂ (λ (x y : Bytes). fits (bare x y) (a .run .now)) (c .before .before .before .before .before .before .before .before .before .before .components-of .ensures) (c .before .before .before .before .before .before .before .before .before .phases-of .ensures) ∙ fits-file (a .file .now) (a .run .now) (a .n) in
+    let f = c .before .before .before .before .before .before .before .fits2 .ensures ∙ ap₂ (λ (x y : Bytes). runFits (bare x y) (a .run .now)) (c .before .before .before .before .before .before .before .before .before .before .components-of .ensures) (c .before .before .before .before .before .before .before .before .before .phases-of .ensures) ∙ fits-file (a .file .now) (a .run .now) (a .n) in
     let g = sym f ∙ not-false (c .before .before .before .before .before .before .before .fits2 .result) (c .before .before .before .before .before .before .if1 .left) in
     rw (c .refused3 .ensures) (too-late (a .file .now) (a .run .now) (a .t) (a .bag .now) (a .trace .now) m (c .before .before .before .before .before .before .before .before .before .before .before .before .before .before .before .pre .0) g (c .before .if3 .taken))
 
@@ -85,7 +85,7 @@ returns-4 : tie.Need-returns-4
 returns-4 c =
     let a = c .before .before .before .before .before .before .before .before .before .before .before .before .before .before .before .before .before .args in
     let m = modelOf (a .file .now) (a .n) in
-    let f = c .before .before .before .before .before .before .before .before .before .fits2 .ensures ∙ ap₂ (λ (x y : Bytes). fits (bare x y) (a .run .now)) (c .before .before .before .before .before .before .before .before .before .before .before .before .components-of .ensures) (c .before .before .before .before .before .before .before .before .before .before .before .phases-of .ensures) ∙ fits-file (a .file .now) (a .run .now) (a .n) in
+    let f = c .before .before .before .before .before .before .before .before .before .fits2 .ensures ∙ ap₂ (λ (x y : Bytes). runFits (bare x y) (a .run .now)) (c .before .before .before .before .before .before .before .before .before .before .before .before .components-of .ensures) (c .before .before .before .before .before .before .before .before .before .before .before .phases-of .ensures) ∙ fits-file (a .file .now) (a .run .now) (a .n) in
     let g = sym f ∙ not-false (c .before .before .before .before .before .before .before .before .before .fits2 .result) (c .before .before .before .before .before .before .before .before .if1 .left) in
     let o = opens-by (a .file .now) (a .n) (a .run .now) (a .t) _ (c .before .before .before .before .before .before .opening-of .ensures) (c .before .before .before .before .if2 .left) in
     rw (c .refused4 .ensures) (bag-unfit (a .file .now) (a .run .now) (a .t) (a .bag .now) (a .trace .now) m (c .before .before .before .before .before .before .before .before .before .before .before .before .before .before .before .before .before .pre .0) g o (c .before .before .before .if3 .left) (sym (c .before .before .bag-fits .ensures) ∙ not-true (c .before .before .bag-fits .result) (c .before .if4 .taken)))
@@ -97,7 +97,7 @@ advance-few-requires : tie.Need-advance-few-requires
 advance-few-requires c κs =
     let a = c .before .before .before .before .before .before .before .before .before .before .before .before .before .before .before .before .before .before .before .before .args in
     let m = modelOf (a .file .now) (a .n) in
-    let f = c .before .before .before .before .before .before .before .before .before .before .before .before .fits2 .ensures ∙ ap₂ (λ (x y : Bytes). fits (bare x y) (a .run .now)) (c .before .before .before .before .before .before .before .before .before .before .before .before .before .before .before .components-of .ensures) (c .before .before .before .before .before .before .before .before .before .before .before .before .before .before .phases-of .ensures) ∙ fits-file (a .file .now) (a .run .now) (a .n) in
+    let f = c .before .before .before .before .before .before .before .before .before .before .before .before .fits2 .ensures ∙ ap₂ (λ (x y : Bytes). runFits (bare x y) (a .run .now)) (c .before .before .before .before .before .before .before .before .before .before .before .before .before .before .before .components-of .ensures) (c .before .before .before .before .before .before .before .before .before .before .before .before .before .before .phases-of .ensures) ∙ fits-file (a .file .now) (a .run .now) (a .n) in
     let g = sym f ∙ not-false (c .before .before .before .before .before .before .before .before .before .before .before .before .fits2 .result) (c .before .before .before .before .before .before .before .before .before .before .before .if1 .left) in
     let o = opens-by (a .file .now) (a .n) (a .run .now) (a .t) _ (c .before .before .before .before .before .before .before .before .before .opening-of .ensures) (c .before .before .before .before .before .before .before .if2 .left) in (
       c .before .before .before .before .before .before .before .before .before .before .before .before .before .before .before .before .before .before .before .before .pre .0,
@@ -111,7 +111,7 @@ advance-many-requires : tie.Need-advance-many-requires
 advance-many-requires c κs =
     let a = c .before .before .before .before .before .before .before .before .before .before .before .before .before .before .before .before .before .before .before .before .args in
     let m = modelOf (a .file .now) (a .n) in
-    let f = c .before .before .before .before .before .before .before .before .before .before .before .before .fits2 .ensures ∙ ap₂ (λ (x y : Bytes). fits (bare x y) (a .run .now)) (c .before .before .before .before .before .before .before .before .before .before .before .before .before .before .before .components-of .ensures) (c .before .before .before .before .before .before .before .before .before .before .before .before .before .before .phases-of .ensures) ∙ fits-file (a .file .now) (a .run .now) (a .n) in
+    let f = c .before .before .before .before .before .before .before .before .before .before .before .before .fits2 .ensures ∙ ap₂ (λ (x y : Bytes). runFits (bare x y) (a .run .now)) (c .before .before .before .before .before .before .before .before .before .before .before .before .before .before .before .components-of .ensures) (c .before .before .before .before .before .before .before .before .before .before .before .before .before .before .phases-of .ensures) ∙ fits-file (a .file .now) (a .run .now) (a .n) in
     let g = sym f ∙ not-false (c .before .before .before .before .before .before .before .before .before .before .before .before .fits2 .result) (c .before .before .before .before .before .before .before .before .before .before .before .if1 .left) in
     let o = opens-by (a .file .now) (a .n) (a .run .now) (a .t) _ (c .before .before .before .before .before .before .before .before .before .opening-of .ensures) (c .before .before .before .before .before .before .before .if2 .left) in (
       c .before .before .before .before .before .before .before .before .before .before .before .before .before .before .before .before .before .before .before .before .pre .0,

@@ -6,7 +6,7 @@ use Prim.Native.Nat.{ℕ, _<_}
 use mathlib.Core.Path.{_≡_, _∙_}
 use lib.ListN.{length, getD}
 use Rattle.definition.specs.Bytes.{Bytes, ok}
-use Rattle.definition.specs.Routes.{accepted}
+use Rattle.definition.specs.Pinned.Decoder.{accepted}
 use Rattle.model.specs.Checked.{modelOf}
 use Rattle.model.specs.declared.Counts.{Counts}
 use Rattle.advance_call.proofs.Whole.{checked-room, call-parts}

@@ -3,7 +3,7 @@ use borrow.Author.Needs.{needs}
 use native.Mathlib.Omega.{arith}
 use Rattle.bag_keys.proofs.Laws.{length-outputs, slot-more, bag-none}
 use Rattle.pull_laws.specs.Put.{puts, valuesOn}
-use Rattle.definition.specs.Records.{toPhase}
+use Rattle.definition.specs.Pinned.Decoder.{toPhase}
 use Rattle.definition.specs.Model.{outputs}
 use denote.Ref.{now}
 use lib.ListN.{length, drop}

@@ -5,10 +5,10 @@ use Rattle.component_tables.specs.Columns.{ruleNames}
 use Rattle.byte_laws.proofs.Rows.{number-row}
 use Rattle.model_records.specs.Values.{rulesIn}
 use Rattle.byte_laws.proofs.Records.{length-records, record-in}
-use Rattle.definition.specs.Records.{toRule}
+use Rattle.definition.specs.Pinned.Decoder.{toRule}
 use Rattle.definition.specs.Model.{noRule}
+use Rattle.byte_laws.specs.Parts.{row}
 use native.Mathlib.Nat.{add-zero}
-use Rattle.definition.specs.Bytes.{row}
 use denote.Ref.{now}
 use lib.ListN.{getD}
 use mathlib.Core.Path.{_≡_, sym, ap, _∙_}

@@ -7,7 +7,7 @@ use lib.ListN.{length, getD}
 use denote.Ref.{now}
 use Rattle.definition.specs.Bytes.{Bytes, ok}
 use Rattle.definition.specs.Model.{atomics}
-use Rattle.definition.specs.Routes.{accepted}
+use Rattle.definition.specs.Pinned.Decoder.{accepted}
 use Rattle.model_records.specs.Values.{componentsIn}
 use Rattle.model.specs.Checked.{componentsPart, modelOf}
 use Rattle.model.specs.declared.Counts.{Counts}

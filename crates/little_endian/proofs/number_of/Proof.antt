@@ -7,13 +7,13 @@ use Prim.Native.Nat.{_≤_, _-_}
 use mathlib.Core.Path.{_≡_, _∙_, sym}
 use denote.Ref.{now}
 use native.Mathlib.Nat.{sub-zero}
-use Rattle.definition.specs.Bytes.{number}
+use Rattle.definition.specs.Bytes.{numberAt}
 use Rattle.byte_laws.proofs.Rows.{number-none, number-fits, number-back}
 use Rattle.little_endian.proofs.number_of.Statement.{statement}
 use Rattle.little_endian.proofs.number_of.Tie as tie
 
 abbrev Inv-loop : tie.InvT-loop
-Inv-loop s n k₀ v₀ k v = (k ≤ n) × (v ≡ number (n - k) k s)
+Inv-loop s n k₀ v₀ k v = (k ≤ n) × (v ≡ numberAt (n - k) k s)
 
 abbrev μ-loop : tie.MeasureT-loop
 μ-loop s n k₀ v₀ k v = k

@@ -3,7 +3,7 @@
 use borrow.Author.Needs.{needs}
 use mathlib.Core.Path.{_∙_, ap}
 use denote.Ref.{now}
-use Rattle.definition.specs.Bytes.{number}
+use Rattle.definition.specs.Bytes.{numberAt}
 use Rattle.byte_laws.proofs.Rows.{number-drop}
 use Rattle.little_endian.proofs.u64_at.Statement.{statement}
 use Rattle.little_endian.proofs.u64_at.Tie as tie
@@ -17,7 +17,7 @@ number-of-requires c κs = search needs
 returns : tie.Need-returns
 returns c =
     let a = c .before .before .before .args in
-    c .number-of .ensures ∙ ap (number 8 0) (c .before .rest .ensures) ∙ number-drop 8 (a .at) (now (a .s))
+    c .number-of .ensures ∙ ap (numberAt 8 0) (c .before .rest .ensures) ∙ number-drop 8 (a .at) (now (a .s))
 
 pub u64-at-spec : {M : Type 1} → statement M
 u64-at-spec = tie.close (tie.spec rest-requires number-of-requires returns)

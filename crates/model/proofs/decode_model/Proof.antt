@@ -5,8 +5,7 @@ use borrow.Author.Needs.{needs}
 use mathlib.Core.Path.{_≡_, sym, _∙_}
 use denote.Ref.{now}
 use borrow.Author.Tests.{lt-ltb, le-ltb}
-use Rattle.definition.specs.File.{decode, endOfFile}
-use Rattle.definition.specs.Records.{toComponent, toPhase, toRule, toCoupling}
+use Rattle.definition.specs.Pinned.Decoder.{decode, endOfFile, toComponent, toPhase, toRule, toCoupling}
 use Rattle.byte_laws.specs.Parts.{partOf}
 use Rattle.model_records.specs.Values.{componentsIn, phasesIn, rulesIn, couplingsIn, modelIn}
 use Rattle.model_checks.specs.Known.{Counted, Placed}

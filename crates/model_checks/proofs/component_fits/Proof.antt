@@ -8,7 +8,7 @@ use lib.Dec.{eqb, ltb}
 use lib.ListN.{getD}
 use borrow.Author.Tests.{eq-eqb, not-true, not-false}
 use Rattle.definition.specs.Model.{componentAt}
-use Rattle.definition.specs.Records.{kindFields, componentFits, rootFields}
+use Rattle.definition.specs.Pinned.Decoder.{kindFields, componentFits, rootFields}
 use Rattle.model_records.specs.Values.{componentsIn}
 use Rattle.model_checks.proofs.Kept.{misplaced, fits-by}
 use Rattle.model_checks.proofs.component_fits.Statement.{statement}

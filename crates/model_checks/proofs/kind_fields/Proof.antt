@@ -1,7 +1,7 @@
 -- `model_checks::kind_fields` meets its contract. The definition's own tests of either kind. Assumes nothing.
 use mathlib.Core.Bool.{or-false}
 use borrow.Author.Tests.{ne-eqb}
-use Rattle.definition.specs.Records.{kindFields, coupledFields, atomicFields}
+use Rattle.definition.specs.Pinned.Decoder.{kindFields, coupledFields, atomicFields}
 use Rattle.model_checks.proofs.kind_fields.Statement.{statement}
 use Rattle.model_checks.proofs.kind_fields.Tie as tie
 

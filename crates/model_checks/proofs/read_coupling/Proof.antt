@@ -5,7 +5,7 @@ use mathlib.Core.Path.{_≡_, refl, sym, _∙_}
 use mathlib.Core.Bool.{false, true}
 use denote.Ref.{now}
 use borrow.Author.Tests.{not-true, not-false, lt-leb, le-leb}
-use Rattle.definition.specs.Records.{notFalling, couplingFits}
+use Rattle.definition.specs.Pinned.Decoder.{notFalling, couplingFits}
 use Rattle.model_records.specs.Values.{couplingsIn}
 use Rattle.model_checks.proofs.Laws.{keeps, breaks, behind-falls}
 use Rattle.model_checks.proofs.read_coupling.Statement.{statement}

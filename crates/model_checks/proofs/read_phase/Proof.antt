@@ -4,7 +4,7 @@ use mathlib.Core.Path.{_≡_, sym, _∙_}
 use mathlib.Core.Bool.{true, false}
 use borrow.Author.Tests.{not-true, not-false}
 use Rattle.model_records.specs.Values.{phaseOf}
-use Rattle.definition.specs.Records.{phaseFields}
+use Rattle.definition.specs.Pinned.Decoder.{phaseFields}
 use Rattle.model_checks.proofs.Laws.{keeps, breaks}
 use Rattle.model_checks.proofs.Slots.{numbers-break, slots-break, phase-keeps}
 use Rattle.model_checks.proofs.read_phase.Statement.{statement}

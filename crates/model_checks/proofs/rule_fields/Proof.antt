@@ -8,7 +8,7 @@ use denote.Ref.{now}
 use lib.ListN.{length}
 use borrow.Author.Tests.{le-ltb}
 use Rattle.definition.specs.Model.{componentAt}
-use Rattle.definition.specs.Records.{ruleFields}
+use Rattle.definition.specs.Pinned.Decoder.{ruleFields}
 use Rattle.model_records.specs.Values.{ruleOf, componentsIn}
 use Rattle.model_checks.proofs.Kept.{rule-by}
 use Rattle.model_checks.proofs.rule_fields.Statement.{statement}

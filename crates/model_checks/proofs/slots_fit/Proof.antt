@@ -4,7 +4,7 @@ use borrow.Author.Needs.{needs}
 use native.Mathlib.Omega.{arith}
 use mathlib.Core.Path.{_≡_, sym, _∙_}
 use mathlib.Core.Bool.{_&&_}
-use Rattle.definition.specs.Records.{usedFit, unusedFit}
+use Rattle.definition.specs.Pinned.Decoder.{usedFit, unusedFit}
 use Rattle.model_records.specs.Values.{phaseOf}
 use Rattle.model_checks.proofs.Slots.{byKeys, slots-keys, all-used, fourth-set, three-used, third-set, two-used, second-set, one-used, none-used}
 use Rattle.model_checks.proofs.slots_fit.Statement.{statement}

@@ -3,7 +3,7 @@
 use mathlib.Core.Path.{sym}
 use denote.Ref.{now}
 use Rattle.model_records.specs.Values.{componentsIn}
-use Rattle.definition.specs.Records.{toComponent}
+use Rattle.definition.specs.Pinned.Decoder.{toComponent}
 use Rattle.byte_laws.proofs.Records.{length-records}
 use Rattle.model_records.proofs.component_count.Statement.{statement}
 use Rattle.model_records.proofs.component_count.Tie as tie

@@ -3,7 +3,7 @@
 use borrow.Author.Needs.{needs}
 use denote.Ref.{now}
 use Rattle.definition.specs.Model.{componentAt, noComponent}
-use Rattle.definition.specs.Records.{toComponent}
+use Rattle.definition.specs.Pinned.Decoder.{toComponent}
 use Rattle.model_records.specs.Values.{componentsIn}
 use Rattle.model_records.proofs.Fields.{record-within, record-cut}
 use Rattle.model_records.proofs.component_in.Statement.{statement}

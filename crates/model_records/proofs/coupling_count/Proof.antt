@@ -3,7 +3,7 @@
 use mathlib.Core.Path.{sym}
 use denote.Ref.{now}
 use Rattle.model_records.specs.Values.{couplingsIn}
-use Rattle.definition.specs.Records.{toCoupling}
+use Rattle.definition.specs.Pinned.Decoder.{toCoupling}
 use Rattle.byte_laws.proofs.Records.{length-records}
 use Rattle.model_records.proofs.coupling_count.Statement.{statement}
 use Rattle.model_records.proofs.coupling_count.Tie as tie

@@ -3,7 +3,7 @@
 use borrow.Author.Needs.{needs}
 use denote.Ref.{now}
 use Rattle.definition.specs.Model.{noCoupling}
-use Rattle.definition.specs.Records.{toCoupling}
+use Rattle.definition.specs.Pinned.Decoder.{toCoupling}
 use Rattle.model_records.specs.Values.{couplingsIn}
 use Rattle.model_records.proofs.Fields.{record-within, record-cut}
 use Rattle.model_records.proofs.coupling_in.Statement.{statement}

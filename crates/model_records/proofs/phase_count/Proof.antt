@@ -3,7 +3,7 @@
 use mathlib.Core.Path.{sym}
 use denote.Ref.{now}
 use Rattle.model_records.specs.Values.{phasesIn}
-use Rattle.definition.specs.Records.{toPhase}
+use Rattle.definition.specs.Pinned.Decoder.{toPhase}
 use Rattle.byte_laws.proofs.Records.{length-records}
 use Rattle.model_records.proofs.phase_count.Statement.{statement}
 use Rattle.model_records.proofs.phase_count.Tie as tie

@@ -3,7 +3,8 @@
 use borrow.Author.Needs.{needs}
 use denote.Ref.{now}
 use Rattle.definition.specs.Model.{noPhase}
-use Rattle.definition.specs.Records.{toPhase, messageAt}
+use Rattle.definition.specs.Records.{messageAt}
+use Rattle.definition.specs.Pinned.Decoder.{toPhase}
 use Rattle.model_records.specs.Values.{phasesIn}
 use Rattle.model_records.proofs.Fields.{record-within, record-cut}
 use Rattle.model_records.proofs.phase_in.Statement.{statement}

@@ -3,7 +3,7 @@
 use mathlib.Core.Path.{sym}
 use denote.Ref.{now}
 use Rattle.model_records.specs.Values.{rulesIn}
-use Rattle.definition.specs.Records.{toRule}
+use Rattle.definition.specs.Pinned.Decoder.{toRule}
 use Rattle.byte_laws.proofs.Records.{length-records}
 use Rattle.model_records.proofs.rule_count.Statement.{statement}
 use Rattle.model_records.proofs.rule_count.Tie as tie

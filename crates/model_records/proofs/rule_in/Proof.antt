@@ -3,7 +3,7 @@
 use borrow.Author.Needs.{needs}
 use denote.Ref.{now}
 use Rattle.definition.specs.Model.{noRule}
-use Rattle.definition.specs.Records.{toRule}
+use Rattle.definition.specs.Pinned.Decoder.{toRule}
 use Rattle.model_records.specs.Values.{rulesIn}
 use Rattle.model_records.proofs.Fields.{record-within, record-cut}
 use Rattle.model_records.proofs.rule_in.Statement.{statement}

@@ -1,15 +1,15 @@
 -- `model_sections::component_wrong` meets its contract. The definition's own test. Assumes nothing.
-use Rattle.definition.specs.File.{componentCount}
+use Rattle.definition.specs.Pinned.Decoder.{componentCountRefusal}
 use Rattle.model_sections.proofs.component_wrong.Statement.{statement}
 use Rattle.model_sections.proofs.component_wrong.Tie as tie
 
 returns : tie.Need-returns
-unfolding componentCount
+unfolding componentCountRefusal
 returns c =
     rw (c .if1 .taken)
 
 returns-2 : tie.Need-returns-2
-unfolding componentCount
+unfolding componentCountRefusal
 returns-2 c =
     rw (c .if1 .left)
 

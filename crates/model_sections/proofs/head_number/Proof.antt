@@ -2,7 +2,7 @@
 -- that led to it. Assumes nothing.
 use borrow.Author.Needs.{needs}
 use borrow.Author.Tests.{lt-ltb, le-ltb}
-use Rattle.definition.specs.File.{sectionCount}
+use Rattle.definition.specs.Pinned.Decoder.{sectionCount}
 use Rattle.model_sections.proofs.head_number.Statement.{statement}
 use Rattle.model_sections.proofs.head_number.Tie as tie
 

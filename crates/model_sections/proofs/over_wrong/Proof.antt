@@ -1,16 +1,16 @@
 -- `model_sections::over_wrong` meets its contract. The definition's own test. Assumes nothing.
 use borrow.Author.Tests.{lt-ltb, le-ltb}
-use Rattle.definition.specs.File.{atMost}
+use Rattle.definition.specs.Pinned.Decoder.{limitRefusal}
 use Rattle.model_sections.proofs.over_wrong.Statement.{statement}
 use Rattle.model_sections.proofs.over_wrong.Tie as tie
 
 returns : tie.Need-returns
-unfolding atMost
+unfolding limitRefusal
 returns c =
     rw (lt-ltb _ _ (c .if1 .taken))
 
 returns-2 : tie.Need-returns-2
-unfolding atMost
+unfolding limitRefusal
 returns-2 c =
     rw (le-ltb _ _ (c .if1 .left))
 

@@ -1,21 +1,21 @@
 -- `model_sections::phase_wrong` meets its contract. The definition's two tests in its order. Assumes nothing.
 use borrow.Author.Tests.{lt-ltb, le-ltb, ne-eqb, eq-eqb}
-use Rattle.definition.specs.File.{phaseCount}
+use Rattle.definition.specs.Pinned.Decoder.{phaseCountRefusal}
 use Rattle.model_sections.proofs.phase_wrong.Statement.{statement}
 use Rattle.model_sections.proofs.phase_wrong.Tie as tie
 
 returns : tie.Need-returns
-unfolding phaseCount
+unfolding phaseCountRefusal
 returns c =
     rw (lt-ltb _ _ (c .if1 .taken))
 
 returns-2 : tie.Need-returns-2
-unfolding phaseCount
+unfolding phaseCountRefusal
 returns-2 c =
     rw (le-ltb _ _ (c .before .if1 .left), ne-eqb _ _ (c .if2 .taken))
 
 returns-3 : tie.Need-returns-3
-unfolding phaseCount
+unfolding phaseCountRefusal
 returns-3 c =
     rw (le-ltb _ _ (c .before .if1 .left), eq-eqb _ _ (c .if2 .left))
 

@@ -11,8 +11,7 @@ use lib.ListN.{length, length-replicate}
 use Rattle.definition.specs.Lists.{all, upFrom}
 use Rattle.definition.specs.Bytes.{refused, numberOf}
 use Rattle.definition.specs.Model.{componentAt}
-use Rattle.definition.specs.Records.{toComponent, componentFits}
-use Rattle.definition.specs.File.{componentCount, componentSection}
+use Rattle.definition.specs.Pinned.Decoder.{toComponent, componentFits, componentCountRefusal, componentSection}
 use Rattle.model_records.specs.Values.{componentsIn}
 use Rattle.model_checks.specs.Reads.{checked, componentRead}
 use Rattle.model_checks.specs.Known.{Accepted, Parents, PhaseCounts, Depths}
@@ -33,22 +32,22 @@ abbrev μ-loop : tie.MeasureT-loop
 μ-loop s parents₀ phase-counts₀ count n head records depths₀ i₀ parents phase-counts depths i = n - i
 
 -- The head is right: its count, and the slice of the records.
-opened : (c : tie.After-section-part Inv-loop μ-loop) → Opened 5 componentCount (now (c .before .before .before .before .before .before .before .args .s)) (c .before .before .before .before .size16 .result) (now (c .section-part .result))
+opened : (c : tie.After-section-part Inv-loop μ-loop) → Opened 5 componentCountRefusal (now (c .before .before .before .before .before .before .before .args .s)) (c .before .before .before .before .size16 .result) (now (c .section-part .result))
 opened c =
     let s = now (c .before .before .before .before .before .before .before .args .s) in
     let e = c .before .before .before .before .size16 .ensures in
-    let h = head-is 5 componentCount s (e ∙ c .before .before .before .before .before .u16-at .ensures) (c .before .before .before .component-wrong .ensures) (c .before .before .head-number .ensures) in
+    let h = head-is 5 componentCountRefusal s (e ∙ c .before .before .before .before .before .u16-at .ensures) (c .before .before .before .component-wrong .ensures) (c .before .before .head-number .ensures) in
     record { count = e ∙ c .before .before .before .before .before .u16-at .ensures; part = c .section-part .ensures ∙ ap (λ n. partOf 5 n s) (sym e); head = sym h ∙ c .before .if1 .left }
 
 -- So many records there are, and they are few.
 there : (c : tie.After-section-part Inv-loop μ-loop) → length (componentsIn (now (c .section-part .result))) ≡ c .before .before .before .before .size16 .result
 unfolding componentsIn
 there c =
-    opened-count 5 componentCount toComponent (now (c .before .before .before .before .before .before .before .args .s)) (c .before .before .before .before .size16 .result) (now (c .section-part .result)) (omega arith) (opened c)
+    opened-count 5 componentCountRefusal toComponent (now (c .before .before .before .before .before .before .before .args .s)) (c .before .before .before .before .size16 .result) (now (c .section-part .result)) (omega arith) (opened c)
 
 few : (c : tie.After-section-part Inv-loop μ-loop) → c .before .before .before .before .size16 .result ≤ 64
 few c =
-    component-count _ (ap componentCount (opened c .count) ∙ head-ok 5 componentCount (now (c .before .before .before .before .before .before .before .args .s)) (opened c .head) .1) .1
+    component-count _ (ap componentCountRefusal (opened c .count) ∙ head-ok 5 componentCountRefusal (now (c .before .before .before .before .before .before .before .args .s)) (opened c .head) .1) .1
 
 -- A record that was read has passed its test.
 fits-here : (c : tie.After-enum-told Inv-loop μ-loop) → componentFits (componentsIn (now (c .before .before .before .before .before .before .before .section-part .result))) (c .before .before .before .before .before .before .loop .i) ≡ true
@@ -73,7 +72,7 @@ returns : tie.Need-returns Inv-loop μ-loop
 unfolding componentSection
 returns c =
     let s = now (c .before .before .before .before .before .before .args .s) in
-    (sym (section-head 5 componentCount toComponent componentFits 4 s (head-is 5 componentCount s (c .before .before .before .size16 .ensures ∙ c .before .before .before .before .u16-at .ensures) (c .before .before .component-wrong .ensures) (c .before .head-number .ensures)) (c .if1 .taken)), tt)
+    (sym (section-head 5 componentCountRefusal toComponent componentFits 4 s (head-is 5 componentCountRefusal s (c .before .before .before .size16 .ensures ∙ c .before .before .before .before .u16-at .ensures) (c .before .before .component-wrong .ensures) (c .before .head-number .ensures)) (c .if1 .taken)), tt)
 
 section-part-requires : tie.Need-section-part-requires Inv-loop μ-loop
 section-part-requires c κs = search needs
@@ -108,7 +107,7 @@ returns-2 c =
     let b = failed (componentFits xs (l .i)) 4 (componentAt xs (l .i)) {m = k} (ap componentRead (sym (c .before .enum-told2 .given .1)) ∙ c .before .before .before .read-component .ensures) in
     let m : c .component-refusal .result ≡ k = c .component-refusal .ensures ∙ ap (λ q. numberOf (componentRead q)) (c .before .enum-told2 .given .1) in (
       ap refused (m ∙ b .1)
-          ∙ sym (opened-bad 5 componentCount toComponent componentFits 4 (now (c .before .before .before .before .before .before .before .before .before .before .before .before .before .before .before .args .s)) (c .before .before .before .before .before .before .before .before .before .before .before .before .size16 .result) r (omega arith) (opened (c .before .before .before .before .before .before .before .before)) (l .i) (l .inv .1) (c .before .before .before .before .before .before .loop-test .taken) (b .0)),
+          ∙ sym (opened-bad 5 componentCountRefusal toComponent componentFits 4 (now (c .before .before .before .before .before .before .before .before .before .before .before .before .before .before .before .args .s)) (c .before .before .before .before .before .before .before .before .before .before .before .before .size16 .result) r (omega arith) (opened (c .before .before .before .before .before .before .before .before)) (l .i) (l .inv .1) (c .before .before .before .before .before .before .loop-test .taken) (b .0)),
       tt,
     )
 
@@ -142,7 +141,7 @@ returns-3 c =
     let r = now (c .before .before .section-part .result) in
     let s = now (c .before .before .before .before .before .before .before .before .before .args .s) in
     let e : l .i ≡ length (componentsIn r) = omega (arith, there (c .before .before)) in (
-      sym (rw (c .before .before .before .before .before .before .size16 .ensures) at (opened-good 5 componentCount toComponent componentFits 4 s (c .before .before .before .before .before .before .size16 .result) r (omega arith) (opened (c .before .before)) (l .i) (v .1) (c .loop-test .left))),
+      sym (rw (c .before .before .before .before .before .before .size16 .ensures) at (opened-good 5 componentCountRefusal toComponent componentFits 4 s (c .before .before .before .before .before .before .size16 .result) r (omega arith) (opened (c .before .before)) (l .i) (v .1) (c .loop-test .left))),
       learnt-all s r (c .before .before .before .before .before .before .before .u16-at .result) (l .i) _ _ (c .before .before .section-part .ensures) e (v .2) (v .3) (v .4),
     )
 

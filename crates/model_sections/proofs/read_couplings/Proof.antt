@@ -11,8 +11,7 @@ use Rattle.definition.specs.Lists.{all, upFrom}
 use Rattle.definition.specs.Limits.{maxCouplings}
 use Rattle.definition.specs.Bytes.{refused, numberOf}
 use Rattle.definition.specs.Model.{noCoupling}
-use Rattle.definition.specs.Records.{toCoupling, couplingFits}
-use Rattle.definition.specs.File.{atMost, couplingSection}
+use Rattle.definition.specs.Pinned.Decoder.{toCoupling, couplingFits, limitRefusal, couplingSection}
 use Rattle.model_records.specs.Values.{componentsIn, couplingsIn}
 use Rattle.model_checks.specs.Reads.{checked, couplingRead}
 use Rattle.model_checks.specs.Known.{Behind}
@@ -32,18 +31,18 @@ abbrev μ-loop : tie.MeasureT-loop
 μ-loop components parents s count n head records i₀ before₀ i before = n - i
 
 -- The head is right: its count, and the slice of the records.
-opened : (c : tie.After-section-part Inv-loop μ-loop) → Opened 4 (atMost maxCouplings) (now (c .before .before .before .before .before .before .before .before .args .s)) (c .before .before .before .before .size16 .result) (now (c .section-part .result))
+opened : (c : tie.After-section-part Inv-loop μ-loop) → Opened 4 (limitRefusal maxCouplings) (now (c .before .before .before .before .before .before .before .before .args .s)) (c .before .before .before .before .size16 .result) (now (c .section-part .result))
 opened c =
     let s = now (c .before .before .before .before .before .before .before .before .args .s) in
     let e = c .before .before .before .before .size16 .ensures in
-    let h = head-is 4 (atMost maxCouplings) s (e ∙ c .before .before .before .before .before .u16-at .ensures) (c .before .before .before .over-wrong .ensures) (c .before .before .head-number .ensures) in
+    let h = head-is 4 (limitRefusal maxCouplings) s (e ∙ c .before .before .before .before .before .u16-at .ensures) (c .before .before .before .over-wrong .ensures) (c .before .before .head-number .ensures) in
     record { count = e ∙ c .before .before .before .before .before .u16-at .ensures; part = c .section-part .ensures ∙ ap (λ n. partOf 4 n s) (sym e); head = sym h ∙ c .before .if1 .left }
 
 -- So many records there are.
 there : (c : tie.After-section-part Inv-loop μ-loop) → length (couplingsIn (now (c .section-part .result))) ≡ c .before .before .before .before .size16 .result
 unfolding couplingsIn
 there c =
-    opened-count 4 (atMost maxCouplings) toCoupling (now (c .before .before .before .before .before .before .before .before .args .s)) (c .before .before .before .before .size16 .result) (now (c .section-part .result)) (omega arith) (opened c)
+    opened-count 4 (limitRefusal maxCouplings) toCoupling (now (c .before .before .before .before .before .before .before .before .args .s)) (c .before .before .before .before .size16 .result) (now (c .section-part .result)) (omega arith) (opened c)
 
 u16-at-requires : tie.Need-u16-at-requires Inv-loop μ-loop
 u16-at-requires c κs = search needs
@@ -62,7 +61,7 @@ unfolding couplingSection
 returns c =
     let cs = componentsIn (now (c .before .before .before .before .before .before .before .args .components)) in
     let s = now (c .before .before .before .before .before .before .before .args .s) in
-    sym (section-head 4 (atMost maxCouplings) toCoupling (couplingFits cs) 8 s (head-is 4 (atMost maxCouplings) s (c .before .before .before .size16 .ensures ∙ c .before .before .before .before .u16-at .ensures) (c .before .before .over-wrong .ensures) (c .before .head-number .ensures)) (c .if1 .taken))
+    sym (section-head 4 (limitRefusal maxCouplings) toCoupling (couplingFits cs) 8 s (head-is 4 (limitRefusal maxCouplings) s (c .before .before .before .size16 .ensures ∙ c .before .before .before .before .u16-at .ensures) (c .before .before .over-wrong .ensures) (c .before .head-number .ensures)) (c .if1 .taken))
 
 section-part-requires : tie.Need-section-part-requires Inv-loop μ-loop
 section-part-requires c κs = search needs
@@ -97,7 +96,7 @@ returns-2 c =
     let b = failed (couplingFits cs xs (l .i)) 8 (getD xs (l .i) noCoupling) {m = k} (ap couplingRead (sym (c .before .enum-told .given .1)) ∙ c .before .before .before .read-coupling .ensures) in
     let m : c .coupling-refusal .result ≡ k = c .coupling-refusal .ensures ∙ ap (λ q. numberOf (couplingRead q)) (c .before .enum-told .given .1) in
     ap refused (m ∙ b .1)
-    ∙ sym (opened-bad 4 (atMost maxCouplings) toCoupling (couplingFits cs) 8 (now (c .before .before .before .before .before .before .before .before .before .before .before .before .before .before .args .s)) (c .before .before .before .before .before .before .before .before .before .before .size16 .result) r (omega arith) (opened (c .before .before .before .before .before .before)) (l .i) (l .inv .1) (c .before .before .before .before .loop-test .taken) (b .0))
+    ∙ sym (opened-bad 4 (limitRefusal maxCouplings) toCoupling (couplingFits cs) 8 (now (c .before .before .before .before .before .before .before .before .before .before .before .before .before .before .args .s)) (c .before .before .before .before .before .before .before .before .before .before .size16 .result) r (omega arith) (opened (c .before .before .before .before .before .before)) (l .i) (l .inv .1) (c .before .before .before .before .loop-test .taken) (b .0))
 
 coupling-key-requires : tie.Need-coupling-key-requires Inv-loop μ-loop
 coupling-key-requires c κs = search needs
@@ -123,7 +122,7 @@ unfolding couplingsIn couplingSection
 returns-3 c =
     let l = c .before .loop in
     let cs = componentsIn (now (c .before .before .before .before .before .before .before .before .before .before .args .components)) in
-    sym (rw (c .before .before .before .before .before .before .size16 .ensures) at (opened-good 4 (atMost maxCouplings) toCoupling (couplingFits cs) 8 (now (c .before .before .before .before .before .before .before .before .before .before .args .s)) (c .before .before .before .before .before .before .size16 .result) (now (c .before .before .section-part .result)) (omega arith) (opened (c .before .before)) (l .i) (l .inv .1) (c .loop-test .left)))
+    sym (rw (c .before .before .before .before .before .before .size16 .ensures) at (opened-good 4 (limitRefusal maxCouplings) toCoupling (couplingFits cs) 8 (now (c .before .before .before .before .before .before .before .before .before .before .args .s)) (c .before .before .before .before .before .before .size16 .result) (now (c .before .before .section-part .result)) (omega arith) (opened (c .before .before)) (l .i) (l .inv .1) (c .loop-test .left)))
 
 pub read-couplings-spec : {M : Type 1} → statement M
 read-couplings-spec =

@@ -11,8 +11,8 @@ use native.Mathlib.Nat.{add-zero}
 use Rattle.definition.specs.Lists.{all, upFrom}
 use Rattle.definition.specs.Bytes.{refused, numberOf}
 use Rattle.definition.specs.Model.{componentAt, noPhase, phasesBefore}
-use Rattle.definition.specs.Records.{toPhase, phaseFields, phaseFits}
-use Rattle.definition.specs.File.{phaseCount, phaseTotal, phaseSection}
+use Rattle.definition.specs.File.{phaseTotal}
+use Rattle.definition.specs.Pinned.Decoder.{toPhase, phaseFields, phaseFits, phaseCountRefusal, phaseSection}
 use Rattle.model_records.specs.Values.{componentsIn, phasesIn}
 use Rattle.model_checks.specs.Reads.{checked, phaseRead}
 use Rattle.model_records.proofs.Before.{before-none, before-more, before-all}
@@ -40,24 +40,24 @@ abbrev μ-loop : tie.MeasureT-loop
 
 -- The head is right: its count, and the slice of the records.
 opened : (c : tie.After-section-part Inv-loop2 μ-loop2 Inv-loop μ-loop)
-    → Opened 18 (phaseCount (phaseTotal (componentsIn (now (c .before .before .before .before .before .before .before .before .before .before .args .components))))) (now (c .before .before .before .before .before .before .before .before .before .before .args .s)) (c .before .before .before .before .before .before .size16 .result) (now (c .section-part .result))
+    → Opened 18 (phaseCountRefusal (phaseTotal (componentsIn (now (c .before .before .before .before .before .before .before .before .before .before .args .components))))) (now (c .before .before .before .before .before .before .before .before .before .before .args .s)) (c .before .before .before .before .before .before .size16 .result) (now (c .section-part .result))
 opened c =
     let cs = componentsIn (now (c .before .before .before .before .before .before .before .before .before .before .args .components)) in
     let s = now (c .before .before .before .before .before .before .before .before .before .before .args .s) in
     let e = c .before .before .before .before .before .before .size16 .ensures in
-    let h = head-is 18 (phaseCount (phaseTotal cs)) s (e ∙ c .before .before .before .before .before .before .before .u16-at .ensures) (c .before .before .before .phase-wrong .ensures ∙ ap (λ t. phaseCount t (c .before .before .before .before .before .before .size16 .result)) (c .before .before .before .before .phase-total .ensures)) (c .before .before .head-number .ensures) in
+    let h = head-is 18 (phaseCountRefusal (phaseTotal cs)) s (e ∙ c .before .before .before .before .before .before .before .u16-at .ensures) (c .before .before .before .phase-wrong .ensures ∙ ap (λ t. phaseCountRefusal t (c .before .before .before .before .before .before .size16 .result)) (c .before .before .before .before .phase-total .ensures)) (c .before .before .head-number .ensures) in
     record { count = e ∙ c .before .before .before .before .before .before .before .u16-at .ensures; part = c .section-part .ensures ∙ ap (λ n. partOf 18 n s) (sym e); head = sym h ∙ c .before .if1 .left }
 
 -- So many records there are, and the count is the sum of the phase counts.
 there : (c : tie.After-section-part Inv-loop2 μ-loop2 Inv-loop μ-loop) → length (phasesIn (now (c .section-part .result))) ≡ c .before .before .before .before .before .before .size16 .result
 unfolding phasesIn
 there c =
-    opened-count 18 (phaseCount (phaseTotal (componentsIn (now (c .before .before .before .before .before .before .before .before .before .before .args .components))))) toPhase (now (c .before .before .before .before .before .before .before .before .before .before .args .s)) (c .before .before .before .before .before .before .size16 .result) (now (c .section-part .result)) (omega arith) (opened c)
+    opened-count 18 (phaseCountRefusal (phaseTotal (componentsIn (now (c .before .before .before .before .before .before .before .before .before .before .args .components))))) toPhase (now (c .before .before .before .before .before .before .before .before .before .before .args .s)) (c .before .before .before .before .before .before .size16 .result) (now (c .section-part .result)) (omega arith) (opened c)
 
 counted : (c : tie.After-section-part Inv-loop2 μ-loop2 Inv-loop μ-loop) → c .before .before .before .before .before .before .size16 .result ≡ phaseTotal (componentsIn (now (c .before .before .before .before .before .before .before .before .before .before .args .components)))
 counted c =
     let h = opened c in
-    let w = phaseCount (phaseTotal (componentsIn (now (c .before .before .before .before .before .before .before .before .before .before .args .components)))) in
+    let w = phaseCountRefusal (phaseTotal (componentsIn (now (c .before .before .before .before .before .before .before .before .before .before .args .components)))) in
     count-total _ _ (ap w (h .count) ∙ head-ok 18 w (now (c .before .before .before .before .before .before .before .before .before .before .args .s)) (h .head) .1)
 
 -- The bound is the phase count of the component at hand.
@@ -103,7 +103,7 @@ unfolding phaseSection
 returns c =
     let cs = componentsIn (now (c .before .before .before .before .before .before .before .before .before .args .components)) in
     let s = now (c .before .before .before .before .before .before .before .before .before .args .s) in
-    sym (section-head 18 (phaseCount (phaseTotal cs)) toPhase (phaseFits cs) 6 s (head-is 18 (phaseCount (phaseTotal cs)) s (c .before .before .before .before .before .size16 .ensures ∙ c .before .before .before .before .before .before .u16-at .ensures) (c .before .before .phase-wrong .ensures ∙ ap (λ t. phaseCount t (c .before .before .before .before .before .size16 .result)) (c .before .before .before .phase-total .ensures)) (c .before .head-number .ensures)) (c .if1 .taken))
+    sym (section-head 18 (phaseCountRefusal (phaseTotal cs)) toPhase (phaseFits cs) 6 s (head-is 18 (phaseCountRefusal (phaseTotal cs)) s (c .before .before .before .before .before .size16 .ensures ∙ c .before .before .before .before .before .before .u16-at .ensures) (c .before .before .phase-wrong .ensures ∙ ap (λ t. phaseCountRefusal t (c .before .before .before .before .before .size16 .result)) (c .before .before .before .phase-total .ensures)) (c .before .head-number .ensures)) (c .if1 .taken))
 
 section-part-requires : tie.Need-section-part-requires Inv-loop2 μ-loop2 Inv-loop μ-loop
 section-part-requires c κs = search needs
@@ -147,7 +147,7 @@ returns-2 c =
     let m : c .phase-refusal .result ≡ k = c .phase-refusal .ensures ∙ ap (λ q. numberOf (phaseRead q)) (c .before .enum-told2 .given .1) in
     let t = tested (c .before .before .before .before) in
     ap refused (m ∙ b .1)
-    ∙ sym (opened-bad 18 (phaseCount (phaseTotal cs)) toPhase (phaseFits cs) 6 (now (c .before .before .before .before .before .before .before .before .before .before .before .before .before .before .before .before .before .before .before .args .s)) (c .before .before .before .before .before .before .before .before .before .before .before .before .before .before .before .size16 .result) r (omega arith) (opened (c .before .before .before .before .before .before .before .before .before)) (l .i) (l .inv .2) (t .0) (t .1 ∙ b .0))
+    ∙ sym (opened-bad 18 (phaseCountRefusal (phaseTotal cs)) toPhase (phaseFits cs) 6 (now (c .before .before .before .before .before .before .before .before .before .before .before .before .before .before .before .before .before .before .before .args .s)) (c .before .before .before .before .before .before .before .before .before .before .before .before .before .before .before .size16 .result) r (omega arith) (opened (c .before .before .before .before .before .before .before .before .before)) (l .i) (l .inv .2) (t .0) (t .1 ∙ b .0))
 
 add-i : tie.Need-add-i Inv-loop2 μ-loop2 Inv-loop μ-loop
 add-i c = let t = tested (c .before .before .before) in omega arith
@@ -197,7 +197,7 @@ returns-3 c =
     let e : l .c ≡ length cs = omega (arith, c .before .before .before .before .before .before .before .component-count .ensures) in
     let f : l .i ≡ phaseTotal cs = l .inv .1 ∙ ap (phasesBefore cs) e ∙ before-all cs in
     let g = counted (c .before .before) in
-    sym (rw (c .before .before .before .before .before .before .before .before .size16 .ensures) at (opened-good 18 (phaseCount (phaseTotal cs)) toPhase (phaseFits cs) 6 (now (c .before .before .before .before .before .before .before .before .before .before .before .before .args .s)) (c .before .before .before .before .before .before .before .before .size16 .result) (now (c .before .before .section-part .result)) (omega arith) (opened (c .before .before)) (l .i) (l .inv .2) (omega arith)))
+    sym (rw (c .before .before .before .before .before .before .before .before .size16 .ensures) at (opened-good 18 (phaseCountRefusal (phaseTotal cs)) toPhase (phaseFits cs) 6 (now (c .before .before .before .before .before .before .before .before .before .before .before .before .args .s)) (c .before .before .before .before .before .before .before .before .size16 .result) (now (c .before .before .section-part .result)) (omega arith) (opened (c .before .before)) (l .i) (l .inv .2) (omega arith)))
 
 pub read-phases-spec : {M : Type 1} → statement M
 read-phases-spec =

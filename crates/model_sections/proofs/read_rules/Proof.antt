@@ -10,8 +10,7 @@ use Rattle.definition.specs.Lists.{all, upFrom}
 use Rattle.definition.specs.Limits.{maxRules}
 use Rattle.definition.specs.Bytes.{refused, numberOf}
 use Rattle.definition.specs.Model.{noRule}
-use Rattle.definition.specs.Records.{toRule, ruleFields, ruleFits}
-use Rattle.definition.specs.File.{atMost, ruleSection}
+use Rattle.definition.specs.Pinned.Decoder.{toRule, ruleFields, ruleFits, limitRefusal, ruleSection}
 use Rattle.model_records.specs.Values.{componentsIn, rulesIn}
 use Rattle.model_checks.specs.Reads.{checked, ruleRead}
 use Rattle.byte_laws.proofs.Alls.{all-start, all-more}
@@ -29,17 +28,17 @@ abbrev μ-loop : tie.MeasureT-loop
 μ-loop components phase-counts s count n head records i₀ i = n - i
 
 -- The head is right: its count, and the slice of the records.
-opened : (c : tie.After-section-part Inv-loop μ-loop) → Opened 18 (atMost maxRules) (now (c .before .before .before .before .before .before .before .before .args .s)) (c .before .before .before .before .size16 .result) (now (c .section-part .result))
+opened : (c : tie.After-section-part Inv-loop μ-loop) → Opened 18 (limitRefusal maxRules) (now (c .before .before .before .before .before .before .before .before .args .s)) (c .before .before .before .before .size16 .result) (now (c .section-part .result))
 opened c =
     let s = now (c .before .before .before .before .before .before .before .before .args .s) in
     let e = c .before .before .before .before .size16 .ensures in
-    let h = head-is 18 (atMost maxRules) s (e ∙ c .before .before .before .before .before .u16-at .ensures) (c .before .before .before .over-wrong .ensures) (c .before .before .head-number .ensures) in
+    let h = head-is 18 (limitRefusal maxRules) s (e ∙ c .before .before .before .before .before .u16-at .ensures) (c .before .before .before .over-wrong .ensures) (c .before .before .head-number .ensures) in
     record { count = e ∙ c .before .before .before .before .before .u16-at .ensures; part = c .section-part .ensures ∙ ap (λ n. partOf 18 n s) (sym e); head = sym h ∙ c .before .if1 .left }
 
 there : (c : tie.After-section-part Inv-loop μ-loop) → length (rulesIn (now (c .section-part .result))) ≡ c .before .before .before .before .size16 .result
 unfolding rulesIn
 there c =
-    opened-count 18 (atMost maxRules) toRule (now (c .before .before .before .before .before .before .before .before .args .s)) (c .before .before .before .before .size16 .result) (now (c .section-part .result)) (omega arith) (opened c)
+    opened-count 18 (limitRefusal maxRules) toRule (now (c .before .before .before .before .before .before .before .before .args .s)) (c .before .before .before .before .size16 .result) (now (c .section-part .result)) (omega arith) (opened c)
 
 u16-at-requires : tie.Need-u16-at-requires Inv-loop μ-loop
 u16-at-requires c κs = search needs
@@ -58,7 +57,7 @@ unfolding ruleSection
 returns c =
     let cs = componentsIn (now (c .before .before .before .before .before .before .before .args .components)) in
     let s = now (c .before .before .before .before .before .before .before .args .s) in
-    sym (section-head 18 (atMost maxRules) toRule (ruleFits cs) 7 s (head-is 18 (atMost maxRules) s (c .before .before .before .size16 .ensures ∙ c .before .before .before .before .u16-at .ensures) (c .before .before .over-wrong .ensures) (c .before .head-number .ensures)) (c .if1 .taken))
+    sym (section-head 18 (limitRefusal maxRules) toRule (ruleFits cs) 7 s (head-is 18 (limitRefusal maxRules) s (c .before .before .before .size16 .ensures ∙ c .before .before .before .before .u16-at .ensures) (c .before .before .over-wrong .ensures) (c .before .head-number .ensures)) (c .if1 .taken))
 
 section-part-requires : tie.Need-section-part-requires Inv-loop μ-loop
 section-part-requires c κs = search needs
@@ -93,7 +92,7 @@ returns-2 c =
     let b = failed (ruleFields cs (getD xs (l .i) noRule)) 7 (getD xs (l .i) noRule) {m = k} (ap ruleRead (sym (c .before .enum-told2 .given .1)) ∙ c .before .before .before .read-rule .ensures) in
     let m : c .rule-refusal .result ≡ k = c .rule-refusal .ensures ∙ ap (λ q. numberOf (ruleRead q)) (c .before .enum-told2 .given .1) in
     ap refused (m ∙ b .1)
-    ∙ sym (opened-bad 18 (atMost maxRules) toRule (ruleFits cs) 7 (now (c .before .before .before .before .before .before .before .before .before .before .before .before .before .before .args .s)) (c .before .before .before .before .before .before .before .before .before .before .size16 .result) r (omega arith) (opened (c .before .before .before .before .before .before)) (l .i) (l .inv .1) (c .before .before .before .before .loop-test .taken) (b .0))
+    ∙ sym (opened-bad 18 (limitRefusal maxRules) toRule (ruleFits cs) 7 (now (c .before .before .before .before .before .before .before .before .before .before .before .before .before .before .args .s)) (c .before .before .before .before .before .before .before .before .before .before .size16 .result) r (omega arith) (opened (c .before .before .before .before .before .before)) (l .i) (l .inv .1) (c .before .before .before .before .loop-test .taken) (b .0))
 
 add-i : tie.Need-add-i Inv-loop μ-loop
 add-i c = search needs
@@ -115,7 +114,7 @@ unfolding rulesIn ruleSection
 returns-3 c =
     let l = c .before .loop in
     let cs = componentsIn (now (c .before .before .before .before .before .before .before .before .before .before .args .components)) in
-    sym (rw (c .before .before .before .before .before .before .size16 .ensures) at (opened-good 18 (atMost maxRules) toRule (ruleFits cs) 7 (now (c .before .before .before .before .before .before .before .before .before .before .args .s)) (c .before .before .before .before .before .before .size16 .result) (now (c .before .before .section-part .result)) (omega arith) (opened (c .before .before)) (l .i) (l .inv .1) (c .loop-test .left)))
+    sym (rw (c .before .before .before .before .before .before .size16 .ensures) at (opened-good 18 (limitRefusal maxRules) toRule (ruleFits cs) 7 (now (c .before .before .before .before .before .before .before .before .before .before .args .s)) (c .before .before .before .before .before .before .size16 .result) (now (c .before .before .section-part .result)) (omega arith) (opened (c .before .before)) (l .i) (l .inv .1) (c .loop-test .left)))
 
 pub read-rules-spec : {M : Type 1} → statement M
 read-rules-spec =

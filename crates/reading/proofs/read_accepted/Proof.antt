@@ -9,7 +9,7 @@ use Rattle.run_calls.proofs.Starts.{few-components}
 use Rattle.saved_run.specs.Runs.{bare, entryOf}
 use Rattle.model.specs.Checked.{modelOf}
 use Rattle.model_records.specs.Values.{componentsIn}
-use Rattle.definition.specs.SavedRun.{fits}
+use Rattle.definition.specs.SavedRun.{runFits}
 use Rattle.definition.specs.Model.{atomics}
 use Rattle.definition.specs.Bytes.{Bytes}
 use lib.ListN.{length}
@@ -35,7 +35,7 @@ refused-requires c κs = search needs
 returns : tie.Need-returns
 returns c =
     let a = c .before .before .before .before .before .before .before .args in
-    let f = c .before .before .fits2 .ensures ∙ ap₂ (λ (x y : Bytes). fits (bare x y) (a .run .now)) (c .before .before .before .before .components-of .ensures) (c .before .before .before .phases-of .ensures) ∙ fits-file (a .file .now) (a .run .now) (a .n) in
+    let f = c .before .before .fits2 .ensures ∙ ap₂ (λ (x y : Bytes). runFits (bare x y) (a .run .now)) (c .before .before .before .before .components-of .ensures) (c .before .before .before .phases-of .ensures) ∙ fits-file (a .file .now) (a .run .now) (a .n) in
     c .refused .ensures ∙ read-unfit (a .file .now) (a .run .now) (a .position) (modelOf (a .file .now) (a .n)) (c .before .before .before .before .before .before .before .pre .0) (sym f ∙ not-true (c .before .before .fits2 .result) (c .before .if1 .taken))
 
 atomic-count-requires : tie.Need-atomic-count-requires
@@ -47,7 +47,7 @@ refused-requires-2 c κs = search needs
 returns-2 : tie.Need-returns-2
 returns-2 c =
     let a = c .before .before .before .before .before .before .before .before .before .args in
-    let f = c .before .before .before .before .fits2 .ensures ∙ ap₂ (λ (x y : Bytes). fits (bare x y) (a .run .now)) (c .before .before .before .before .before .before .components-of .ensures) (c .before .before .before .before .before .phases-of .ensures) ∙ fits-file (a .file .now) (a .run .now) (a .n) in
+    let f = c .before .before .before .before .fits2 .ensures ∙ ap₂ (λ (x y : Bytes). runFits (bare x y) (a .run .now)) (c .before .before .before .before .before .before .components-of .ensures) (c .before .before .before .before .before .phases-of .ensures) ∙ fits-file (a .file .now) (a .run .now) (a .n) in
     let ce = c .before .before .atomic-count .ensures ∙ ap (λ (s : Bytes). length (atomics (componentsIn s))) (c .before .before .before .before .before .before .components-of .ensures) ∙ count-file (a .file .now) (a .n) in
     c .refused2 .ensures ∙ read-past (a .file .now) (a .run .now) (a .position) (modelOf (a .file .now) (a .n)) (c .before .before .before .before .before .before .before .before .before .pre .0) (sym f ∙ not-false (c .before .before .before .before .fits2 .result) (c .before .before .before .if1 .left)) (omega (arith, ce, c .before .if2 .taken))
 
@@ -63,7 +63,7 @@ wide-requires c κs = search needs
 whole-due-requires : tie.Need-whole-due-requires
 whole-due-requires c κs =
     let a = c .before .before .before .before .before .before .before .before .before .before .before .args in
-    let f = c .before .before .before .before .before .before .fits2 .ensures ∙ ap₂ (λ (x y : Bytes). fits (bare x y) (a .run .now)) (c .before .before .before .before .before .before .before .before .components-of .ensures) (c .before .before .before .before .before .before .before .phases-of .ensures) ∙ fits-file (a .file .now) (a .run .now) (a .n) in
+    let f = c .before .before .before .before .before .before .fits2 .ensures ∙ ap₂ (λ (x y : Bytes). runFits (bare x y) (a .run .now)) (c .before .before .before .before .before .before .before .before .components-of .ensures) (c .before .before .before .before .before .before .before .phases-of .ensures) ∙ fits-file (a .file .now) (a .run .now) (a .n) in
     let ce = c .before .before .before .before .atomic-count .ensures ∙ ap (λ (s : Bytes). length (atomics (componentsIn s))) (c .before .before .before .before .before .before .before .before .components-of .ensures) ∙ count-file (a .file .now) (a .n) in
     let given = c .before .before .before .before .before .before .before .before .before .before .before .pre in
     (given .0, given .1, sym f ∙ not-false (c .before .before .before .before .before .before .fits2 .result) (c .before .before .before .before .before .if1 .left), ce)
@@ -71,7 +71,7 @@ whole-due-requires c κs =
 returns-3 : tie.Need-returns-3
 returns-3 c =
     let a = c .before .before .before .before .before .before .before .before .before .before .before .before .args in
-    let f = c .before .before .before .before .before .before .before .fits2 .ensures ∙ ap₂ (λ (x y : Bytes). fits (bare x y) (a .run .now)) (c .before .before .before .before .before .before .before .before .before .components-of .ensures) (c .before .before .before .before .before .before .before .before .phases-of .ensures) ∙ fits-file (a .file .now) (a .run .now) (a .n) in
+    let f = c .before .before .before .before .before .before .before .fits2 .ensures ∙ ap₂ (λ (x y : Bytes). runFits (bare x y) (a .run .now)) (c .before .before .before .before .before .before .before .before .before .components-of .ensures) (c .before .before .before .before .before .before .before .before .phases-of .ensures) ∙ fits-file (a .file .now) (a .run .now) (a .n) in
     let ce = c .before .before .before .before .before .atomic-count .ensures ∙ ap (λ (s : Bytes). length (atomics (componentsIn s))) (c .before .before .before .before .before .before .before .before .before .components-of .ensures) ∙ count-file (a .file .now) (a .n) in
     let m = modelOf (a .file .now) (a .n) in
     let l : a .position < length (atomics (m .components)) = omega (arith, ce, c .before .before .before .before .if2 .left) in

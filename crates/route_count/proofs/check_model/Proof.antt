@@ -5,7 +5,7 @@ use denote.Ref.{now}
 use Rattle.route_count.proofs.Accepted.{number-of}
 use mathlib.Core.Path.{ap, _∙_}
 use Rattle.definition.specs.Bytes.{numberOf}
-use Rattle.definition.specs.Routes.{checkModel}
+use Rattle.definition.specs.Pinned.Decoder.{checkModel}
 use Rattle.route_count.proofs.check_model.Statement.{statement}
 use Rattle.route_count.proofs.check_model.Tie as tie
 
