@@ -90,7 +90,7 @@ pub data AdvanceNumber (file run : Bytes) (t : ℕ) (bag trace : Bytes) : ℕ �
 pub record Demand1 : Type 0 where
   -- A model outside the layouts is refused by its listed number: the number of a file is that of the table, and no other.
   pub model-judged : (file : Bytes) → AllBytes file → Judged file (checkModel file)
-  pub model-only : (file : Bytes) (n : ℕ) → AllBytes file → Judged file n → checkModel file ≡ n
+  pub model-only : (file : Bytes) (n : ℕ) → Judged file n → checkModel file ≡ n
   pub model-numbers : (file : Bytes) (n : ℕ) → Judged file n → n ≤ 9
   -- Everything else is accepted: each model within the layouts by its bytes, and nothing else; so a model has one file.
   pub sound-accepted : (m : Model) → Sound m → accepted (modelBytes m) ≡ ok m
@@ -101,15 +101,15 @@ pub record Demand1 : Type 0 where
   pub fits-bag : (bag : Bytes) → AllBytes bag → bagFits bag ≡ true → BagFits bag (toBag bag)
   pub bag-fits : (bag : Bytes) (x : Bag) → BagFits bag x → (bagFits bag ≡ true) × (toBag bag ≡ x)
   -- A call is refused by its listed number and changes no lent byte; each number is given "on its condition and never otherwise".
-  pub start-refused : (file buffer : Bytes) (n : ℕ) → AllBytes file → StartRefusal file buffer n → start file buffer ≡ refusedWrite n buffer
+  pub start-refused : (file buffer : Bytes) (n : ℕ) → StartRefusal file buffer n → start file buffer ≡ refusedWrite n buffer
   pub start-number : (file buffer : Bytes) → AllBytes file → 0 < start file buffer .number → StartRefusal file buffer (start file buffer .number)
-  pub flatten-refused : (file buffer : Bytes) (n : ℕ) → AllBytes file → FlattenRefusal file buffer n → flatten file buffer ≡ refusedWrite n buffer
+  pub flatten-refused : (file buffer : Bytes) (n : ℕ) → FlattenRefusal file buffer n → flatten file buffer ≡ refusedWrite n buffer
   pub flatten-number : (file buffer : Bytes) → AllBytes file → 0 < flatten file buffer .number → FlattenRefusal file buffer (flatten file buffer .number)
-  pub reading-refused : (file run : Bytes) (position n : ℕ) → AllBytes file → ReadingRefusal file run position n
+  pub reading-refused : (file run : Bytes) (position n : ℕ) → ReadingRefusal file run position n
       → reading file run position ≡ refusedReading n
   pub reading-number : (file run : Bytes) (position : ℕ) → AllBytes file → 0 < reading file run position .number
       → ReadingRefusal file run position (reading file run position .number)
-  pub advance-refused : (file run : Bytes) (t : ℕ) (bag trace : Bytes) (n : ℕ) → AllBytes file → AdvanceRefusal file run t bag n
+  pub advance-refused : (file run : Bytes) (t : ℕ) (bag trace : Bytes) (n : ℕ) → AdvanceRefusal file run t bag n
       → advance file run t bag trace ≡ refusedAdvance n run trace
   pub advance-number : (file run : Bytes) (t : ℕ) (bag trace : Bytes) → AllBytes file
       → AdvanceNumber file run t bag trace (advance file run t bag trace .number)

@@ -61,7 +61,7 @@ module _ (r : Bytes) (b : AllBytes r) where
 
 -- ---- a count that gets no number
 
-most-within : (limit n : ℕ) → limitRefusal limit n ≡ 0 → n ≤ limit
+pub most-within : (limit n : ℕ) → limitRefusal limit n ≡ 0 → n ≤ limit
 unfolding limitRefusal
 most-within limit n e = go (ltb limit n) refl
   where
@@ -69,7 +69,7 @@ most-within limit n e = go (ltb limit n) refl
     go true f = absurd (let g = rw f at e in omega arith)
     go false f = ltb-false limit n f
 
-components-within : (n : ℕ) → componentCountRefusal n ≡ 0 → n ≤ maxComponents
+pub components-within : (n : ℕ) → componentCountRefusal n ≡ 0 → n ≤ maxComponents
 unfolding componentCountRefusal
 components-within n e = go (ltb maxComponents n) refl
   where
@@ -82,7 +82,7 @@ unfolding componentCountRefusal
 components-some zero e = absurd (omega arith)
 components-some (suc n) e = omega arith
 
-phases-right : (total n : ℕ) → phaseCountRefusal total n ≡ 0 → (n ≤ maxPhases) × (n ≡ total)
+pub phases-right : (total n : ℕ) → phaseCountRefusal total n ≡ 0 → (n ≤ maxPhases) × (n ≡ total)
 unfolding phaseCountRefusal
 phases-right total n e = go (ltb maxPhases n) refl (eqb n total) refl
   where

@@ -105,9 +105,9 @@ some-row file h = components (found component-reads file h)
 
 -- ---- each number is given on its condition and never otherwise
 
-pub judged-only : (file : Bytes) (n : ℕ) → AllBytes file → Judged file n → checkModel file ≡ n
+pub judged-only : (file : Bytes) (n : ℕ) → Judged file n → checkModel file ≡ n
 unfolding checkModel
-judged-only file n h j = go (answered file n j)
+judged-only file n j = go (answered file n j)
   where
     go : Answered file n → numberOf (accepted file) ≡ n
     go (refuses e) = ap numberOf e
@@ -116,7 +116,7 @@ judged-only file n h j = go (answered file n j)
 pub judged : (file : Bytes) → AllBytes file → Judged file (checkModel file)
 judged file h =
     let j = some-row file h in
-    subst (Judged file) (sym (judged-only file (j .0) h (j .1))) (j .1)
+    subst (Judged file) (sym (judged-only file (j .0) (j .1))) (j .1)
 
 -- ---- the accepted files are the bytes of the sound models
 

@@ -16,6 +16,7 @@ use Rattle.definition.specs.Limits.{countSize, maxComponents, maxPhases, maxRul
 use Rattle.definition.specs.File.{phaseTotal}
 use Rattle.definition.specs.Routes.{routes}
 use Rattle.definition.specs.Pinned.Decoder.{toComponent, componentFits, toPhase, phaseFits, toRule, ruleFits, toCoupling, couplingFits, Section, sectionCount, section, componentCountRefusal, phaseCountRefusal, limitRefusal, componentSection, phaseSection, ruleSection, couplingSection, endOfFile, decode, accepted}
+use Rattle.model_laws.proofs.Reading.{most-within, components-within, phases-right}
 
 -- ---- parts of a front
 
@@ -100,30 +101,6 @@ module _ {A : Type 0} (size : ℕ) (wrong : ℕ → ℕ) (to : Bytes → A) (fit
 
 -- ---- the file
 
-most-within : (limit n : ℕ) → limitRefusal limit n ≡ 0 → n ≤ limit
-unfolding limitRefusal
-most-within limit n e = go (ltb limit n) refl
-  where
-    go : (t : Bool) → ltb limit n ≡ t → n ≤ limit
-    go true f = absurd (let g = rw f at e in omega arith)
-    go false f = ltb-false limit n f
-
-components-within : (n : ℕ) → componentCountRefusal n ≡ 0 → n ≤ maxComponents
-unfolding componentCountRefusal
-components-within n e = go (ltb maxComponents n) refl
-  where
-    go : (t : Bool) → ltb maxComponents n ≡ t → n ≤ maxComponents
-    go true f = absurd (let g = rw f at e in omega arith)
-    go false f = ltb-false maxComponents n f
-
-phases-within : (total n : ℕ) → phaseCountRefusal total n ≡ 0 → n ≤ maxPhases
-unfolding phaseCountRefusal
-phases-within total n e = go (ltb maxPhases n) refl
-  where
-    go : (t : Bool) → ltb maxPhases n ≡ t → n ≤ maxPhases
-    go true f = absurd (let g = rw f at e in omega arith)
-    go false f = ltb-false maxPhases n f
-
 left-over : (s : Bytes) → 1 ≤ length s → endOfFile s ≡ refused 2
 unfolding endOfFile
 left-over s h = rw (lt-ltb 0 (length s) h)
@@ -142,7 +119,7 @@ decode-front : (k : ℕ) (s : Bytes) → suc longestModel ≤ k → k ≤ length
 unfolding decode componentSection phaseSection ruleSection couplingSection
 decode-front k s h l =
     section-front componentSize componentCountRefusal toComponent componentFits 4 maxComponents components-within phaseRoom k s h l _ (λ cs s₁ k₁ h₁ l₁.
-    section-front phaseSize (phaseCountRefusal (phaseTotal cs)) toPhase (phaseFits cs) 6 maxPhases (phases-within (phaseTotal cs)) ruleRoom k₁ s₁ h₁ l₁ _ (λ ps s₂ k₂ h₂ l₂.
+    section-front phaseSize (phaseCountRefusal (phaseTotal cs)) toPhase (phaseFits cs) 6 maxPhases (λ n e. phases-right (phaseTotal cs) n e .0) ruleRoom k₁ s₁ h₁ l₁ _ (λ ps s₂ k₂ h₂ l₂.
     section-front ruleSize (limitRefusal maxRules) toRule (ruleFits cs) 7 maxRules (most-within maxRules) couplingRoom k₂ s₂ h₂ l₂ _ (λ rs s₃ k₃ h₃ l₃.
     section-front couplingSize (limitRefusal maxCouplings) toCoupling (couplingFits cs) 8 maxCouplings (most-within maxCouplings) 1 k₃ s₃ h₃ l₃ _ (λ ks s₄ k₄ h₄ l₄.
     ap (λ r. r >>= λ _. ok (record { components = cs; phases = ps; rules = rs; couplings = ks }))

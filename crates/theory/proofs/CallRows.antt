@@ -13,9 +13,9 @@ use Rattle.definition.specs.File.{modelBytes}
 use Rattle.definition.specs.Pinned.Decoder.{accepted, checkModel}
 use Rattle.definition.specs.Refusals.{Judged}
 use Rattle.definition.specs.SavedRun.{runLength, atomicCount, runFits}
-use Rattle.definition.specs.Engine.{start, wrote, advanceChecks, advanced, advance, reading, readingChecks, readAt, wasRead}
+use Rattle.definition.specs.Engine.{Wrote, start, wrote, advanceChecks, advanced, advance, reading, readingChecks, readAt, wasRead}
 use Rattle.definition.specs.Flatten.{flat, flatten}
-use Rattle.definition.specs.Demands.{refusedWrite, refusedAdvance, refusedReading, StartRefusal, FlattenRefusal, ReadingRefusal, AdvanceRefusal, writer-refuses-model, writer-refuses-buffer, reading-refuses-model, reading-refuses-run, reading-refuses-position, advance-refuses-model, advance-refuses-run, advance-refuses-time, advance-refuses-bag}
+use Rattle.definition.specs.Demands.{refusedWrite, refusedAdvance, refusedReading, WriterRefusal, StartRefusal, FlattenRefusal, ReadingRefusal, AdvanceRefusal, writer-refuses-model, writer-refuses-buffer, reading-refuses-model, reading-refuses-run, reading-refuses-position, advance-refuses-model, advance-refuses-run, advance-refuses-time, advance-refuses-bag}
 use Rattle.model_laws.proofs.Refusals.{Positive, accepted-positive}
 use Rattle.refusal_laws.proofs.Judged.{judged, judged-only}
 use Rattle.theory.proofs.Answering.{start-short, start-done, reading-position}
@@ -28,43 +28,52 @@ number-refused (ok a) n l e = absurd (omega arith)
 number-refused (refused k) n l e = ap refused e
 
 -- a row of the model's table refuses the file
-by-row : (file : Bytes) (n : ℕ) → AllBytes file → 0 < n → Judged file n → accepted file ≡ refused n
+by-row : (file : Bytes) (n : ℕ) → 0 < n → Judged file n → accepted file ≡ refused n
 unfolding checkModel
-by-row file n b l j = number-refused (accepted file) n l (judged-only file n b j)
+by-row file n l j = number-refused (accepted file) n l (judged-only file n j)
 
 -- and where it is refused, it is by such a row
 pub row-of : (file : Bytes) (n : ℕ) → AllBytes file → accepted file ≡ refused n → (0 < n) × Judged file n
 unfolding checkModel
 row-of file n b e = (subst Positive e (accepted-positive file), subst (Judged file) (ap numberOf e) (judged file b))
 
--- ---- start
+-- ---- a writer, by what it does with a model that is refused, with a buffer too short and with one long enough
+
+module _ (long : Model → ℕ) (file buffer : Bytes) (w : Wrote) (model : (n : ℕ) → accepted file ≡ refused n → w ≡ refusedWrite n buffer)
+    (short : (m : Model) → accepted file ≡ ok m → length buffer < long m → w ≡ refusedWrite 15 buffer)
+    (done : (m : Model) → accepted file ≡ ok m → long m ≤ length buffer → w .number ≡ 0) where
+  writer-refused : (n : ℕ) → WriterRefusal long file buffer n → w ≡ refusedWrite n buffer
+  writer-refused n (writer-refuses-model k l j) = model k (by-row file k l j)
+  writer-refused n (writer-refuses-buffer m e l) = short m e l
+
+  writer-number : AllBytes file → 0 < w .number → WriterRefusal long file buffer (w .number)
+  writer-number b l = go (accepted file) refl
+    where
+      refusal : (n : ℕ) → w ≡ refusedWrite n buffer → WriterRefusal long file buffer n → WriterRefusal long file buffer (w .number)
+      refusal n e h = subst (WriterRefusal long file buffer) (sym (ap (λ z. z .number) e)) h
+
+      go : (r : Result Model) → accepted file ≡ r → WriterRefusal long file buffer (w .number)
+      go (refused n) e = let h = row-of file n b e in refusal n (model n e) (writer-refuses-model n (h .0) (h .1))
+      go (ok m) e = room (ltb (length buffer) (long m)) refl
+        where
+          room : (c : Bool) → ltb (length buffer) (long m) ≡ c → WriterRefusal long file buffer (w .number)
+          room true f = let s = ltb-true (length buffer) (long m) f in refusal 15 (short m e s) (writer-refuses-buffer m e s)
+          room false f = absurd (omega (arith, l, done m e (ltb-false (length buffer) (long m) f)))
 
 module _ (file buffer : Bytes) where
   start-model : (n : ℕ) → accepted file ≡ refused n → start file buffer ≡ refusedWrite n buffer
   unfolding start wrote
   start-model n e = rw e
 
-  pub start-refused : (n : ℕ) → AllBytes file → StartRefusal file buffer n → start file buffer ≡ refusedWrite n buffer
-  start-refused n b (writer-refuses-model k l j) = start-model k (by-row file k b l j)
-  start-refused n b (writer-refuses-buffer m e l) = start-short file buffer m e l
+  start-long : (m : Model) → accepted file ≡ ok m → runLength (atomicCount m) ≤ length buffer → start file buffer .number ≡ 0
+  start-long m e l = ap (λ w. w .number) (start-done file buffer m e l)
+
+  pub start-refused : (n : ℕ) → StartRefusal file buffer n → start file buffer ≡ refusedWrite n buffer
+  start-refused = writer-refused _ file buffer (start file buffer) start-model (start-short file buffer) start-long
 
   pub start-number : AllBytes file → 0 < start file buffer .number → StartRefusal file buffer (start file buffer .number)
-  start-number b l = go (accepted file) refl
-    where
-      refusal : (r : ℕ) → start file buffer .number ≡ r → StartRefusal file buffer r → StartRefusal file buffer (start file buffer .number)
-      refusal r e h = subst (StartRefusal file buffer) (sym e) h
+  start-number = writer-number _ file buffer (start file buffer) start-model (start-short file buffer) start-long
 
-      go : (r : Result Model) → accepted file ≡ r → StartRefusal file buffer (start file buffer .number)
-      go (refused n) e = let h = row-of file n b e in refusal n (ap (λ w. w .number) (start-model n e)) (writer-refuses-model n (h .0) (h .1))
-      go (ok m) e = long (ltb (length buffer) (runLength (atomicCount m))) refl
-        where
-          long : (c : Bool) → ltb (length buffer) (runLength (atomicCount m)) ≡ c → StartRefusal file buffer (start file buffer .number)
-          long true f = let s = ltb-true (length buffer) (runLength (atomicCount m)) f in refusal 15 (ap (λ w. w .number) (start-short file buffer m e s)) (writer-refuses-buffer m e s)
-          long false f = absurd (omega (arith, l, ap (λ w. w .number) (start-done file buffer m e (ltb-false (length buffer) (runLength (atomicCount m)) f))))
-
--- ---- flatten
-
-module _ (file buffer : Bytes) where
   flatten-model : (n : ℕ) → accepted file ≡ refused n → flatten file buffer ≡ refusedWrite n buffer
   unfolding flatten wrote
   flatten-model n e = rw e
@@ -77,23 +86,11 @@ module _ (file buffer : Bytes) where
   unfolding flatten wrote
   flatten-long m e l = rw (e, le-ltb _ _ l)
 
-  pub flatten-refused : (n : ℕ) → AllBytes file → FlattenRefusal file buffer n → flatten file buffer ≡ refusedWrite n buffer
-  flatten-refused n b (writer-refuses-model k l j) = flatten-model k (by-row file k b l j)
-  flatten-refused n b (writer-refuses-buffer m e l) = flatten-short m e l
+  pub flatten-refused : (n : ℕ) → FlattenRefusal file buffer n → flatten file buffer ≡ refusedWrite n buffer
+  flatten-refused = writer-refused _ file buffer (flatten file buffer) flatten-model flatten-short flatten-long
 
   pub flatten-number : AllBytes file → 0 < flatten file buffer .number → FlattenRefusal file buffer (flatten file buffer .number)
-  flatten-number b l = go (accepted file) refl
-    where
-      refusal : (r : ℕ) → flatten file buffer .number ≡ r → FlattenRefusal file buffer r → FlattenRefusal file buffer (flatten file buffer .number)
-      refusal r e h = subst (FlattenRefusal file buffer) (sym e) h
-
-      go : (r : Result Model) → accepted file ≡ r → FlattenRefusal file buffer (flatten file buffer .number)
-      go (refused n) e = let h = row-of file n b e in refusal n (ap (λ w. w .number) (flatten-model n e)) (writer-refuses-model n (h .0) (h .1))
-      go (ok m) e = long (ltb (length buffer) (length (modelBytes (flat m)))) refl
-        where
-          long : (c : Bool) → ltb (length buffer) (length (modelBytes (flat m))) ≡ c → FlattenRefusal file buffer (flatten file buffer .number)
-          long true f = let s = ltb-true (length buffer) (length (modelBytes (flat m))) f in refusal 15 (ap (λ w. w .number) (flatten-short m e s)) (writer-refuses-buffer m e s)
-          long false f = absurd (omega (arith, l, flatten-long m e (ltb-false (length buffer) (length (modelBytes (flat m))) f)))
+  flatten-number = writer-number _ file buffer (flatten file buffer) flatten-model flatten-short flatten-long
 
 -- ---- reading
 
@@ -110,10 +107,10 @@ module _ (file run : Bytes) (at : ℕ) where
   unfolding reading wasRead readingChecks readAt
   reading-fine m e f l = rw (e, f, l)
 
-  pub reading-refused : (n : ℕ) → AllBytes file → ReadingRefusal file run at n → reading file run at ≡ refusedReading n
-  reading-refused n b (reading-refuses-model k l j) = reading-model k (by-row file k b l j)
-  reading-refused n b (reading-refuses-run m e f) = reading-run m e f
-  reading-refused n b (reading-refuses-position m e f l) = reading-position file run at m e f l
+  pub reading-refused : (n : ℕ) → ReadingRefusal file run at n → reading file run at ≡ refusedReading n
+  reading-refused n (reading-refuses-model k l j) = reading-model k (by-row file k l j)
+  reading-refused n (reading-refuses-run m e f) = reading-run m e f
+  reading-refused n (reading-refuses-position m e f l) = reading-position file run at m e f l
 
   pub reading-number : AllBytes file → 0 < reading file run at .number → ReadingRefusal file run at (reading file run at .number)
   reading-number b l = go (accepted file) refl
@@ -141,8 +138,8 @@ module _ (file run : Bytes) (t : ℕ) (given trace : Bytes) where
   unfolding advance advanced advanceChecks
   advance-run m e f = rw (e, f)
 
-  pub advance-refused : (n : ℕ) → AllBytes file → AdvanceRefusal file run t given n → advance file run t given trace ≡ refusedAdvance n run trace
-  advance-refused n b (advance-refuses-model k l j) = advance-model k (by-row file k b l j)
-  advance-refused n b (advance-refuses-run m e f) = advance-run m e f
-  advance-refused n b (advance-refuses-time m e f l) = advance-time file run t given trace m e f l
-  advance-refused n b (advance-refuses-bag m e f o l g) = advance-bag file run t given trace m e f o l g
+  pub advance-refused : (n : ℕ) → AdvanceRefusal file run t given n → advance file run t given trace ≡ refusedAdvance n run trace
+  advance-refused n (advance-refuses-model k l j) = advance-model k (by-row file k l j)
+  advance-refused n (advance-refuses-run m e f) = advance-run m e f
+  advance-refused n (advance-refuses-time m e f l) = advance-time file run t given trace m e f l
+  advance-refused n (advance-refuses-bag m e f o l g) = advance-bag file run t given trace m e f o l g

@@ -93,7 +93,7 @@ module _ (file run : Bytes) (t : ℕ) (bag trace : Bytes) (b : AllBytes file) wh
   number-by n e h = subst (AdvanceNumber file run t bag trace) (sym e) h
 
   number-row : (n : ℕ) → AdvanceRefusal file run t bag n → AdvanceNumber file run t bag trace (advance file run t bag trace .number)
-  number-row n r = number-by n (ap (λ a. a .number) (advance-refused file run t bag trace n b r)) (by-row n r)
+  number-row n r = number-by n (ap (λ a. a .number) (advance-refused file run t bag trace n r)) (by-row n r)
 
   -- a model that is accepted: its rows one after the other
   number-rows : (m : Model) → accepted file ≡ ok m → (r : Bool) → runFits m run ≡ r → (u : Bool) → ltb t (runOf m run .opening) ≡ u → (v : Bool) → ltb maxMoment t ≡ v

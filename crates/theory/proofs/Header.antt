@@ -45,7 +45,7 @@ module _ (file run : Bytes) (t : ℕ) (bag trace : Bytes) (m : Model) (b : AllBy
   -- ---- a number that comes from an instant
 
   no-row : (n : ℕ) → 12 < a .number → AdvanceRefusal file run t bag n → n ≤ 12 → ⊥
-  no-row n l r h = omega (arith, l, h, ap (λ (z : Advanced). z .number) (advance-refused file run t bag trace n b r))
+  no-row n l r h = omega (arith, l, h, ap (λ (z : Advanced). z .number) (advance-refused file run t bag trace n r))
 
   may : 12 < a .number → MayAdvance m run t bag
   may l = go (runFits m run) refl (ltb t (openingOf m run)) refl (ltb maxMoment t) refl (bagFits bag) refl
