@@ -106,7 +106,7 @@ fn accepted(
     Ok(())
 }
 
-/// Flattening into buffers of several lengths; the flat form is accepted and is its own flat form.
+/// Flattening into a buffer that is long enough or not.
 fn flattening(comparison: &mut Comparison, random: &mut Random, file: &[u8]) -> Compared<()> {
     let mut long = vec![0; 40_000];
     let length = reference::flatten(file, &mut long).bytes as usize;
@@ -117,6 +117,18 @@ fn flattening(comparison: &mut Comparison, random: &mut Random, file: &[u8]) -> 
         2 => length,
         _ => length + beyond,
     };
+    flatten_into(comparison, random, file, length, lent)
+}
+
+/// Flattening into a buffer of `lent` bytes where `length` are needed; the flat form is accepted and is
+/// its own flat form.
+pub fn flatten_into(
+    comparison: &mut Comparison,
+    random: &mut Random,
+    file: &[u8],
+    length: usize,
+    lent: usize,
+) -> Compared<()> {
     let (written, out) = comparison.flatten(file, &random.bytes(lent))?;
     let expected = if lent < length { (15, 0) } else { (0, length as u64) };
     if (written.number, written.bytes) != expected {

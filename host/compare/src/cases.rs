@@ -9,6 +9,8 @@ use crate::models::{chains, limits, nests};
 use crate::random::Random;
 use crate::runs::{self, RunDamage, RUN_DAMAGES};
 use crate::special;
+#[cfg(test)]
+use crate::{counts::Counts, notice, worked};
 use reference::decode::decode;
 use reference::model::Model;
 
@@ -176,4 +178,18 @@ fn bytes_changed(comparison: &mut Comparison, random: &mut Random) -> Compared<(
         };
     }
     calls_on_file(comparison, random, &file)
+}
+
+#[test]
+fn every_seed_meets_everything() {
+    for seed in 0..40 {
+        let counts = Counts::new(names().into_iter().chain(notice::NOTICED));
+        let mut comparison = Comparison::new(Vec::new(), counts);
+        worked::compare(&mut comparison).expect("the worked table");
+        for number in 0..fixed() {
+            let mut random = Random::for_case(seed, number as u64);
+            case(&mut comparison, &mut random, number).expect("a fixed case");
+        }
+        assert_eq!(comparison.counts.faults(), Vec::<String>::new(), "seed {seed}");
+    }
 }

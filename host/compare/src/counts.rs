@@ -65,10 +65,13 @@ impl Counts {
     }
 
     pub fn print(&self) {
+        let largest = self.numbers.iter().flatten().max().copied().unwrap_or(0);
+        let width = largest.to_string().len().max(8) + 1;
+        let columns = |row: &[u64]| row.iter().map(|n| format!("{n:>width$}")).collect::<String>();
         println!("numbers answered:");
-        println!("{:>12}{}", "", (0..17).map(|n| format!("{n:>9}")).collect::<String>());
+        println!("{:>12}{}", "", columns(&(0..17).collect::<Vec<u64>>()));
         for (row, (_, name)) in self.numbers.iter().zip(KINDS) {
-            println!("{name:>12}{}", row.iter().map(|n| format!("{n:>9}")).collect::<String>());
+            println!("{name:>12}{}", columns(row));
         }
         println!("transitions:");
         self.transitions.iter().for_each(|(name, count)| println!("{count:>12}  {name}"));

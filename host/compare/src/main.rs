@@ -29,7 +29,7 @@ use comparison::Comparison;
 use counts::Counts;
 use random::Random;
 use std::process::ExitCode;
-use std::time::Instant;
+use std::time::{Duration, Instant};
 
 struct Arguments {
     calls: u64,
@@ -73,15 +73,26 @@ impl Drop for TellOnPanic {
     }
 }
 
+/// A run of hours says now and then where it is.
+const TELL_EVERY: Duration = Duration::from_secs(60);
+
 fn run(arguments: &Arguments, comparison: &mut Comparison) -> Result<(), String> {
     if let Some(case) = arguments.case {
         return run_case(comparison, arguments.seed, case);
     }
     worked::compare(comparison)?;
+    let begun = Instant::now();
+    let mut next_told = TELL_EVERY;
     let mut case = 0;
     while case < cases::fixed() as u64 || comparison.calls < arguments.calls {
         run_case(comparison, arguments.seed, case)?;
         case += 1;
+        if begun.elapsed() >= next_told {
+            let seconds = begun.elapsed().as_secs();
+            let (calls, wanted) = (comparison.calls, arguments.calls);
+            eprintln!("{calls} of {wanted} calls, {case} cases, after {seconds} s");
+            next_told += TELL_EVERY;
+        }
     }
     println!("{case} cases");
     Ok(())

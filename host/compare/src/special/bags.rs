@@ -1,6 +1,6 @@
 //! The largest bags, directly and through a nest, and records of an instant up to many bytes.
 
-use super::{expect, success};
+use super::{expect, spread, success};
 use crate::comparison::{Compared, Comparison};
 use crate::random::Random;
 use reference::builder::{bag, phase, rule, Builder, NEVER};
@@ -41,12 +41,8 @@ pub fn largest_atomic_bags(comparison: &mut Comparison, random: &mut Random) -> 
 }
 
 /// Ten doublings over eight links: 1,024 ways.
-fn doublings(random: &mut Random) -> [usize; 8] {
-    let mut times = [1; 8];
-    for _ in 0..10 {
-        times[random.index(8)] *= 2;
-    }
-    times
+fn doublings(random: &mut Random) -> Vec<usize> {
+    spread(random, &[2; 10], 8, 0)
 }
 
 pub fn atomic_bag_through_levels(comparison: &mut Comparison, random: &mut Random) -> Compared<()> {

@@ -1,6 +1,7 @@
 //! Cases made for one boundary of a step, an instant or the routes, with the outcome they must have.
 
 mod bags;
+mod edges;
 mod steps;
 mod ways;
 
@@ -8,17 +9,21 @@ use crate::call::{Answer, Call};
 use crate::comparison::{Compared, Comparison};
 use crate::random::Random;
 use reference::builder::Builder;
+use reference::limits::COUPLINGS;
 use reference::saved_run;
 use reference::Advanced;
 
 pub type Special = fn(&mut Comparison, &mut Random) -> Compared<()>;
 
-pub const CASES: [Special; 14] = [
+pub const CASES: [Special; 17] = [
     bags::largest_atomic_bags,
     bags::atomic_bag_through_levels,
     bags::largest_root_bags,
     bags::root_bag_through_levels,
     bags::bursts,
+    edges::lengths,
+    edges::times_and_positions,
+    edges::given_bags,
     steps::zero_stay_steps,
     steps::long_elapsed,
     steps::highest_time,
@@ -58,4 +63,28 @@ fn expect(
 
 fn success(instants: u64, steps: u64, trace_bytes: u64) -> Advanced {
     Advanced { number: 0, instants, steps, trace_bytes }
+}
+
+/// How often each link of a way is repeated, so that the ways are the product of the factors: each
+/// factor is put on a link, none on the first `single` ones. Drawn again where it takes more couplings
+/// than a file may have, as it does where all the factors meet on one link.
+fn spread(random: &mut Random, factors: &[usize], links: usize, single: usize) -> Vec<usize> {
+    loop {
+        let mut times = vec![1; links];
+        for factor in factors {
+            times[single + random.index(links - single)] *= factor;
+        }
+        if times.iter().sum::<usize>() <= COUPLINGS {
+            return times;
+        }
+    }
+}
+
+#[test]
+fn spread_factors_fit_a_file() {
+    for seed in 0..5_000 {
+        let times = spread(&mut Random::new(seed), &[5, 5, 41], 15, 1);
+        assert_eq!(times.iter().product::<usize>(), 1_025);
+        assert!(times[0] == 1 && times.iter().sum::<usize>() <= COUPLINGS, "{times:?}");
+    }
 }

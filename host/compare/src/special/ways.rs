@@ -1,5 +1,6 @@
 //! Routes that add up to the limit or one more, and ways that begin nowhere.
 
+use super::spread;
 use crate::comparison::{Compared, Comparison};
 use crate::random::Random;
 use reference::builder::{phase, Builder, NEVER};
@@ -31,20 +32,30 @@ fn expect_number(
     Ok(())
 }
 
+/// The most atomics that share the rows to an output: a model has room for three components beside them.
+const MOST_SHARES: usize = 61;
+
+/// A sum divided into parts.
+fn parts(random: &mut Random, sum: usize) -> Vec<usize> {
+    let mut parts = Vec::new();
+    let mut left = sum;
+    while left > 0 {
+        let last = parts.len() + 1 == MOST_SHARES || random.percent(30);
+        let part = if last { left } else { random.between(1, left as u64) as usize };
+        parts.push(part);
+        left -= part;
+    }
+    parts
+}
+
 /// Atomics in one coupled component, `shares` rows to its output in all, each going on `outer` times
 /// to the root; and `direct` rows from the root's input to an atomic.
 fn shared(random: &mut Random, shares: usize, outer: usize, direct: usize) -> Builder {
     let mut model = Builder::new();
     let around = model.coupled(0);
-    let mut left = shares;
-    while left > 0 {
-        let rows = match random.percent(30) {
-            true => left,
-            false => random.between(1, left as u64) as usize,
-        };
+    for rows in parts(random, shares) {
         let atomic = model.atomic(around, &[phase(NEVER, 0, &[])]);
         model.couple_times(rows, atomic, random.below(4) as u8, around, 1);
-        left -= rows;
     }
     model.couple_times(outer, around, 1, 0, 2);
     let beside = model.atomic(0, &[phase(NEVER, 0, &[])]);
@@ -69,7 +80,7 @@ pub fn divided_routes(comparison: &mut Comparison, random: &mut Random) -> Compa
 pub fn factors_of_the_limit(comparison: &mut Comparison, random: &mut Random) -> Compared<()> {
     for (factors, number, name) in [(&[2; 10][..], 0, NAMES[2]), (&[5, 5, 41][..], 9, NAMES[3])] {
         // First with one link up that is not repeated, so that all the ways lead on from there.
-        for first in [1, 0] {
+        for single in [1, 0] {
             let mut model = Builder::new();
             let left = model.coupled_chain(0, 7);
             let source = model.atomic(left, &[phase(NEVER, 0, &[])]);
@@ -78,10 +89,7 @@ pub fn factors_of_the_limit(comparison: &mut Comparison, random: &mut Random) ->
             let mut links: Vec<(usize, usize)> = (1..source).rev().map(|to| (to + 1, to)).collect();
             links.push((1, source + 1));
             links.extend((source + 1..target).map(|from| (from, from + 1)));
-            let mut times = vec![1; links.len()];
-            for factor in factors {
-                times[first + random.index(links.len() - first)] *= factor;
-            }
+            let times = spread(random, factors, links.len(), single);
             for ((from, to), times) in links.into_iter().zip(times) {
                 model.couple_times(times, from, 0, to, 0);
             }
@@ -111,4 +119,12 @@ pub fn ways_from_nothing(comparison: &mut Comparison, random: &mut Random) -> Co
         super::expect(comparison, random, &model, (3, vec![0; 48], 45), done)?;
     }
     Ok(())
+}
+
+#[test]
+fn a_sum_has_few_parts() {
+    for seed in 0..1_000 {
+        let parts = parts(&mut Random::new(seed), 512);
+        assert!(parts.iter().sum::<usize>() == 512 && parts.len() <= MOST_SHARES, "{parts:?}");
+    }
 }
