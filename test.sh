@@ -61,6 +61,7 @@ host() {
 
 need python3 python3
 need cc gcc libc6-dev
+need c++ g++
 need cargo cargo rustc
 one layout rt fmt --check
 counted proofs rt ci

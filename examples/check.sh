@@ -38,11 +38,32 @@ done
 # The C boundary.
 [ -f target/staticlib/libc_interface.a ] || rt staticlib c_interface || exit 1
 
-# build NAME SOURCE: a C program over the library
+# build NAME SOURCE..: a C program over the library
 build() {
-  cc -std=c99 -Wall -Wextra -Werror -pedantic -O2 -I"$top/include" "$2" "$top/target/staticlib/libc_interface.a" \
+  cc -std=c99 -Wall -Wextra -Werror -pedantic -O2 -I"$top/include" "${@:2}" "$top/target/staticlib/libc_interface.a" \
     -lpthread -o "$made/$1" || failed=1
 }
+# build_as_cpp NAME SOURCE..: the same as C++
+build_as_cpp() {
+  c++ -std=c++11 -Wall -Wextra -Werror -pedantic -O2 -I"$top/include" -x c++ "${@:2}" -x none \
+    "$top/target/staticlib/libc_interface.a" -lpthread -o "$made/$1" || failed=1
+}
+# ran NAME COMMAND..: a program that says by its status whether all was well
+ran() {
+  if "${@:2}"; then
+    echo "$1: ok"
+  else
+    echo "$1: FAILED"
+    failed=1
+  fi
+}
+
+# The header, in two files of one program.
+printf '#include "pdevs.h"\n' >"$made/other.c"
+build header "$here/header.c" "$made/other.c"
+ran 'header as C' "$made/header"
+build_as_cpp header_as_cpp "$here/header.c" "$made/other.c"
+ran 'header as C++' "$made/header_as_cpp"
 
 # The inserter: cues that are all taken, a trace that is full again and again, and refusals.
 build inserter "$here/inserter.c"
@@ -70,11 +91,6 @@ insert jam 1 "$made/jam.model" captions
 
 # The heaviest calls on a stack of 256 KiB.
 build stack "$top/host/stack/stack.c"
-if "$made/stack" "$here"/*.model; then
-  echo "stack: ok"
-else
-  echo "stack: FAILED"
-  failed=1
-fi
+ran stack "$made/stack" "$here"/*.model
 
 [ "$failed" -eq 0 ]

@@ -13,13 +13,11 @@
 
 #include "pdevs.h"
 
-enum { MESSAGE = 3, RECORD_HEAD = 12, MAX_BAG = 16 * MESSAGE, TRACE = 4096 };
-
 /* One byte more than the longest model, so that a longer file is refused and not cut. */
 static uint8_t model[PDEVS_MAX_MODEL + 1];
 static size_t model_len;
 static uint8_t run[PDEVS_MAX_RUN];
-static uint8_t trace[TRACE];
+static uint8_t trace[4096];
 
 static uint64_t number_at(const uint8_t *bytes, int width) {
     uint64_t n = 0;
@@ -27,31 +25,9 @@ static uint64_t number_at(const uint8_t *bytes, int width) {
     return n;
 }
 
-static const char *meaning(uint64_t number) {
-    switch (number) {
-    case 1: return "the model file is cut off";
-    case 2: return "bytes are left over after the model";
-    case 3: return "a count is over its limit, or there is no component";
-    case 4: return "a component is wrong";
-    case 5: return "the phase count is not the sum";
-    case 6: return "a phase is wrong";
-    case 7: return "a rule is wrong";
-    case 8: return "a coupling is wrong";
-    case 9: return "more than 1,024 routes";
-    case 10: return "the saved run does not fit";
-    case 11: return "the moment is over already, or too late";
-    case 12: return "the bag is wrong";
-    case 13: return "an instant does not end";
-    case 14: return "too many messages at the root";
-    case 15: return "a buffer is too short";
-    case 16: return "no such atomic";
-    default: return "unknown number";
-    }
-}
-
 /* Tells a refusal; the exit status. */
 static int refused(const char *call, uint64_t number) {
-    printf("%s refused: %" PRIu64 ", %s\n", call, number, meaning(number));
+    printf("%s refused: %" PRIu64 ", %s\n", call, number, pdevs_words(number));
     return 1;
 }
 
@@ -59,11 +35,11 @@ static int refused(const char *call, uint64_t number) {
 static void put_up(size_t length) {
     const uint8_t *record = trace, *end = trace + length;
     while (record < end) {
-        uint64_t count = number_at(record + 10, 2);
-        printf("%" PRIu64 " %" PRIu64, number_at(record, 8), number_at(record + 8, 2));
-        record += RECORD_HEAD;
-        for (; count > 0; count--, record += MESSAGE)
-            printf(" %d:%" PRIu64, record[0], number_at(record + 1, 2));
+        uint64_t count = number_at(record + PDEVS_RECORD_MESSAGE_COUNT, 2);
+        printf("%" PRIu64 " %" PRIu64, number_at(record + PDEVS_RECORD_MOMENT, 8), number_at(record + PDEVS_RECORD_STEP, 2));
+        record += PDEVS_RECORD_HEAD_SIZE;
+        for (; count > 0; count--, record += PDEVS_MESSAGE_SIZE)
+            printf(" %d:%" PRIu64, record[PDEVS_MESSAGE_PORT], number_at(record + PDEVS_MESSAGE_VALUE, 2));
         putchar('\n');
     }
 }
@@ -73,15 +49,15 @@ static uint64_t advance(uint64_t t, const uint8_t *bag, size_t bag_len) {
     for (;;) {
         pdevs_advanced a = pdevs_advance(model, model_len, run, sizeof run, t, bag, bag_len, trace, sizeof trace);
         put_up(a.trace_bytes);
-        if (a.number != 15 || a.instants == 0) return a.number;
+        if (a.number != PDEVS_BUFFER_TOO_SHORT || a.instants == 0) return a.number;
     }
 }
 
 /* What the model does next, by itself. */
 static int tell_next(void) {
     pdevs_reading r = pdevs_read(model, model_len, run, sizeof run, 0);
-    if (r.number == 16) return 0; /* a model without atomics: nothing is ever due */
-    if (r.number != 0) return refused("read", r.number);
+    if (r.number == PDEVS_BAD_POSITION) return 0; /* a model without atomics: nothing is ever due */
+    if (r.number != PDEVS_OK) return refused("read", r.number);
     if (r.next_due == PDEVS_NEVER) printf("nothing more is due\n");
     else printf("next due at %" PRIu64 "\n", r.next_due);
     return 0;
@@ -89,7 +65,7 @@ static int tell_next(void) {
 
 static int give_cues(FILE *cues) {
     char line[80];
-    uint8_t bag[MAX_BAG + MESSAGE];
+    uint8_t bag[PDEVS_MAX_BAG + PDEVS_MESSAGE_SIZE]; /* one message more, so that too many are refused and not cut */
     size_t bag_len = 0;
     uint64_t at = 0, number;
     while (fgets(line, sizeof line, cues)) {
@@ -102,21 +78,21 @@ static int give_cues(FILE *cues) {
             return 2;
         }
         if (bag_len > 0 && moment != at) {
-            if ((number = advance(at, bag, bag_len)) != 0) return refused("advance", number);
+            if ((number = advance(at, bag, bag_len)) != PDEVS_OK) return refused("advance", number);
             bag_len = 0;
         }
         if (last) {
-            if ((number = advance(moment, bag, bag_len)) != 0) return refused("advance", number);
+            if ((number = advance(moment, bag, bag_len)) != PDEVS_OK) return refused("advance", number);
             return tell_next();
         }
         if (bag_len == sizeof bag) continue; /* too many already: the engine refuses the bag */
-        bag[bag_len] = (uint8_t)port;
-        bag[bag_len + 1] = (uint8_t)(value % 256);
-        bag[bag_len + 2] = (uint8_t)(value / 256);
-        bag_len += MESSAGE;
+        bag[bag_len + PDEVS_MESSAGE_PORT] = (uint8_t)port;
+        bag[bag_len + PDEVS_MESSAGE_VALUE] = (uint8_t)(value % 256);
+        bag[bag_len + PDEVS_MESSAGE_VALUE + 1] = (uint8_t)(value / 256);
+        bag_len += PDEVS_MESSAGE_SIZE;
         at = moment;
     }
-    if (bag_len > 0 && (number = advance(at, bag, bag_len)) != 0) return refused("advance", number);
+    if (bag_len > 0 && (number = advance(at, bag, bag_len)) != PDEVS_OK) return refused("advance", number);
     return tell_next();
 }
 
@@ -137,9 +113,9 @@ int main(int count, char **arguments) {
     }
     model_len = fread(model, 1, sizeof model, file);
     number = pdevs_check_model(model, model_len);
-    if (number != 0) return refused("model", number);
+    if (number != PDEVS_OK) return refused("model", number);
     started = pdevs_start(model, model_len, run, sizeof run);
-    if (started.number != 0) return refused("start", started.number);
+    if (started.number != PDEVS_OK) return refused("start", started.number);
     status = give_cues(cues);
     fclose(file);
     fclose(cues);

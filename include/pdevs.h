@@ -17,30 +17,17 @@
  *   couplings, at most 1,024, 4 bytes, never falling: source component, source port, target component, target port.
  * Ports are 0 to 3.
  *
- * A saved run has 10 + 9 x (number of atomics) bytes: open moment (8), number of atomics (2), then for each atomic in file
- * order its phase (1) and the moment of its last transition (8). 577 bytes hold the run of any model.
+ * A saved run has PDEVS_RUN_SIZE(number of atomics) bytes: open moment (8), number of atomics (2), then for each atomic in
+ * file order its phase (1) and the moment of its last transition (8). PDEVS_MAX_RUN bytes, 577, hold the run of any model.
  *
  * A bag has 3 bytes for each message: port (1), value (2). At most 16 messages, in any order.
  *
  * A trace has a record for each step with output at the root: moment (8), step in its instant from 0 (2), message count (2),
  * and 3 bytes for each message, in rising order of port, then value.
  *
- * Numbers. 0 is success. The checks are made in this order:
- *    1  a section's count, or its records, are cut off
- *    3  a section's count is over its limit, or there is no component
- *    5  the phase count is not the sum of the atomics' phase counts (before the 1 for the records)
- *    4  a component, 6 a phase, 7 a rule, 8 a coupling breaks a line above (a section's records before the next count)
- *    2  bytes are left over at the end of the file
- *    9  there are more than 1,024 routes
- *   10  the run is too short, or does not fit the model
- *   11  the moment lies before the open moment, or above 1,000,000,000,000
- *   12  the bag's length is no multiple of 3, or it has over 16 messages, or a port above 3
- *   13  something is still due at a moment after 1,024 steps there
- *   14  a step's bag at the root has over 4,096 messages
- *   15  the records pass the end of the lent trace (advance); the lent buffer is too short (start, flatten)
- *   16  the position is at or above the number of atomics
- * With 1 to 12 and 16, and with 15 from start and flatten, every other number answered is 0 and no byte of any buffer is
- * changed. 13, 14 and 15 from advance keep what was done before: see there.
+ * A call answers a number: 0 is success, the others are refusals. PDEVS_NUMBERS below has them all, with names and words, in
+ * the order of the checks. With 1 to 12 and 16, and with 15 from start and flatten, every other number answered is 0 and no
+ * byte of any buffer is changed. 13, 14 and 15 from advance keep what was done before: see there.
  *
  * What is asked of the caller:
  *   - a pointer is not null, also where its length is 0, and is valid for its length (readable; writable where not const);
@@ -55,6 +42,66 @@
 #include <stddef.h>
 #include <stdint.h>
 
+/* The version of this interface: the minor number rises where something is added, the major where programs must change. */
+#define PDEVS_VERSION_MAJOR 1
+#define PDEVS_VERSION_MINOR 0
+#define PDEVS_VERSION PDEVS_VERSION_OF(PDEVS_VERSION_MAJOR, PDEVS_VERSION_MINOR) /* the same as a text, "1.0" */
+#define PDEVS_VERSION_OF(major, minor) PDEVS_VERSION_TEXT(major, minor)
+#define PDEVS_VERSION_TEXT(major, minor) #major "." #minor
+
+/*
+ * Every number that a call answers, by ROW(number, name, words). The checks are made in this order, those of the model file
+ * section by section: 1, 3 and 5 for its count, 1 for its length, then 4, 6, 7 or 8 for its records.
+ */
+#define PDEVS_NUMBERS(ROW)                                                                                               \
+    ROW(0, PDEVS_OK, "success")                                                                                          \
+    ROW(1, PDEVS_MODEL_CUT, "a section's count, or its records, are cut off")                                            \
+    ROW(3, PDEVS_COUNT_LIMIT, "a section's count is over its limit, or there is no component")                           \
+    ROW(5, PDEVS_PHASE_SUM, "the phase count is not the sum of the atomics' phase counts")                               \
+    ROW(4, PDEVS_BAD_COMPONENT, "a component breaks a line of the model file's form")                                    \
+    ROW(6, PDEVS_BAD_PHASE, "a phase breaks a line of the model file's form")                                            \
+    ROW(7, PDEVS_BAD_RULE, "a rule breaks a line of the model file's form")                                              \
+    ROW(8, PDEVS_BAD_COUPLING, "a coupling breaks a line of the model file's form")                                      \
+    ROW(2, PDEVS_MODEL_LEFT_OVER, "bytes are left over at the end of the model file")                                    \
+    ROW(9, PDEVS_TOO_MANY_ROUTES, "there are more than 1,024 routes")                                                    \
+    ROW(10, PDEVS_RUN_DOES_NOT_FIT, "the saved run is too short, or does not fit the model")                             \
+    ROW(11, PDEVS_BAD_MOMENT, "the moment lies before the open moment, or above 1,000,000,000,000")                      \
+    ROW(12, PDEVS_BAD_BAG, "the bag's length is no multiple of 3, or it has over 16 messages, or a port above 3")        \
+    ROW(13, PDEVS_STILL_DUE, "something is still due at a moment after 1,024 steps there")                               \
+    ROW(14, PDEVS_ROOT_BAG_LIMIT, "a step's bag at the root has over 4,096 messages")                                    \
+    ROW(15, PDEVS_BUFFER_TOO_SHORT, "the records pass the end of the lent trace, or the lent buffer is too short")       \
+    ROW(16, PDEVS_BAD_POSITION, "the position is at or above the number of atomics")
+
+/* PDEVS_OK to PDEVS_BAD_POSITION. */
+#define PDEVS_NAMED(number, name, words) name = number,
+enum pdevs_number { PDEVS_NUMBERS(PDEVS_NAMED) };
+#undef PDEVS_NAMED
+
+/* A message and a record's head: their bytes, and where their fields lie. A record's messages follow its head. */
+#define PDEVS_MESSAGE_SIZE 3
+#define PDEVS_MESSAGE_PORT 0
+#define PDEVS_MESSAGE_VALUE 1
+#define PDEVS_RECORD_HEAD_SIZE 12
+#define PDEVS_RECORD_MOMENT 0
+#define PDEVS_RECORD_STEP 8
+#define PDEVS_RECORD_MESSAGE_COUNT 10
+
+/* The bytes of a saved run. */
+#define PDEVS_RUN_SIZE(atomics) (10 + 9 * (atomics))
+
+/* Lengths that suffice for every model. A flat model is no longer than the longest model file. */
+#define PDEVS_MAX_MODEL 32072
+#define PDEVS_MAX_ATOMICS 63
+#define PDEVS_MAX_RUN PDEVS_RUN_SIZE(PDEVS_MAX_ATOMICS)
+
+/* The longest bag, in messages and in bytes, and the latest moment. */
+#define PDEVS_MAX_BAG_MESSAGES 16
+#define PDEVS_MAX_BAG (PDEVS_MAX_BAG_MESSAGES * PDEVS_MESSAGE_SIZE)
+#define PDEVS_MAX_MOMENT UINT64_C(1000000000000)
+
+/* The next due moment where nothing is ever due. */
+#define PDEVS_NEVER UINT64_MAX
+
 #ifdef __cplusplus
 extern "C" {
 #endif
@@ -65,14 +112,18 @@ typedef struct { uint64_t number, bytes; } pdevs_written;
 /* The number; how many instants were done, and their steps; how many bytes of trace were written. */
 typedef struct { uint64_t number, instants, steps, trace_bytes; } pdevs_advanced;
 
-/* The number; an atomic's phase and last moment; the whole model's next due moment, PDEVS_NEVER for never. */
+/* The number; an atomic's phase and last moment; the whole model's next due moment, or PDEVS_NEVER. */
 typedef struct { uint64_t number, phase, last, next_due; } pdevs_reading;
 
-#define PDEVS_NEVER UINT64_MAX
-
-/* Lengths that suffice for every model. A flat model is no longer than the longest model file. */
-#define PDEVS_MAX_MODEL 32072
-#define PDEVS_MAX_RUN 577
+/* A number in words, for a log or a display. */
+static inline const char *pdevs_words(uint64_t number) {
+    switch (number) {
+#define PDEVS_TOLD(number, name, words) case name: return words;
+    PDEVS_NUMBERS(PDEVS_TOLD)
+#undef PDEVS_TOLD
+    default: return "no number of this interface";
+    }
+}
 
 /* Checks a model file: 0, or the number from 1 to 9 with which every other function refuses it. */
 uint64_t pdevs_check_model(const uint8_t *model, size_t model_len);

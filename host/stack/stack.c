@@ -46,13 +46,14 @@ static void advance(outcome *o, const uint8_t *model, size_t model_len, uint64_t
 /* Start, advances with full and empty bags into long and short traces, and readings. */
 static void calls_on(outcome *o, const uint8_t *model, size_t model_len) {
     static const uint64_t moments[] = {0, 1, 5, 6, 40, 1000, 1005, 2100};
-    uint8_t bag[16 * 3];
+    uint8_t bag[PDEVS_MAX_BAG];
     pdevs_written w = pdevs_start(model, model_len, o->run, sizeof o->run);
     size_t k;
     say(o, w.number);
     say(o, w.bytes);
     memset(bag, 0, sizeof bag);
-    for (k = 0; k < sizeof bag; k += 3) bag[k + 1] = (uint8_t)(16 - k / 3);
+    for (k = 0; k < sizeof bag; k += PDEVS_MESSAGE_SIZE)
+        bag[k + PDEVS_MESSAGE_VALUE] = (uint8_t)(PDEVS_MAX_BAG_MESSAGES - k / PDEVS_MESSAGE_SIZE);
     for (k = 0; k < sizeof moments / sizeof *moments; k++) {
         pdevs_reading r = pdevs_read(model, model_len, o->run, sizeof o->run, k);
         say(o, r.number);

@@ -1,0 +1,79 @@
+/*
+ * What include/pdevs.h names, held against the library: every number has a name and words, and the sizes, places and limits
+ * are those of the calls on a small model. It is compiled as C and as C++. The exit status is 0 only where everything held.
+ */
+#include <stdio.h>
+#include <string.h>
+
+#include "pdevs.h"
+
+/* One atomic, due at every moment but 0 with the message (2, 513), which leaves the root at port 3. */
+static const uint8_t model[] = {
+    2, 0, /**/ 0, 0, 0, 0, 0, /**/ 1, 0, 1, 0, 0,
+    1, 0, /**/ 1, 0, 0, 0, /**/ 0, 1, /**/ 2, 1, 2, /**/ 0, 0, 0, 0, 0, 0, 0, 0, 0,
+    0, 0,
+    1, 0, /**/ 1, 2, 0, 3,
+};
+static uint8_t run[PDEVS_MAX_RUN];
+static uint8_t trace[100];
+static int failed;
+
+static void holds(int condition, const char *what) {
+    if (condition) return;
+    printf("header: this does not hold: %s\n", what);
+    failed = 1;
+}
+
+/* The numbers are 0 to one less than there are, each with words that no other has. */
+static void numbers(void) {
+#define LISTED(number, name, words) name,
+    static const uint64_t listed[] = {PDEVS_NUMBERS(LISTED)};
+#undef LISTED
+    const size_t count = sizeof listed / sizeof *listed;
+    size_t one, other;
+    for (one = 0; one < count; one++) {
+        holds(listed[one] < count, "the numbers have no gap");
+        for (other = 0; other <= count; other++) {
+            int same = strcmp(pdevs_words(listed[one]), pdevs_words(other)) == 0;
+            holds(same == (listed[one] == other), "each number has words of its own");
+        }
+    }
+    holds(pdevs_words(count) == pdevs_words(UINT64_MAX), "no other number has words");
+}
+
+static uint64_t start(void) {
+    pdevs_written w = pdevs_start(model, sizeof model, run, PDEVS_RUN_SIZE(1));
+    holds(w.bytes == PDEVS_RUN_SIZE(1), "the size of a run");
+    return w.number;
+}
+
+static uint64_t advance(uint64_t t, size_t bag_len) {
+    static const uint8_t bag[PDEVS_MAX_BAG + PDEVS_MESSAGE_SIZE] = {0};
+    pdevs_advanced a = pdevs_advance(model, sizeof model, run, sizeof run, t, bag, bag_len, trace, sizeof trace);
+    if (a.number == PDEVS_OK) holds(a.trace_bytes == t * (PDEVS_RECORD_HEAD_SIZE + PDEVS_MESSAGE_SIZE), "the size of a record");
+    return a.number;
+}
+
+static void calls(void) {
+    const uint8_t *message = trace + PDEVS_RECORD_HEAD_SIZE;
+    holds(pdevs_check_model(model, 1) == PDEVS_MODEL_CUT, "a cut model");
+    holds(pdevs_start(model, sizeof model, run, PDEVS_RUN_SIZE(1) - 1).number == PDEVS_BUFFER_TOO_SHORT, "a short buffer");
+    holds(start() == PDEVS_OK, "a start");
+    holds(advance(1, PDEVS_MAX_BAG + PDEVS_MESSAGE_SIZE) == PDEVS_BAD_BAG, "a bag too long");
+    holds(advance(PDEVS_MAX_MOMENT + 1, 0) == PDEVS_BAD_MOMENT, "a moment too late");
+    holds(advance(1, PDEVS_MAX_BAG) == PDEVS_OK, "the longest bag");
+    holds(trace[PDEVS_RECORD_MOMENT] == 1 && trace[PDEVS_RECORD_STEP] == 0, "a record's moment and step");
+    holds(trace[PDEVS_RECORD_MESSAGE_COUNT] == 1, "a record's message count");
+    holds(message[PDEVS_MESSAGE_PORT] == 3, "a message's port");
+    holds(message[PDEVS_MESSAGE_VALUE] == 1 && message[PDEVS_MESSAGE_VALUE + 1] == 2, "a message's value");
+    holds(advance(PDEVS_MAX_MOMENT, 0) == PDEVS_BUFFER_TOO_SHORT, "the latest moment, and a trace too short for it");
+    holds(pdevs_read(model, sizeof model, run, sizeof run, 1).number == PDEVS_BAD_POSITION, "a position too high");
+}
+
+int main(void) {
+    numbers();
+    calls();
+    holds(PDEVS_MAX_RUN == 577, "the longest run");
+    holds(strcmp(PDEVS_VERSION, "1.0") == 0, "the version");
+    return failed;
+}
