@@ -1,7 +1,7 @@
 #!/usr/bin/env bash
 # The comparison of the gate: every call's answers and buffers against the second implementation, over seeded models and lists of calls.
 # The proved library is built first where it is missing: a run without it would compare the second implementation with itself alone.
-# More calls: host/compare.sh 1000000 7
+# More calls: host/compare.sh 1000000 7 (a number of calls, a seed); a long run says each minute on standard error where it is.
 set -eu
 cd "$(dirname "$0")"
 calls=${1:-100000}
