@@ -35,12 +35,12 @@ fn expect_number(
 /// The most atomics that share the rows to an output: a model has room for three components beside them.
 const MOST_SHARES: usize = 61;
 
-/// A sum divided into parts.
-fn parts(random: &mut Random, sum: usize) -> Vec<usize> {
+/// A sum divided into parts, at most so many.
+fn parts(random: &mut Random, sum: usize, most: usize) -> Vec<usize> {
     let mut parts = Vec::new();
     let mut left = sum;
     while left > 0 {
-        let last = parts.len() + 1 == MOST_SHARES || random.percent(30);
+        let last = parts.len() + 1 == most || random.percent(30);
         let part = if last { left } else { random.between(1, left as u64) as usize };
         parts.push(part);
         left -= part;
@@ -53,7 +53,7 @@ fn parts(random: &mut Random, sum: usize) -> Vec<usize> {
 fn shared(random: &mut Random, shares: usize, outer: usize, direct: usize) -> Builder {
     let mut model = Builder::new();
     let around = model.coupled(0);
-    for rows in parts(random, shares) {
+    for rows in parts(random, shares, MOST_SHARES) {
         let atomic = model.atomic(around, &[phase(NEVER, 0, &[])]);
         model.couple_times(rows, atomic, random.below(4) as u8, around, 1);
     }
@@ -124,7 +124,7 @@ pub fn ways_from_nothing(comparison: &mut Comparison, random: &mut Random) -> Co
 #[test]
 fn a_sum_has_few_parts() {
     for seed in 0..1_000 {
-        let parts = parts(&mut Random::new(seed), 512);
-        assert!(parts.iter().sum::<usize>() == 512 && parts.len() <= MOST_SHARES, "{parts:?}");
+        let parts = parts(&mut Random::new(seed), 512, 3);
+        assert!(parts.iter().sum::<usize>() == 512 && parts.len() <= 3, "{parts:?}");
     }
 }
