@@ -16,6 +16,7 @@ use Rattle.definition.specs.Step.{Simulator}
 use Rattle.definition.specs.Instant.{Instant, instant}
 use Rattle.definition.specs.Advance.{Progress, Ended, ended, tried, continued, succeeded, isBefore, advancing}
 use Rattle.definition.specs.Engine.{dueNumber}
+use Rattle.laws.proofs.Turns.{last-turn, more-turn}
 use Rattle.clock.specs.Times.{latest}
 use Rattle.run_state.specs.declared.State.{State}
 use Rattle.pull_laws.proofs.Carried.{before-number, moment-number}
@@ -55,24 +56,6 @@ is-before (finite a) t v e h = go (ltb a t) refl e
     go true f e = (refl, sym e)
     go false f e = absurd (omega arith)
 is-before never t v e h = absurd (omega arith)
-
--- ---- one turn of the definition
-
-module _ {S : Type 0} (k : Simulator S) (room t : ℕ) (x : Bag) where
-  last-turn : (m : ℕ) (p : Progress S) → isBefore (k .next (p .state)) t ≡ false
-      → advancing k room t x (suc m) p ≡ continued (succeeded t) p (tried room t p (instant k t x (p .state)))
-  unfolding advancing
-  last-turn m p e = rw e
-
-  more-turn : (m : ℕ) (p : Progress S) → isBefore (k .next (p .state)) t ≡ true
-      → advancing k room t x (suc m) p
-      ≡ continued (λ q. advancing k room t x m q) p (tried room (ticks (k .next (p .state))) p (instant k (ticks (k .next (p .state))) [] (p .state)))
-  unfolding advancing
-  more-turn m p e = rw e
-
-  pub no-turn : (m : ℕ) (p : Progress S) → m ≡ 0 → advancing k room t x m p ≡ ended 0 p
-  unfolding advancing
-  no-turn m p e = rw e
 
 goes-ok : {S : Type 0} (on : Progress S → Ended S) (p q : Progress S) → continued on p (ok q) ≡ on q
 unfolding continued

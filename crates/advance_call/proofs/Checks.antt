@@ -1,53 +1,41 @@
 -- The checks of an advance, in the order of the table, and what each leaves of the definition. Assumes nothing.
-use mathlib.Core.Path.{_≡_, refl}
+use mathlib.Core.Path.{_≡_, sym}
 use Prim.Native.Nat.{ℕ, _≤_, _<_}
-use mathlib.Core.Bool.{Bool, true, false, _||_}
-use lib.Dec.{ltb}
+use mathlib.Core.Bool.{true, false}
+use mathlib.Core.Logic.{inl, inr}
 use lib.ListN.{length}
-use borrow.Author.Tests.{lt-ltb, le-ltb}
-use Rattle.definition.specs.Bytes.{Bytes, ok, refused, _>>=_}
+use Rattle.definition.specs.Bytes.{Bytes, ok, refused}
 use Rattle.definition.specs.Limits.{maxMoment}
 use Rattle.definition.specs.Model.{Model}
 use Rattle.definition.specs.Pinned.Decoder.{accepted}
 use Rattle.definition.specs.SavedRun.{runOf, runFits}
 use Rattle.definition.specs.Step.{nested}
 use Rattle.definition.specs.Advance.{advanceFrom}
-use Rattle.definition.specs.Engine.{Advanced, advanceChecks, advanced, advance, bagFits, toBag}
+use Rattle.definition.specs.Engine.{advanceChecks, advanced, advance, bagFits, toBag}
+use Rattle.definition.specs.Demands.{refusedAdvance}
+use Rattle.model_laws.proofs.Answers.{advance-model, advance-run, advance-time, advance-bag, in-time}
 
--- What a refused call answers and leaves.
-abbrev pub refusedWith : ℕ → Bytes → Bytes → Advanced
-refusedWith k run trace = record { number = k; instants = 0; steps = 0; used = 0; run = run; trace = trace }
-
-pub model-refused : (file run : Bytes) (t : ℕ) (bag trace : Bytes) (k : ℕ) → refused k ≡ accepted file → refusedWith k run trace ≡ advance file run t bag trace
-unfolding advance advanced
-model-refused file run t bag trace k e = rw (← e)
+pub model-refused : (file run : Bytes) (t : ℕ) (bag trace : Bytes) (k : ℕ) → refused k ≡ accepted file → refusedAdvance k run trace ≡ advance file run t bag trace
+model-refused file run t bag trace k e = sym (advance-model file run t bag trace k (sym e))
 
 module _ (file run : Bytes) (t : ℕ) (bag trace : Bytes) (m : Model) (e : ok m ≡ accepted file) where
-  pub run-unfit : runFits m run ≡ false → refusedWith 10 run trace ≡ advance file run t bag trace
-  unfolding advance advanced advanceChecks
-  run-unfit f = rw (← e, f)
-
-  or-true : (a : Bool) → a || true ≡ true
-  or-true true = refl
-  or-true false = refl
+  pub run-unfit : runFits m run ≡ false → refusedAdvance 10 run trace ≡ advance file run t bag trace
+  run-unfit f = sym (advance-run file run t bag trace m (sym e) f)
 
   module _ (f : runFits m run ≡ true) where
-    pub too-early : t < runOf m run .opening → refusedWith 11 run trace ≡ advance file run t bag trace
-    unfolding advance advanced advanceChecks
-    too-early l = rw (← e, f, lt-ltb t (runOf m run .opening) l)
+    pub too-early : t < runOf m run .opening → refusedAdvance 11 run trace ≡ advance file run t bag trace
+    too-early l = sym (advance-time file run t bag trace m (sym e) f (inl l))
 
-    pub too-late : maxMoment < t → refusedWith 11 run trace ≡ advance file run t bag trace
-    unfolding advance advanced advanceChecks
-    too-late l = rw (← e, f, lt-ltb maxMoment t l, or-true (ltb t (runOf m run .opening)))
+    pub too-late : maxMoment < t → refusedAdvance 11 run trace ≡ advance file run t bag trace
+    too-late l = sym (advance-time file run t bag trace m (sym e) f (inr l))
 
     module _ (l : runOf m run .opening ≤ t) (h : t ≤ maxMoment) where
-      pub bag-unfit : bagFits bag ≡ false → refusedWith 12 run trace ≡ advance file run t bag trace
-      unfolding advance advanced advanceChecks
-      bag-unfit b = rw (← e, f, le-ltb t (runOf m run .opening) l, le-ltb maxMoment t h, b)
+      pub bag-unfit : bagFits bag ≡ false → refusedAdvance 12 run trace ≡ advance file run t bag trace
+      bag-unfit b = sym (advance-bag file run t bag trace m (sym e) f l h b)
 
       pub let-in : bagFits bag ≡ true → advanceChecks m run t bag ≡ ok tt
       unfolding advanceChecks
-      let-in b = rw (f, le-ltb t (runOf m run .opening) l, le-ltb maxMoment t h, b)
+      let-in b = rw (f, in-time m run t l h, b)
 
   -- what is let in is advanced
   pub advance-is : advanceChecks m run t bag ≡ ok tt

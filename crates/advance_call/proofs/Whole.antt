@@ -15,7 +15,7 @@ use Rattle.definition.specs.Pinned.Decoder.{accepted}
 use Rattle.definition.specs.SavedRun.{runLength, atomicCount, runOf, toRun, runFits}
 use Rattle.definition.specs.Advance.{advanceFrom}
 use Rattle.definition.specs.Engine.{advanceChecks, advanced, advance, toBag}
-use Rattle.laws.proofs.Sorting.{and-left}
+use Rattle.laws.proofs.Tests.{and-left}
 use Rattle.flat_laws.proofs.Checks.{advance-ok}
 use Rattle.byte_laws.proofs.Slices.{all-bytes}
 use Rattle.model_records.specs.Values.{modelIn}

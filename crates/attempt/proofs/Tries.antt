@@ -7,16 +7,14 @@ use Prim.Native.Nat.{ℕ, zero, suc, _+_, _-_, _≤_, _<_}
 use native.Mathlib.Omega.{arith}
 use lib.ListN.{length, length-append, take}
 use lib.Seq.{sets, length-sets, length-take-le}
-use borrow.Author.Tests.{le-ltb, lt-ltb}
-use Rattle.definition.specs.Lists.{all}
-use Rattle.definition.specs.Bytes.{Bytes, ok, refused}
+use Rattle.definition.specs.Bytes.{Bytes, ok}
 use Rattle.definition.specs.Limits.{maxSteps}
 use Rattle.definition.specs.Model.{Bag}
 use Rattle.definition.specs.Step.{Simulator}
 use Rattle.definition.specs.Instant.{Instant, done, jammed, stepped, goesOn, stepsAt, instant, instantTrace, over}
-use Rattle.definition.specs.Advance.{Progress, tried}
+use Rattle.definition.specs.Advance.{tried}
 use Rattle.definition.specs.Engine.{dueNumber}
-use Rattle.laws.proofs.Sorting.{clash}
+use Rattle.laws.proofs.Turns.{tried-jams, tried-over, tried-none, tried-full, stood, tried-stands}
 use Rattle.run_state.specs.declared.State.{State}
 use Rattle.model_records.specs.Values.{phasesIn}
 use Rattle.pull_laws.specs.Carried.{Carried}
@@ -29,44 +27,6 @@ use Rattle.instant.specs.declared.Verdict.{Verdict}
 use Rattle.instant.specs.declared.Verdict.the-variants as VV
 use Rattle.attempt.specs.Progress.{progressOf, triedOf, Attempted}
 use Rattle.attempt.specs.declared.Going.{Going}
-
--- ---- the definition's `tried`, case by case
-
-module _ {S : Type 0} (room now : ℕ) (p : Progress S) where
-  tried-jams : tried room now p jammed ≡ refused 13
-  unfolding tried
-  tried-jams = refl
-
-  tried-over : (xs : List Bag) (s : S) → over xs ≡ true → tried room now p (done xs s) ≡ refused 14
-  unfolding tried over all
-  tried-over [] s e = absurd (clash e refl)
-  tried-over (x ∷ xs) s e = rw e
-
-  tried-none : (xs : List Bag) (s : S) → length xs ≡ 0 → tried room now p (done xs s) ≡ ok p
-  unfolding tried
-  tried-none [] s e = refl
-  tried-none (x ∷ xs) s e = absurd (omega arith)
-
-  tried-full : (xs : List Bag) (s : S) → over xs ≡ false → (length xs ≡ 0 → ⊥) → room < length (p .trace ++ instantTrace now xs)
-      → tried room now p (done xs s) ≡ refused 15
-  unfolding tried
-  tried-full [] s o z l = absurd (z refl)
-  tried-full (x ∷ xs) s o z l = rw (o, lt-ltb room (length (p .trace ++ instantTrace now (x ∷ xs))) l)
-
-  unfoldable stood : List Bag → S → Progress S
-  stood xs s = record {
-    opening = suc now;
-    state = s;
-    instants = suc (p .instants);
-    steps = p .steps + length xs;
-    trace = p .trace ++ instantTrace now xs;
-  }
-
-  tried-done : (xs : List Bag) (s : S) → over xs ≡ false → (length xs ≡ 0 → ⊥) → length (p .trace ++ instantTrace now xs) ≤ room
-      → tried room now p (done xs s) ≡ ok (stood xs s)
-  unfolding tried stood
-  tried-done [] s o z l = absurd (z refl)
-  tried-done (x ∷ xs) s o z l = rw (o, le-ltb room (length (p .trace ++ instantTrace now (x ∷ xs))) l)
 
 -- ---- an instant without a step leaves the state
 
@@ -224,7 +184,7 @@ module _ (now : ℕ) (g : Going) (due : ℕ) (st₀ : State) (trace : Bytes) (i 
       within = omega (arith, size)
 
       stands-as : progressOf trace′ end onward ≡ stood (length trace) now (progressOf trace st₀ g) (s .bags) end
-      unfolding progressOf stood
+      unfolding progressOf
       stands-as =
           let o : now + 1 ≡ suc now = omega arith in
           let j : g .instants + 1 ≡ suc (g .instants) = omega arith in
@@ -232,7 +192,7 @@ module _ (now : ℕ) (g : Going) (due : ℕ) (st₀ : State) (trace : Bytes) (i 
 
       pub attempt-done : (d .steps ≡ 0 → ⊥) → d .steps ≤ maxSteps → Attempted now g st₀ end trace trace′ i (record { number = 0; going = onward; due = d .due })
       attempt-done z b = record {
-        same = rw (s .same) (ap ok stands-as ∙ sym (tried-done (length trace) now (progressOf trace st₀ g) (s .bags) end (s .fit) (λ w. z (s .steps ∙ w)) (omega (arith, sized))));
+        same = rw (s .same) (ap ok stands-as ∙ sym (tried-stands (length trace) now (progressOf trace st₀ g) (s .bags) end (s .fit) (λ w. z (s .steps ∙ w)) (omega (arith, sized))));
         beyond = (omega arith, rw put (length-sets trace (g .used) recs), rw (size, put) (drop-sets trace recs (g .used) within));
         undone = λ w. absurd (w refl);
         more = omega arith;

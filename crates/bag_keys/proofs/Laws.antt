@@ -17,11 +17,12 @@ use Rattle.definition.specs.Pinned.Decoder.{toPhase}
 use Rattle.definition.specs.Engine.{toBag}
 use Rattle.byte_laws.specs.Parts.{recordsIn}
 use Rattle.byte_laws.proofs.Rows.{number-row}
-use Rattle.byte_laws.proofs.Records.{record-in, record-out, length-records}
+use Rattle.byte_laws.proofs.Records.{record-in, record-out}
 use Rattle.model_records.specs.Values.{phasesIn}
 use Rattle.model_records.proofs.Fields.{record-cut}
 use Rattle.pull_laws.specs.Put.{put1, puts, valuesOn}
 use Rattle.bag_keys.specs.Sent.{wantedValue}
+use Rattle.model_laws.proofs.Codec.{bag-length}
 
 pub puts-append : (port : ℕ) (xs ys : List ℕ) (st : List ℕ × ℕ) → puts port (xs ++ ys) st ≡ puts port ys (puts port xs st)
 unfolding puts
@@ -92,10 +93,6 @@ sent-out s q i port st h = rw (record-out 18 toPhase s i noPhase h)
 
 -- ---- the given messages
 
-length-given : (s : Bytes) → length (toBag s) ≡ length s / messageSize
-unfolding toBag
-length-given s = unfold recordsIn in length-records messageSize (messageAt 0) s
-
 given-at : (s : Bytes) (i : ℕ) → i < length s / messageSize
     → getD (toBag s) i noMessage ≡ record { port = numberAt 1 (messageSize * i) s; value = numberAt 2 (messageSize * i + 1) s }
 unfolding toBag recordsIn messageAt
@@ -106,7 +103,7 @@ given-at s i h =
 pub given-more : (s : Bytes) (q port i : ℕ) (st : List ℕ × ℕ) → i < length s / messageSize
     → puts port (valuesOn q (drop (i + 1) (toBag s))) (puts port (wantedValue (eqb q (numberAt 1 (messageSize * i) s)) (numberAt 2 (messageSize * i + 1) s)) st)
     ≡ puts port (valuesOn q (drop i (toBag s))) st
-given-more s q port i st h = bag-more (toBag s) q port i st _ (rw (length-given s) h) (given-at s i h)
+given-more s q port i st h = bag-more (toBag s) q port i st _ (rw (bag-length s) h) (given-at s i h)
 
 pub given-none : (s : Bytes) (q port i : ℕ) (st : List ℕ × ℕ) → i ≡ length s / messageSize → puts port (valuesOn q (drop i (toBag s))) st ≡ st
-given-none s q port i st e = bag-none (toBag s) q port i st (e ∙ sym (length-given s))
+given-none s q port i st e = bag-none (toBag s) q port i st (e ∙ sym (bag-length s))

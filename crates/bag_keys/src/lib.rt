@@ -8,11 +8,9 @@ ghost use Rattle.definition.specs.Pinned.Decoder.{toPhase};
 ghost use Rattle.model_records.specs.Values.{phasesIn};
 ghost use Rattle.pull_laws.specs.Put.{put1, puts, valuesOn};
 ghost use Rattle.bag_keys.specs.Sent.{sentOn, wantedValue};
+use limits::MESSAGE_SIZE;
 use limits::PHASE_SIZE;
 use little_endian::size;
-
-// Port (1) and value (2) of a message.
-pub const MESSAGE_SIZE: usize = 3;
 
 // A phase record: advance (4), next phase (1), output count (1), and four slots, each a message.
 const COUNT_AT: usize = 5;

@@ -1,14 +1,13 @@
 -- Four slots, the first n of them used: tests on lists as tests on each slot. Assumes nothing.
 use mathlib.Core.Path.{_≡_, refl, sym}
 use mathlib.Core.List.{[], _∷_}
-use mathlib.Core.Bool.{Bool, true, false, _&&_, _||_, and-assoc, and-true}
+use mathlib.Core.Bool.{Bool, _&&_, _||_, and-assoc, and-true}
 use Prim.Native.Nat.{ℕ, zero, suc}
 use native.Mathlib.Omega.{arith}
-use lib.Dec.{leb, ltb, eqb}
+use lib.Dec.{leb, ltb}
 use lib.ListN.{take, drop}
-use borrow.Author.Tests.{lt-leb, lt-ltb, le-leb, eqb-true, eqb-false, ltb-true, ltb-false}
-use Rattle.definition.specs.Lists.{all, rises, lexLe}
-use Rattle.definition.specs.Model.{messageLe}
+use borrow.Author.Tests.{lt-leb, lt-ltb}
+use Rattle.definition.specs.Lists.{all, rises}
 
 module _ {A : Type 0} (a b c d : A) where
   pub all-take : (p : A → Bool) (n : ℕ)
@@ -46,16 +45,3 @@ module _ {A : Type 0} (a b c d : A) where
   rises-take le (suc (suc (suc (suc (suc n))))) =
       let m = suc (suc (suc (suc (suc n)))) in
       rw (lt-leb m 1 (omega arith), lt-leb m 2 (omega arith), lt-leb m 3 (omega arith)) (simp (and-assoc, and-true))
-
-pub le-split : (a b : ℕ) → (ltb a b || (eqb a b && true)) ≡ leb a b
-le-split a b = go (ltb a b) refl (eqb a b) refl
-  where
-    go : (x : Bool) → ltb a b ≡ x → (y : Bool) → eqb a b ≡ y → (x || (y && true)) ≡ leb a b
-    go true e y f = sym (le-leb a b (omega (arith, ltb-true a b e)))
-    go false e true f = sym (le-leb a b (omega (arith, eqb-true a b f)))
-    go false e false f = sym (lt-leb a b (omega (arith, ltb-false a b e, eqb-false a b f)))
-
-pub message-le : (p v q w : ℕ)
-    → messageLe (record { port = p; value = v }) (record { port = q; value = w }) ≡ (ltb p q || (eqb p q && leb v w))
-unfolding messageLe lexLe
-message-le p v q w = rw (le-split v w)

@@ -4,9 +4,9 @@ use mathlib.Core.Path.{_≡_, refl, sym, ap, _∙_}
 use mathlib.Core.List.{[], _∷_}
 use Prim.Native.Nat.{ℕ, zero, suc, _+_, _*_, _-_, _/_, _%_, _^_, _≤_, _<_}
 use native.Mathlib.Omega.{arith}
-use native.Mathlib.Nat.{pow-succ', pow-le-pow-right, add-zero, sub-zero, le-refl}
-use lib.ListN.{length, take, drop, getD, set, length-drop}
-use lib.Seq.{take-nil, getD-drop, drop-drop, take-take, take-all, sets}
+use native.Mathlib.Nat.{pow-succ', pow-le-pow-right, add-zero, sub-zero}
+use lib.ListN.{length, take, drop, getD, set}
+use lib.Seq.{take-nil, getD-drop, drop-drop, take-take, sets}
 use Rattle.definition.specs.Bytes.{Bytes, littleEndian, numberAt, chunks, bytesOf}
 use Rattle.byte_laws.specs.Parts.{row}
 
@@ -77,10 +77,6 @@ pub number-row : (w at size k : ℕ) (s : Bytes) → at + w ≤ size → numberA
 unfolding numberAt row
 number-row w at size k s h =
     rw (drop-take at size (drop (size * k) s), take-take w (size - at) (drop at (drop (size * k) s)) (omega arith), drop-drop at (size * k) s)
-
--- The part `&s[a..]`.
-pub tail : (a : ℕ) (s : Bytes) → take (length s - a) (drop a s) ≡ drop a s
-tail a s = take-all (length s - a) (drop a s) (simp length-drop (le-refl (length s - a)))
 
 -- ---- a list of rows: its length, a row of it, and its bytes alone
 

@@ -2,12 +2,12 @@
 -- Assumes nothing.
 use mathlib.Core.Path.{_≡_, refl, sym, _∙_}
 use mathlib.Core.List.{List, [], map}
-use mathlib.Core.Bool.{Bool, true, false, _&&_, not, true≢false}
+use mathlib.Core.Bool.{Bool, true, false, _&&_, not, true≢false, and-false}
 use Prim.Native.Nat.{ℕ, zero, suc, _+_, _-_, _*_, _/_, _%_, _≤_, _<_}
 use native.Mathlib.Omega.{arith}
-use lib.Dec.{ltb, leb, eqb}
+use lib.Dec.{ltb, eqb}
 use lib.ListN.{getD}
-use borrow.Author.Tests.{ltb-true, ltb-false, lt-ltb, le-ltb, leb-true, eqb-false, ne-eqb, eq-eqb}
+use borrow.Author.Tests.{ltb-true, ltb-false, lt-ltb, le-ltb, eqb-false, ne-eqb, eq-eqb}
 use Rattle.definition.specs.Limits.{maxComponents, maxCouplings, portCount}
 use Rattle.definition.specs.Model.{Bag, Phase}
 use Rattle.pull_laws.specs.Pull.{joined, coupledOut, inputIn}
@@ -65,10 +65,6 @@ not-root : (x : ℕ) → portNodes ≤ x → isRootNode x ≡ false
 unfolding isRootNode
 not-root x h = le-ltb x portNodes h
 
-and-false : (b : Bool) → (b && false) ≡ false
-and-false true = refl
-and-false false = refl
-
 module _ (ps : List Phase) (t es fs : List ℕ) where
   -- which nodes are open does not depend on the phases
   open-any : (x : ℕ) → isOpen [] t es fs x ≡ isOpen ps t es fs x
@@ -87,10 +83,6 @@ module _ (ps : List Phase) (t es fs : List ℕ) where
   unfolding coupledOut openRows joined
   coupled-shut zero x o = refl
   coupled-shut (suc d) x o = rw (sym (open-any x) ∙ o)
-
-  pub coupled-none : (x : ℕ) → pulledBelow ps t es fs 0 x ≡ []
-  unfolding coupledOut
-  coupled-none x = refl
 
   node-unreached : (c q : ℕ) → q < portCount → eqb (getD fs c 0) 0 ≡ true → isOpen [] t es fs (inputNode c q) ≡ false
   unfolding isOpen mayCome isOutput nodeComponent isUp inputNode

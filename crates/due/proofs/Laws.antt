@@ -1,5 +1,5 @@
 -- When an atomic is due in 64 bits, against the definition. Assumes nothing.
-use mathlib.Core.Path.{_≡_, refl, ap}
+use mathlib.Core.Path.{_≡_, refl}
 use mathlib.Core.Bool.{Bool, true, false, cond}
 use Prim.Native.Nat.{ℕ, _+_, _≤_, min}
 use native.Mathlib.Omega.{arith}
@@ -27,12 +27,3 @@ after-tested moment last advance h = go (eqb advance neverField)
         same : (b : Bool) → leb moment (last + advance) ≡ b → leb moment (min (last + advance) latest) ≡ b
         same true e = le-leb moment (min (last + advance) latest) (omega (arith, leb-true moment (last + advance) e))
         same false e = lt-leb moment (min (last + advance) latest) (omega (arith, leb-false moment (last + advance) e))
-
--- Where the sum fits there is none either.
-pub after-exact : (last advance : ℕ) → last + advance ≤ latest → dueAfter last advance ≡ later last (advanceTime advance)
-unfolding dueAfter later
-after-exact last advance h = go (eqb advance neverField)
-  where
-    go : (b : Bool) → cond b never (finite (min (last + advance) latest)) ≡ later last (cond b never (finite advance))
-    go true = refl
-    go false = ap finite (omega arith)

@@ -1,23 +1,23 @@
 -- What the checks of a call let through: a run that fits has an entry for each atomic, none changed after its opening or due before it; a
 -- moment that is open; a bag on ports that there are. The laws of a step start from these. Assumes nothing.
-use mathlib.Core.Path.{_≡_, refl, _∙_}
+use mathlib.Core.Path.{_≡_, refl}
 use Prim.Native.Nat.{ℕ, suc, _*_, _%_, _≤_}
 use mathlib.Core.List.{List, [], _∷_}
 use mathlib.Core.Bool.{Bool, true, false, _&&_, _||_, not}
 use native.Mathlib.Omega.{arith}
 use lib.Dec.{leb, ltb, eqb}
-use lib.ListN.{length, drop, length-map}
+use lib.ListN.{length}
 use borrow.Author.Tests.{ltb-true, ltb-false, eqb-true, not-false}
-use Rattle.definition.specs.Bytes.{Bytes, ok, refuseIf, numberAt, chunks}
+use Rattle.definition.specs.Bytes.{Bytes, ok, refuseIf, numberAt}
 use Rattle.definition.specs.Lists.{all}
-use Rattle.definition.specs.Limits.{maxMoment, headSize, entrySize, messageSize, maxGiven}
+use Rattle.definition.specs.Limits.{maxMoment, messageSize, maxGiven}
 use Rattle.definition.specs.Model.{Model, componentAt, atomics}
-use Rattle.definition.specs.SavedRun.{Entry, runLength, toEntry, toRun, entryFits, entriesFit, atomicCount, runOf, runFits}
+use Rattle.definition.specs.SavedRun.{Entry, runLength, entryFits, entriesFit, atomicCount, runOf, runFits}
 use Rattle.definition.specs.Engine.{advanceChecks, bagFits, toBag}
 use Rattle.definition.specs.Records.{portFits}
-use Rattle.laws.proofs.Sorting.{clash, and-left, and-right}
-use Rattle.model_laws.proofs.Codec.{length-chunks}
-use Rattle.model_laws.proofs.Sections.{refuse-ok}
+use Rattle.laws.proofs.Tests.{clash, and-left, and-right}
+use Rattle.model_laws.proofs.RunBack.{entry-count}
+use Rattle.laws.proofs.Results.{refuse-ok}
 use Rattle.nest_laws.proofs.Pairs.{Pairs}
 use Rattle.nest_laws.proofs.Nest.{Fresh}
 use Rattle.nest_laws.proofs.Stepping.{Good}
@@ -44,8 +44,8 @@ entries-fresh m o (c ∷ cs) (r ∷ rs) e h =
     (entry-fresh m o c r (and-left (entryFits m o c r) _ h), entries-fresh m o cs rs (omega arith) (and-right (entryFits m o c r) _ h))
 
 pub run-length : (m : Model) (s : Bytes) → length (runOf m s .entries) ≡ length (atomics (m .components))
-unfolding runOf toRun atomicCount
-run-length m s = length-map (chunks (length (atomics (m .components))) entrySize (drop headSize s)) toEntry ∙ length-chunks (length (atomics (m .components))) entrySize (drop headSize s)
+unfolding atomicCount
+run-length m s = entry-count m s
 
 pub fits-good : (m : Model) (s : Bytes) → runFits m s ≡ true → Good m (runOf m s .opening) (runOf m s .entries)
 unfolding runFits

@@ -3,7 +3,7 @@
 use mathlib.Core.Path.{_≡_, refl, sym, _∙_}
 use Prim.Native.Nat.{ℕ, zero, suc, _<_}
 use mathlib.Core.List.{List, [], _∷_}
-use mathlib.Core.Bool.{Bool, true, false, _&&_, _||_, not, cond}
+use mathlib.Core.Bool.{Bool, true, false, _&&_, _||_, not, cond, and-false}
 use native.Mathlib.Omega.{arith}
 use lib.Dec.{ltb, eqb}
 use lib.ListN.{length}
@@ -13,8 +13,7 @@ use Rattle.definition.specs.Model.{Coupling, Component, isChild, isSibling, com
 use Rattle.definition.specs.Routes.{portsTo}
 use Rattle.definition.specs.Pinned.Decoder.{couplingFields, related}
 use Rattle.definition.specs.Limits.{portCount}
-use Rattle.laws.proofs.Sorting.{clash, and-left, and-right}
-use Rattle.laws.proofs.Lists.{and-true, and-false}
+use Rattle.laws.proofs.Tests.{clash, and-left, and-right, and-true}
 use Rattle.nest_laws.proofs.Kin.{par, Rooted}
 
 -- ---- the couplings of a sound model

@@ -17,11 +17,11 @@ use Rattle.definition.specs.Records.{componentBytes}
 use Rattle.definition.specs.Pinned.Decoder.{coupledFields, atomicFields, kindFields, componentFits, bounds, toComponent, placeFits, rootWithin, rootFields}
 use Rattle.definition.specs.Flatten.{renumbered, flatAtomic, flatComponents}
 use Rattle.definition.specs.Bytes.{numberAt, littleEndian, bytesOf, laidOut}
-use Rattle.laws.proofs.Lists.{getD-map}
+use Rattle.laws.proofs.Lists.{getD-map, all-at, length-up}
 use Rattle.model_laws.proofs.WellFormed.{WellFormed, ComponentsFit, Checked}
 use Rattle.nest_laws.proofs.Places.{place-below, place-most, take-up}
 use Rattle.nest_laws.proofs.Components.{rooted, atomic-fields, atomics-atomic, no-phases}
-use Rattle.nest_laws.proofs.Renumber.{isListed, listed-occurs, flat-component, all-at}
+use Rattle.nest_laws.proofs.Renumber.{isListed, listed-occurs, flat-component}
 
 -- a record at a place, also past the end, is kept by its bytes
 held-at : {A : Type 0} (f : A → A) (xs : List A) (d : A) → map f xs ≡ xs → f d ≡ d → (i : ℕ) → f (getD xs i d) ≡ getD xs i d
@@ -47,11 +47,6 @@ length-keep p (a ∷ l) = go (p a) (length-keep p l)
     go : (b : Bool) → length (keep p l) ≤ length l → length (cond b (a ∷ keep p l) (keep p l)) ≤ suc (length l)
     go true h = omega arith
     go false h = omega arith
-
-length-up : (k n : ℕ) → length (upFrom k n) ≡ n
-unfolding upFrom
-length-up k zero = refl
-length-up k (suc n) = ap suc (length-up (suc k) n)
 
 -- there is a component that is no atomic
 fewer : (cs : List Component) → 0 < length cs → isAtomic cs 0 ≡ false → length (atomics cs) < length cs

@@ -17,12 +17,13 @@ use Rattle.definition.specs.Routes.{routes}
 use Rattle.definition.specs.Pinned.Decoder.{ruleFits, couplingFits, toPhase, phaseFits, toRule, ruleFields, toCoupling, couplingFields, related, notFalling}
 use Rattle.definition.specs.Flatten.{placeIn, renumbered, flatComponents, flatRule, flatRoute, flat}
 use Rattle.definition.specs.Bytes.{numberAt, littleEndian, bytesOf, laidOut}
-use Rattle.laws.proofs.Sorting.{clash, and-left, and-right, rises-sort, coupling-order}
-use Rattle.laws.proofs.Lists.{and-true, or-right, all-if, all-map, all-perm, map-cong-if, length-perm, sort-permutes, getD-map}
+use Rattle.laws.proofs.Sorting.{rises-sort, coupling-order}
+use Rattle.laws.proofs.Tests.{clash, and-left, and-right, and-true, or-right}
+use Rattle.laws.proofs.Lists.{all-if, all-map, all-perm, map-cong-if, length-perm, sort-permutes, getD-map, all-at}
 use Rattle.model_laws.proofs.WellFormed.{WellFormed, ComponentsFit, Checked}
 use Rattle.model_laws.proofs.PhaseRange.{length-bounds}
 use Rattle.model_laws.proofs.Codec.{le-bytes}
-use Rattle.nest_laws.proofs.Renumber.{listed-atomic, new-root, new-atomic, new-eqb, all-at}
+use Rattle.nest_laws.proofs.Renumber.{listed-atomic, new-root, new-atomic, new-eqb}
 use Rattle.flat_laws.proofs.FlatComponents.{listed-cases, flat-length, flat-bounds, new-low, new-byte, flat-kind, flat-parent, flat-phases, components-checked}
 use Rattle.flat_laws.proofs.RouteEnds.{routeFits, routes-fit, route-parts}
 use Rattle.flat_laws.proofs.Couplings.{fitting}

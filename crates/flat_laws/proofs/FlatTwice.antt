@@ -18,12 +18,13 @@ use Rattle.definition.specs.Routes.{routes}
 use Rattle.definition.specs.Pinned.Decoder.{accepted}
 use Rattle.definition.specs.Flatten.{placeIn, renumbered, flatAtomic, flatComponents, flatRule, flatRoute, flat}
 use Rattle.laws.proofs.Sorting.{sort-perm, coupling-order}
-use Rattle.laws.proofs.Lists.{or-right, all-every, all-map, map-cong-if, length-perm, sort-permutes}
+use Rattle.laws.proofs.Lists.{all-every, all-map, map-cong-if, length-perm, sort-permutes, all-at}
+use Rattle.laws.proofs.Tests.{or-right}
 use Rattle.model_laws.proofs.WellFormed.{WellFormed, Accepted}
 use Rattle.model_laws.proofs.Writing.{decode-back}
 use Rattle.nest_laws.proofs.Places.{place-up, place-most}
 use Rattle.nest_laws.proofs.Components.{atomics-atomic, partsOfRoot}
-use Rattle.nest_laws.proofs.Renumber.{all-at, isListed, flat-up, children-up, flat-atomics, flat-component}
+use Rattle.nest_laws.proofs.Renumber.{isListed, flat-up, children-up, flat-atomics, flat-component}
 use Rattle.flat_laws.proofs.FlatSound.{flat-sound}
 use Rattle.flat_laws.proofs.LevelRoutes.{level-routes}
 

@@ -15,12 +15,12 @@ use Rattle.definition.specs.Limits.{portCount}
 use Rattle.definition.specs.Model.{Component, Coupling, Model, isAtomic, atomics, couplingLe, leaf, node, forest}
 use Rattle.definition.specs.Routes.{Port, portsTo, endsIn, endsFrom, joined, joinedAll, waysFrom, waysFromAll, rootEnds, routes}
 use Rattle.definition.specs.Pinned.Decoder.{couplingFields}
-use Rattle.laws.proofs.Sorting.{clash, and-left, and-right, coupling-order}
-use Rattle.laws.proofs.Sums.{sumOf, sum-append, sum-map, sum-concat, sum-add, sum-cong, sum-swap}
+use Rattle.laws.proofs.Sorting.{coupling-order}
+use Rattle.laws.proofs.Tests.{clash, and-left, and-right}
+use Rattle.laws.proofs.Sums.{sumOf, sum-append, sum-map, sum-concat, sum-add, sum-cong, sum-swap, sum-if}
 use Rattle.laws.proofs.Bags.{points-perm}
 use Rattle.laws.proofs.Lists.{sum-cong-if, count-none, count-sum}
 use Rattle.model_laws.proofs.WellFormed.{WellFormed, couplings-fit}
-use Rattle.nest_laws.proofs.Numbers.{sum-if}
 use Rattle.nest_laws.proofs.Occurs.{once-up, pick-none, pick-one}
 use Rattle.nest_laws.proofs.Kin.{Rooted}
 use Rattle.nest_laws.proofs.Components.{rooted, atomic-once, atomics-atomic, partsOfRoot, tree-shape}

@@ -11,13 +11,12 @@ use Rattle.definition.specs.Lists.{all}
 use Rattle.definition.specs.Model.{Coupling, Model, isAtomic, Tree, Forest, node, tree}
 use Rattle.definition.specs.Routes.{portsTo, endsIn, joinedAll, waysFrom, rootEnds, routes}
 use Rattle.definition.specs.Limits.{portCount}
-use Rattle.laws.proofs.Sorting.{and-left, and-right}
-use Rattle.laws.proofs.Lists.{and-true, all-if, all-append}
+use Rattle.laws.proofs.Tests.{and-left, and-right, and-true, eqb-sym}
+use Rattle.laws.proofs.Lists.{all-if, all-append}
 use Rattle.model_laws.proofs.WellFormed.{WellFormed, couplings-fit}
 use Rattle.nest_laws.proofs.Trees.{leavesT}
 use Rattle.nest_laws.proofs.Occurs.{occurs, all-occurs}
 use Rattle.nest_laws.proofs.Kin.{Rooted}
-use Rattle.nest_laws.proofs.Numbers.{eqb-sym}
 use Rattle.nest_laws.proofs.Components.{rooted, root-not, leaves-atomic, leaf-occurs, atomic-most, partsOfRoot, tree-shape}
 use Rattle.nest_laws.proofs.Renumber.{isListed, listed-root, listed-atomic}
 use Rattle.flat_laws.proofs.WayEnds.{endFits, beside-all, ends-from, other, wayFits, EndsFor, joined-all, ways-fit}

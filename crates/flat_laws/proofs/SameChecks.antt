@@ -13,7 +13,7 @@ use Rattle.definition.specs.Devs.{Time}
 use Rattle.definition.specs.SavedRun.{Entry, toRun, notBefore, entryFits, entriesFit, atomicCount, runOf, runFits}
 use Rattle.definition.specs.Flatten.{renumbered, flatAtomic, flat}
 use Rattle.definition.specs.Engine.{startRun, advanceChecks, readingChecks}
-use Rattle.laws.proofs.Sorting.{and-left, and-right}
+use Rattle.laws.proofs.Tests.{and-left, and-right}
 use Rattle.laws.proofs.Lists.{map-cong-if}
 use Rattle.model_laws.proofs.WellFormed.{WellFormed}
 use Rattle.nest_laws.proofs.Components.{atomics-atomic}

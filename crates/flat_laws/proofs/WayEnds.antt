@@ -12,9 +12,9 @@ use Rattle.definition.specs.Lists.{all, concat, count, upFrom}
 use Rattle.definition.specs.Model.{Coupling, Tree, Forest, leaf, node, stop, more, nameOf}
 use Rattle.definition.specs.Routes.{portsTo, Port, endsIn, endsFrom, joined, joinedAll, waysFrom, waysFromAll}
 use Rattle.definition.specs.Limits.{portCount}
-use Rattle.laws.proofs.Sorting.{and-left}
+use Rattle.laws.proofs.Tests.{and-left, and-true}
 use Rattle.laws.proofs.Bags.{count-append}
-use Rattle.laws.proofs.Lists.{and-true, all-if, all-append, all-front, all-back, all-map, all-and, all-concat}
+use Rattle.laws.proofs.Lists.{all-if, all-append, all-front, all-back, all-map, all-and, all-concat}
 use Rattle.model_laws.proofs.Sections.{all-numbers}
 use Rattle.nest_laws.proofs.Trees.{leavesT, leavesF}
 use Rattle.nest_laws.proofs.Occurs.{occurs}

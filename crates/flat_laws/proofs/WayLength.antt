@@ -13,7 +13,7 @@ use Rattle.definition.specs.Limits.{maxAncestors, portCount}
 use Rattle.definition.specs.Model.{Component, Coupling, Model, componentAt, isAtomic, isChild, children, Tree, Forest, leaf, node, stop, more, nameOf, forest, treeAt, tree}
 use Rattle.definition.specs.Routes.{portsTo}
 use Rattle.definition.specs.Pinned.Decoder.{rootWithin}
-use Rattle.laws.proofs.Sorting.{and-left, and-right, clash}
+use Rattle.laws.proofs.Tests.{clash, and-left, and-right}
 use Rattle.laws.proofs.Lists.{all-append, all-if, all-map, all-concat}
 use Rattle.nest_laws.proofs.Occurs.{kept-tests}
 use Rattle.model_laws.proofs.WellFormed.{WellFormed}

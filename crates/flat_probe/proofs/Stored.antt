@@ -1,6 +1,6 @@
 -- The probe's records and marks as the code stores them. Assumes nothing.
 use mathlib.Core.Path.{_≡_, refl, sym, ap, ap₂, _∙_}
-use Prim.Native.Nat.{ℕ, zero, suc, _+_, _*_, _-_, _/_, _≤_, _<_}
+use Prim.Native.Nat.{ℕ, suc, _+_, _*_, _-_, _/_, _≤_, _<_}
 use mathlib.Core.List.{List, [], _++_, map, append-nil, map-map}
 use native.Mathlib.Omega.{arith}
 use lib.ListN.{length, getD, drop, set, length-map, drop-of-length-le}
@@ -11,20 +11,16 @@ use Rattle.definition.specs.Limits.{maxComponents, phaseSize}
 use Rattle.definition.specs.Model.{noPhase, slots}
 use Rattle.definition.specs.Records.{messageAt, messageBytes, phaseBytes}
 use Rattle.definition.specs.Pinned.Decoder.{toPhase}
-use Rattle.laws.proofs.Lists.{getD-map}
+use Rattle.laws.proofs.Lists.{getD-map, length-up}
 use Rattle.byte_laws.specs.Parts.{recordsIn}
 use Rattle.model_records.specs.Values.{phasesIn}
 use Rattle.model_laws.proofs.Codec.{length-bytes, rows-length, rows-back}
 use Rattle.store_laws.proofs.Stores.{sets-append}
 use Rattle.pull_laws.specs.Tables.{outputNode}
 use Rattle.pull_laws.proofs.Positions.{getD-up}
-use Rattle.flat_writer.proofs.Pieces.{records-more, records-none, length-phase}
+use Rattle.flat_writer.proofs.Pieces.{records-more, records-none}
+use Rattle.model_laws.proofs.Writing.{phase-size}
 use Rattle.flat_probe.specs.Probe.{ownPort, probeOf, probes, probeMarks}
-
-pub length-up : (k n : ℕ) → length (upFrom k n) ≡ n
-unfolding upFrom
-length-up k zero = refl
-length-up k (suc n) = ap suc (length-up (suc k) n)
 
 pub slot-puts : (c q at : ℕ) (b : Bytes) → sets (sets b at (bytesOf 1 q)) (at + 1) (bytesOf 2 (8 * c + (4 + q))) ≡ sets b at (messageBytes (ownPort c q))
 unfolding messageBytes laidOut bytesOf ownPort outputNode
@@ -62,7 +58,7 @@ probes-length : length probes ≡ maxComponents
 unfolding probes
 probes-length = length-map (upFrom 0 maxComponents) probeOf ∙ length-up 0 maxComponents
 
-probe-at : (c : ℕ) → c < maxComponents → getD probes c noPhase ≡ probeOf c
+pub probe-at : (c : ℕ) → c < maxComponents → getD probes c noPhase ≡ probeOf c
 unfolding probes
 probe-at c l = getD-map probeOf (upFrom 0 maxComponents) c 0 noPhase (omega (arith, length-up 0 maxComponents)) ∙ ap probeOf (getD-up 0 maxComponents c l ∙ omega arith)
 
@@ -77,12 +73,12 @@ probes-more c b l =
     let y : 0 + 18 * (c + 1) ≡ 18 * (c + 1) = omega arith in
     ap₂ (λ i k. sets (sets b i (phaseBytes k)) (18 * (c + 1)) (concat (map phaseBytes (drop (c + 1) probes)))) (sym z) (sym (probe-at c l))
     ∙ ap (λ j. sets (sets b (0 + 18 * c) (phaseBytes (getD probes c noPhase))) j (concat (map phaseBytes (drop (c + 1) probes)))) (sym y)
-    ∙ records-more 18 phaseBytes length-phase probes c 0 noPhase b (omega (arith, probes-length))
+    ∙ records-more 18 phaseBytes phase-size probes c 0 noPhase b (omega (arith, probes-length))
     ∙ ap (λ i. sets b i (concat (map phaseBytes (drop c probes)))) z
 
 pub probes-none : (c : ℕ) (b : Bytes) → maxComponents ≤ c → sets b (18 * c) (probesFrom c) ≡ b
 unfolding probesFrom
-probes-none c b l = records-none 18 phaseBytes length-phase probes c (18 * c) b (omega (arith, probes-length))
+probes-none c b l = records-none 18 phaseBytes phase-size probes c (18 * c) b (omega (arith, probes-length))
 
 -- read back
 probes-held : map (λ k. toPhase (phaseBytes k)) probes ≡ probes
@@ -93,12 +89,12 @@ pub probes-back : (b : Bytes) → length b ≡ maxComponents * phaseSize → pha
 unfolding phasesIn recordsIn probesFrom
 probes-back b l =
     let x = concat (map phaseBytes probes) in
-    let k : length x ≡ maxComponents * phaseSize = rows-length phaseSize phaseBytes length-phase probes ∙ ap (λ n. n * phaseSize) probes-length in
+    let k : length x ≡ maxComponents * phaseSize = rows-length phaseSize phaseBytes phase-size probes ∙ ap (λ n. n * phaseSize) probes-length in
     let e : sets b 0 x ≡ x ++ [] = sets-eq x b 0 (omega arith) ∙ ap (λ r. x ++ r) (drop-of-length-le b {i = 0 + length x} (omega arith)) in
     let n : length (x ++ []) / phaseSize ≡ length probes = ap (λ y. length y / phaseSize) (append-nil x) ∙ ap (λ n. n / phaseSize) k ∙ sym probes-length in
     ap (λ y. map toPhase (chunks (length y / phaseSize) phaseSize y)) e
     ∙ ap (λ n. map toPhase (chunks n phaseSize (x ++ []))) n
-    ∙ ap (map toPhase) (rows-back phaseSize phaseBytes length-phase probes []) ∙ map-map toPhase phaseBytes probes ∙ probes-held
+    ∙ ap (map toPhase) (rows-back phaseSize phaseBytes phase-size probes []) ∙ map-map toPhase phaseBytes probes ∙ probes-held
 
 -- ---- marks
 

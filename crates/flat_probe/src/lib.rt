@@ -1,4 +1,5 @@
-// The probing step's phase records, marks and given bag: every atomic puts out the number of each of its output ports there.
+// The phase records and the marks of the probing step: each component has a record that puts out, at each of its four output ports, that
+// port's own number as value. So a message that arrives at an end names the port where its route begins.
 ghost use mathlib.Core.Path.{_≡_};
 ghost use Prim.Native.Nat.{_+_, _*_, _≤_};
 ghost use lib.ListN.{length};

@@ -8,7 +8,7 @@ use lib.ListN.{getD}
 use Rattle.definition.specs.Model.{Model, isAtomic}
 use Rattle.definition.specs.Flatten.{renumbered}
 use Rattle.model_laws.proofs.WellFormed.{WellFormed}
-use Rattle.nest_laws.proofs.Numbers.{eqb-sym}
+use Rattle.laws.proofs.Tests.{eqb-sym}
 use Rattle.nest_laws.proofs.Components.{rooted, root-not}
 use Rattle.nest_laws.proofs.Renumber.{isListed, new-root, new-atomic}
 use Rattle.flat_laws.proofs.FlatComponents.{listed-cases}

@@ -15,7 +15,8 @@ use Rattle.definition.specs.Engine.{toBag}
 use Rattle.pull_laws.specs.Put.{putPorts, keysOf}
 use Rattle.pull_laws.specs.Tables.{inputNode, outputNode, numbersAt}
 use Rattle.pull_laws.specs.TableStep.{pulledBelow, pulledInto, keysInto, rootKeys}
-use Rattle.pull_laws.proofs.Putting.{Front, bag-front}
+use Rattle.pull_laws.proofs.Putting.{bag-front}
+use Rattle.store_laws.proofs.Fronts.{Front}
 use Rattle.store_laws.proofs.Stores.{take-sets}
 use Rattle.sort.proofs.Merging.{length-sort}
 use Rattle.flat_probe.specs.Probe.{probes, probeMarks, probeGiven}

@@ -1,7 +1,7 @@
 -- What the probing step brings to an end is one message for each route that ends there, with the number of the port where the route begins:
 -- for every weight of messages, the sum over what is pulled there is the sum over those routes. Assumes nothing.
-use mathlib.Core.Path.{_≡_, refl, sym, ap, _∙_}
-use Prim.Native.Nat.{ℕ, zero, suc, _+_, _<_}
+use mathlib.Core.Path.{_≡_, refl, sym, ap, _∙_, ap₂}
+use Prim.Native.Nat.{ℕ, zero, suc, _+_}
 use mathlib.Core.List.{List, [], _∷_, _++_, map}
 use mathlib.Core.Bool.{Bool, true, false, _&&_, cond}
 use mathlib.Core.Logic.{_⊎_, inl, inr}
@@ -10,24 +10,24 @@ use lib.Dec.{eqb}
 use lib.ListN.{getD, replicate}
 use borrow.Author.Tests.{ltb-true, eqb-true}
 use Rattle.definition.specs.Lists.{all, upFrom, count, Same}
-use Rattle.definition.specs.Limits.{maxComponents, maxAncestors, portCount}
-use Rattle.definition.specs.Model.{Message, Bag, Coupling, Phase, Model, noMessage, noPhase, isAtomic, atomics, phasesBefore, phaseAt, slots, outputs, children, leaf, node, forest}
+use Rattle.definition.specs.Limits.{portCount}
+use Rattle.definition.specs.Model.{Message, Bag, Coupling, Phase, Model, noMessage, noPhase, isAtomic, atomics, phasesBefore, phaseAt, slots, outputs, leaf}
 use Rattle.definition.specs.Records.{portFits}
 use Rattle.definition.specs.File.{phaseTotal}
-use Rattle.definition.specs.Routes.{endsIn, rootEnds, routes}
-use Rattle.laws.proofs.Sums.{sumOf, sum-map, sum-cong, sum-swap}
-use Rattle.laws.proofs.Lists.{all-append, all-take, all-getD, sum-cong-if, count-sum, count-none}
-use Rattle.model_laws.proofs.WellFormed.{WellFormed, couplings-fit}
-use Rattle.nest_laws.proofs.Numbers.{eqb-sym}
+use Rattle.definition.specs.Routes.{rootEnds, routes}
+use Rattle.laws.proofs.Sums.{sumOf, sum-map, sum-cong, sum-swap, if-cong}
+use Rattle.laws.proofs.Lists.{all-append, all-take, all-getD, sum-cong-if, count-sum}
+use Rattle.model_laws.proofs.WellFormed.{WellFormed}
+use Rattle.laws.proofs.Tests.{eqb-sym}
 use Rattle.nest_laws.proofs.Occurs.{occurs, once-up, pick-one}
-use Rattle.nest_laws.proofs.Trees.{only-in}
-use Rattle.nest_laws.proofs.Components.{atomic-below, rooted, near-root, root-not, atomic-once, atomics-atomic, root, leaves, root-occurs}
-use Rattle.nest_laws.proofs.Nest.{due, outTo, bagAt, outOf, outDue, out-due}
+use Rattle.nest_laws.proofs.Components.{atomic-below, rooted, root-not, atomic-once, atomics-atomic, root, root-occurs, partsOfRoot}
+use Rattle.nest_laws.proofs.Nest.{due, bagAt, outOf, outDue, out-due}
 use Rattle.nest_laws.proofs.Leaves.{no-bag}
-use Rattle.nest_laws.proofs.Paths.{hits, waysSum, down-tree, up-tree}
-use Rattle.nest_laws.proofs.Carried.{weight, leafHits, outs, dueSum, due-tree}
-use Rattle.nest_laws.proofs.Carry.{root-hits, carry, carry-root, carry-atomic}
+use Rattle.nest_laws.proofs.Paths.{waysSum, down-tree, up-tree}
+use Rattle.nest_laws.proofs.Carried.{weight, outs}
+use Rattle.nest_laws.proofs.Carry.{root-hits, carry}
 use Rattle.nest_laws.proofs.Renumber.{isListed}
+use Rattle.nest_laws.proofs.Capacity.{sends, ways-carry, given-carry, no-root}
 use Rattle.flat_laws.proofs.FlatComponents.{listed-cases}
 use Rattle.flat_laws.proofs.RouteEnds.{routeFits, routes-fit, route-parts}
 use Rattle.laws.specs.Keys.{messageOf}
@@ -35,15 +35,11 @@ use Rattle.pull_laws.specs.Put.{valuesOn}
 use Rattle.pull_laws.specs.Tables.{inputNode, outputNode}
 use Rattle.pull_laws.specs.TableStep.{keysInto, rootKeys}
 use Rattle.pull_laws.specs.Tabled.{Tabled}
-use Rattle.pull_laws.proofs.Nests.{sub, sub-step}
-use Rattle.pull_laws.proofs.Flow.{on}
-use Rattle.pull_laws.proofs.Nodes.{inn, out, rowsAt, atomicAt, sentAt, givenAt, rootAt, outputAt}
-use Rattle.pull_laws.proofs.Pulled.{in-right, root-right}
-use Rattle.pull_laws.proofs.Arriving.{bag-right}
-use Rattle.pull_laws.proofs.Keys.{isValue, same-by-port}
-use Rattle.pull_laws.proofs.Values.{hasValue, values-all, coupled-values, input-values, out-fits, bag-fits}
-use Rattle.pull_laws.proofs.Ends.{rising, root-tree}
-use Rattle.route_laws.proofs.Placed.{coupled-parents}
+use Rattle.pull_laws.proofs.Nests.{sub}
+use Rattle.pull_laws.proofs.Keys.{isValue}
+use Rattle.pull_laws.proofs.Values.{hasValue, values-all}
+use Rattle.pull_laws.proofs.Ends.{pulled-same}
+use Rattle.pull_laws.proofs.Ends as E
 use Rattle.flat_probe.specs.Probe.{ownPort, probeOf, probes, probeMarks, probeGiven}
 use Rattle.flat_rows.proofs.Probed.{probed, probeEntry, probe-phase, probe-due, probe-ready}
 use Rattle.flat_rows.proofs.ProbePull.{keys-into, root-keys}
@@ -97,22 +93,13 @@ cut true false c n = refl
 cut false true c n = refl
 cut false false c n = refl
 
-same-source : (b : Bool) (n k : ℕ) → (b ≡ true → n ≡ k) → cond b n 0 ≡ cond b k 0
-same-source true n k h = h refl
-same-source false n k h = refl
-
 module _ (m : Model) (w : WellFormed m) where
-  no-root : occurs 0 (atomics (m .components)) ≡ 0
-  no-root =
-      count-none (isAtomic (m .components)) (λ s. eqb 0 s) (atomics (m .components)) (atomics-atomic (m .components) (w .components .fit) (w .some-component))
-      (λ s. root-not (m .components) s (rooted (m .components) (w .components .fit) (w .some-component)))
-
   -- the root and each atomic stand once in the list of both
   pub listed-once : (c : ℕ) → isListed (m .components) c ≡ true → occurs c (0 ∷ atomics (m .components)) ≡ 1
   listed-once c h = either (listed-cases (m .components) c h)
     where
       at-root : 0 ≡ c → occurs c (0 ∷ atomics (m .components)) ≡ 1
-      at-root e = ap (λ c. occurs c (0 ∷ atomics (m .components))) (sym e) ∙ (unfold count in (ap (λ n. 1 + n) no-root))
+      at-root e = ap (λ c. occurs c (0 ∷ atomics (m .components))) (sym e) ∙ (unfold count in (ap (λ n. 1 + n) (no-root m w)))
 
       at-atomic : isAtomic (m .components) c ≡ true → occurs c (0 ∷ atomics (m .components)) ≡ 1
       at-atomic e =
@@ -143,25 +130,23 @@ module _ (m : Model) (w : WellFormed m) where
         sum-cong _ _ ports (λ q. cut (eqb (k .source) s) (eqb (k .sourcePort) q) (eqb (k .target) a) (W (record { port = k .targetPort; value = beginning s q })))
         ∙ pick-one (λ q. cond (eqb (k .source) s) (cond (eqb (k .target) a) (W (record { port = k .targetPort; value = beginning s q })) 0) 0) (k .sourcePort) ports
         (once-up (k .sourcePort) 0 portCount (omega arith) (omega (arith, ltb-true (k .sourcePort) portCount (route-parts m w k f .source-low))))
-        ∙ same-source (eqb (k .source) s) _ _ (λ e. ap (λ i. cond (eqb (k .target) a) (W (record { port = k .targetPort; value = beginning i (k .sourcePort) })) 0) (sym (eqb-true (k .source) s e))))
+        ∙ if-cong (eqb (k .source) s) _ _ (λ e. ap (λ i. cond (eqb (k .target) a) (W (record { port = k .targetPort; value = beginning i (k .sourcePort) })) 0) (sym (eqb-true (k .source) s e))))
 
-    -- the ways from the atomics, all of them due
-    ways-carry : waysSum (probed m) (probeEntry m) 0 a W rootEnds (root m) ≡ sumOf (λ s. sumOf (carry m a W s) (begun s)) (atomics (m .components))
-    unfolding dueSum outs
-    ways-carry =
+    -- what an atomic sends: all of them are due
+    sent-begun : (s : ℕ) → isAtomic (m .components) s ≡ true → outs (probed m) (probeEntry m) 0 s ≡ begun s
+    unfolding outs
+    sent-begun s e =
         let cs = m .components in
-        sym (due-tree (probed m) (probeEntry m) 0 a W (atomics cs) (isAtomic cs) (atomic-once cs (w .components .fit) (w .some-component)) rootEnds (root m) (only-in (isAtomic cs) (root m) (leaves m w)))
-        ∙ sum-cong-if (isAtomic cs) _ _ (atomics cs) (atomics-atomic cs (w .components .fit) (w .some-component)) (λ s e.
-        let l : s < maxComponents = omega (arith, atomic-below cs s e, w .components .few) in
-        let n = eqb-sym s 0 ∙ root-not cs s (rooted cs (w .components .fit) (w .some-component)) e in
-        let g = leafHits (m .couplings) a W rootEnds (root m) s in
-        ap (λ b. cond b (sumOf g (outputs (phaseAt (probed m) s (probeEntry m s .phase)))) 0) (probe-due m s l)
-        ∙ ap (sumOf g) (ap outputs (probe-phase m s l) ∙ begun-atomic s n)
-        ∙ sum-cong-if portFits _ _ (begun s) (begun-ports s) (λ y h. sym (carry-atomic m w a W s y e h)))
+        ap outputs (probe-phase m s (omega (arith, atomic-below cs s e, w .components .few)))
+        ∙ begun-atomic s (eqb-sym s 0 ∙ root-not cs s (rooted cs (w .components .fit) (w .some-component)) e)
 
-    given-carry : hits a W (endsIn (m .couplings) (root m)) probeGiven ≡ sumOf (carry m a W 0) (begun 0)
-    unfolding hits
-    given-carry = sum-cong-if portFits _ _ probeGiven given-ports (λ y h. sym (carry-root m w a W y h)) ∙ ap (sumOf (carry m a W 0)) begun-root
+    from-atomics : waysSum (probed m) (probeEntry m) 0 a W rootEnds (root m) ≡ sumOf (λ s. sumOf (carry m a W s) (begun s)) (atomics (m .components))
+    unfolding sends
+    from-atomics =
+        let cs = m .components in
+        ways-carry m w (probed m .phases) a W (probeEntry m) 0 (λ s e. ap (all portFits) (sent-begun s e) ∙ begun-ports s)
+        ∙ sum-cong-if (isAtomic cs) _ _ (atomics cs) (atomics-atomic cs (w .components .fit) (w .some-component)) (λ s e.
+        ap₂ (λ b x. sumOf (carry m a W s) (cond b x [])) (probe-due m s (omega (arith, atomic-below cs s e, w .components .few))) (sent-begun s e))
 
     all-sources : sumOf (carry m a W 0) (begun 0) + sumOf (λ s. sumOf (carry m a W s) (begun s)) (atomics (m .components)) ≡ sumOf (λ k. cond (eqb (k .target) a) (W (brought k)) 0) (routes m)
     all-sources =
@@ -180,8 +165,8 @@ module _ (m : Model) (w : WellFormed m) where
         let u = up-tree (probed m) (probeEntry m) 0 a W (root m) rootEnds (probe-ready m (root m)) in
         let d = down-tree (probed m) (probeEntry m) 0 a W (root m) probeGiven in
         let h = root-hits a W (outDue (probed m) (probeEntry m) 0 (root m)) in
-        let g = given-carry in
-        let v = ways-carry in
+        let g = given-carry m w (probed m .phases) a W probeGiven given-ports ∙ ap (sumOf (carry m a W 0)) begun-root in
+        let v = from-atomics in
         let s = all-sources in
         omega arith
 
@@ -208,36 +193,15 @@ module _ (m : Model) (w : WellFormed m) where
     -- at an atomic
     pub bag-same : (a : ℕ) → isAtomic (m .components) a ≡ true
         → Same (map messageOf (keysInto probes t probeMarks probeMarks probeGiven a)) (bagAt (probed m) (probeEntry m) 0 a (root m) probeGiven)
-    unfolding sentAt givenAt hasValue
     bag-same a e =
-        let fit = couplings-fit m w in
-        let l = atomic-below (m .components) a e in
-        let near = near-root (m .components) (w .components .fit) (w .some-component) in
-        rw (keys-into m w t h probeGiven a l)
-        (same-by-port _ _
-        (λ q. input-values isValue (rowsAt (probed m)) (atomicAt (probed m)) (sentAt (probed m) (probeEntry m) 0) (λ y. sends-values (y .port) (y .component))
-        (givenAt probeGiven) rootAt outputAt (λ y. values-all isValue (y .port) probeGiven given-values) maxAncestors (inn a q))
-        (bag-fits (probed m) (probeEntry m) 0 fit a (root m) probeGiven given-ports)
-        (λ g q. in-right (probed m) (probeEntry m) 0 g (rising m w) fit (λ c i. probe-ready m (sub (m .components) c)) near probeGiven maxAncestors a q l (near a l)
-        ∙ sym (bag-right (probed m) (probeEntry m) 0 probeGiven (λ y. cond (eqb q (y .port)) (g (y .value)) 0) a (rising m w) near (w .some-component) l e (coupled-parents (m .components) (w .components .fit)))
-        ∙ ap (λ r. on q g (bagAt (probed m) (probeEntry m) 0 a r probeGiven)) (root-tree m w)))
+        rw (keys-into m w t h probeGiven a (atomic-below (m .components) a e))
+        (pulled-same m w (probed m .phases) (probeEntry m) 0 (λ c l. probe-ready m (sub (m .components) c)) sends-values probeGiven given-ports given-values a e)
 
     -- at the root
     pub root-same : Same (map messageOf (rootKeys probes t probeMarks probeMarks)) (outDue (probed m) (probeEntry m) 0 (root m))
-    unfolding sentAt
     root-same =
-        let fit = couplings-fit m w in
-        let near = near-root (m .components) (w .components .fit) (w .some-component) in
-        let below = forest (map (sub (m .components)) (children (m .components) 0)) in
-        let z = rooted (m .components) (w .components .fit) (w .some-component) .root-coupled in
-        let s : sub (m .components) 0 ≡ node 0 below = sub-step (m .components) (rising m w) 0 ∙ rw z in
-        let o : outTo (probed m) (probeEntry m) 0 below 0 ≡ outDue (probed m) (probeEntry m) 0 (root m)
-        = sym (out-due (probed m) (probeEntry m) 0 0 below (probe-ready m (node 0 below))) ∙ ap (outDue (probed m) (probeEntry m) 0) (sym s ∙ root-tree m w) in
-        rw (root-keys m w t h probeGiven, ← o)
-        (same-by-port _ _
-        (λ q. coupled-values isValue (rowsAt (probed m)) (atomicAt (probed m)) (sentAt (probed m) (probeEntry m) 0) (λ y. sends-values (y .port) (y .component)) maxAncestors (out 0 q))
-        (out-fits (probed m) (probeEntry m) 0 fit below 0)
-        (λ g q. root-right (probed m) (probeEntry m) 0 g (rising m w) fit (λ c i. probe-ready m (sub (m .components) c)) near q))
+        rw (root-keys m w t h probeGiven, out-due (probed m) (probeEntry m) 0 0 (partsOfRoot m) (probe-ready m (root m)))
+        (E.root-same m w (probed m .phases) (probeEntry m) 0 (λ c l. probe-ready m (sub (m .components) c)) sends-values)
 
     -- for every test: a message for each route that ends there
     pub atomic-end : (p : Message → Bool) (a : ℕ) → isAtomic (m .components) a ≡ true
@@ -253,5 +217,5 @@ module _ (m : Model) (w : WellFormed m) where
     root-end p =
         let W : Message → ℕ = λ y. cond (p y) 1 0 in
         let n : sumOf W (bagAt (probed m) (probeEntry m) 0 0 (root m) probeGiven) ≡ 0
-        = ap (sumOf W) (no-bag (probed m) (probeEntry m) 0 0 (root m) probeGiven (root-occurs m w 0 ∙ no-root)) ∙ (unfold sumOf in refl) in
+        = ap (sumOf W) (no-bag (probed m) (probeEntry m) 0 0 (root m) probeGiven (root-occurs m w 0 ∙ no-root m w)) ∙ (unfold sumOf in refl) in
         root-same p ∙ count-sum p _ ∙ omega (arith, at-end 0 W)

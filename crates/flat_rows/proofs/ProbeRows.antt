@@ -14,14 +14,14 @@ use Rattle.definition.specs.Limits.{portCount}
 use Rattle.definition.specs.Model.{Message, Coupling, Model, isAtomic, atomics, couplingLe}
 use Rattle.definition.specs.Routes.{routes}
 use Rattle.definition.specs.Flatten.{renumbered, flatRoute, flat}
-use Rattle.laws.proofs.Sorting.{and-left, and-right, sort-perm, coupling-order}
+use Rattle.laws.proofs.Sorting.{sort-perm, coupling-order}
+use Rattle.laws.proofs.Tests.{and-left, and-right}
 use Rattle.laws.proofs.Sums.{sumOf, sum-map, sum-cong}
-use Rattle.laws.proofs.Lists.{sum-cong-if, count-sum}
-use Rattle.laws.proofs.Bags.{count-append, same-perm}
+use Rattle.laws.proofs.Lists.{sum-cong-if, count-sum, all-at}
+use Rattle.laws.proofs.Bags.{count-append, same-perm, same-length}
 use Rattle.model_laws.proofs.WellFormed.{WellFormed}
-use Rattle.nest_laws.proofs.Numbers.{same-length}
 use Rattle.nest_laws.proofs.Components.{atomics-atomic}
-use Rattle.nest_laws.proofs.Renumber.{new-root, new-atomic, distinct-atomics, all-at}
+use Rattle.nest_laws.proofs.Renumber.{new-root, new-atomic, distinct-atomics}
 use Rattle.flat_laws.proofs.FlatComponents.{new-byte}
 use Rattle.flat_laws.proofs.RouteEnds.{routeFits, routes-fit, route-parts}
 use Rattle.laws.specs.Keys.{valueRange, messageOf}

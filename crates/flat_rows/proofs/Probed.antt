@@ -8,40 +8,29 @@ use native.Mathlib.Omega.{arith}
 use lib.Dec.{eqb}
 use lib.ListN.{length, getD, replicate, length-replicate}
 use borrow.Author.Tests.{le-leb}
-use Rattle.definition.specs.Lists.{sum, upFrom}
+use Rattle.definition.specs.Lists.{sum}
 use Rattle.definition.specs.Limits.{maxComponents, neverField}
 use Rattle.definition.specs.Model.{Component, Phase, Model, noPhase, phasesBefore, phaseAt, outputs, Tree, leaf}
 use Rattle.definition.specs.File.{phaseTotal}
 use Rattle.definition.specs.Devs.{Time, finite, never, later, sameTime}
 use Rattle.definition.specs.Atomic.{advanceOf}
 use Rattle.definition.specs.SavedRun.{Entry, dueOf, notBefore, dueAt}
-use Rattle.laws.proofs.Lists.{all-every, getD-map}
+use Rattle.laws.proofs.Lists.{all-every}
 use Rattle.nest_laws.proofs.Trees.{leavesT, only-in}
 use Rattle.nest_laws.proofs.Nest.{Fresh, Ready, ready-in, due, outOf, outDue}
-use Rattle.pull_laws.proofs.Positions.{getD-up}
 use Rattle.flat_probe.specs.Probe.{probeOf, probes}
+use Rattle.flat_probe.proofs.Stored.{probe-at}
 
 -- past the first of two lists
 getD-past : {A : Type 0} (x y : List A) (i : ℕ) (d : A) → getD (x ++ y) (length x + i) d ≡ getD y i d
 getD-past [] y i d = ap (λ k. getD y k d) (let e : 0 + i ≡ i = omega arith in e)
 getD-past (a ∷ x) y i d = ap (λ k. getD (a ∷ (x ++ y)) k d) (let e : suc (length x) + i ≡ suc (length x + i) = omega arith in e) ∙ getD-past x y i d
 
-length-up : (k n : ℕ) → length (upFrom k n) ≡ n
-unfolding upFrom
-length-up k zero = refl
-length-up k (suc n) = ap suc (length-up (suc k) n)
-
 before-most : (cs : List Component) (c : ℕ) → phasesBefore cs c ≤ phaseTotal cs
 unfolding phasesBefore phaseTotal sum
 before-most cs zero = omega arith
 before-most [] (suc c) = omega arith
 before-most (k ∷ cs) (suc c) = let h = before-most cs c in omega arith
-
-pub probe-at : (c : ℕ) → c < maxComponents → getD probes c noPhase ≡ probeOf c
-unfolding probes
-probe-at c l =
-    getD-map probeOf (upFrom 0 maxComponents) c 0 noPhase (omega (arith, length-up 0 maxComponents))
-    ∙ ap probeOf (getD-up 0 maxComponents c l ∙ omega arith)
 
 module _ (m : Model) where
   abbrev pub probed : Model

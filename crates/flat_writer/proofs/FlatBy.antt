@@ -11,7 +11,7 @@ use Rattle.definition.specs.Limits.{portCount}
 use Rattle.definition.specs.Model.{Component, Rule, Model, noComponent, componentAt, isAtomic, atomics}
 use Rattle.definition.specs.Pinned.Decoder.{ruleFields}
 use Rattle.definition.specs.Flatten.{renumbered, flatAtomic, flatComponents, flatRule, flat}
-use Rattle.laws.proofs.Sorting.{and-left, and-right}
+use Rattle.laws.proofs.Tests.{and-left, and-right}
 use Rattle.laws.proofs.Lists.{map-cong-if}
 use Rattle.model_laws.proofs.WellFormed.{WellFormed, rules-fit}
 use Rattle.nest_laws.proofs.Renumber.{listed-atomic}

@@ -1,38 +1,21 @@
 -- Records stored one after the other, and records whose bytes are copied from where they were read. Assumes nothing.
 use mathlib.Core.Path.{_≡_, refl, sym, ap, ap₂, _∙_}
-use Prim.Native.Nat.{ℕ, zero, suc, _+_, _*_, _≤_, _<_}
+use Prim.Native.Nat.{ℕ, suc, _+_, _*_, _≤_, _<_}
 use mathlib.Core.List.{List, [], _∷_, _++_, map}
 use native.Mathlib.Omega.{arith}
-use lib.ListN.{length, getD, take, drop, length-take, length-drop, drop-of-length-le}
-use lib.Seq.{sets, drop-cons, take-all, take-add, drop-drop}
+use lib.ListN.{length, getD, take, drop, drop-of-length-le}
+use lib.Seq.{sets, drop-cons}
 use Rattle.definition.specs.Lists.{concat, sum}
 use Rattle.definition.specs.Bytes.{Bytes, AllBytes, numberAt, bytesOf, chunks, laidOut}
-use Rattle.definition.specs.Limits.{componentSize, phaseSize, ruleSize, couplingSize}
-use Rattle.definition.specs.Model.{Component, Phase, Rule, Coupling, slots}
-use Rattle.definition.specs.Records.{componentBytes, couplingBytes, messageAt, phaseBytes, ruleBytes}
+use Rattle.definition.specs.Limits.{phaseSize, ruleSize}
+use Rattle.definition.specs.Records.{phaseBytes, ruleBytes}
 use Rattle.definition.specs.Pinned.Decoder.{toPhase, toRule}
-use Rattle.model_laws.proofs.Codec.{take-bytes, drop-bytes, number-written}
+use Rattle.model_laws.proofs.Layouts.{fieldsAt, fields-written}
+use Rattle.model_laws.proofs.Rows.{rows-written}
+use Rattle.model_laws.proofs.Spellings.{phase-spelled}
 use Rattle.store_laws.proofs.Stores.{sets-append}
 use Rattle.flat_ranks.specs.Ranks.{rankOf}
 use Rattle.flat_writer.specs.Written.{ruleBy}
-
--- ---- sizes
-
-pub length-component : (k : Component) → length (componentBytes k) ≡ componentSize
-unfolding componentBytes laidOut bytesOf
-length-component k = refl
-
-pub length-phase : (k : Phase) → length (phaseBytes k) ≡ phaseSize
-unfolding phaseBytes slots laidOut bytesOf concat
-length-phase k = refl
-
-pub length-rule : (k : Rule) → length (ruleBytes k) ≡ ruleSize
-unfolding ruleBytes laidOut bytesOf
-length-rule k = refl
-
-pub length-coupling : (k : Coupling) → length (couplingBytes k) ≡ couplingSize
-unfolding couplingBytes laidOut bytesOf
-length-coupling k = refl
 
 -- ---- records one after the other, each of `size` bytes
 
@@ -60,47 +43,14 @@ module _ {A : Type 0} (size : ℕ) (bytes : A → Bytes) (sized : (x : A) → le
 
 -- ---- records that are copied
 
--- fields of such widths from a position on, written again
-fieldsBytes : List ℕ → ℕ → Bytes → Bytes
-fieldsBytes [] at s = []
-fieldsBytes (w ∷ ws) at s = bytesOf w (numberAt w at s) ++ fieldsBytes ws (at + w) s
-
-fields-copied : (ws : List ℕ) (at : ℕ) {s : Bytes} → at + sum ws ≤ length s → AllBytes s → fieldsBytes ws at s ≡ take (sum ws) (drop at s)
-unfolding fieldsBytes sum
-fields-copied [] at l h = refl
-fields-copied (w ∷ ws) at {s} l h =
-    ap₂ _++_ (number-written w at (omega arith) h) (fields-copied ws (at + w) (omega arith) h)
-    ∙ ap (λ r. take w (drop at s) ++ take (sum ws) r) (sym (drop-drop w at s))
-    ∙ sym (take-add w (sum ws) (drop at s))
-
-phase-copied : {r : Bytes} → length r ≡ phaseSize → AllBytes r → phaseBytes (toPhase r) ≡ r
-unfolding sum
-phase-copied {r} l h = fields ∙ fields-copied widths 0 (omega arith) h ∙ take-all 18 r (omega arith)
-  where
-    widths : List ℕ
-    widths = 4 ∷ 1 ∷ 1 ∷ 1 ∷ 2 ∷ 1 ∷ 2 ∷ 1 ∷ 2 ∷ 1 ∷ 2 ∷ []
-
-    fields : phaseBytes (toPhase r) ≡ fieldsBytes widths 0 r
-    fields = unfold phaseBytes toPhase messageAt slots laidOut bytesOf concat fieldsBytes in refl
-
 -- a rule with another component
 pub rule-copied : (t : List ℕ) {r : Bytes} → length r ≡ ruleSize → AllBytes r
     → ruleBytes (ruleBy t (toRule r)) ≡ bytesOf 1 (rankOf t (numberAt 1 0 r)) ++ take 17 (drop 1 r)
-unfolding sum
-rule-copied t {r} l h = fields ∙ ap (λ b. bytesOf 1 (rankOf t (numberAt 1 0 r)) ++ b) (fields-copied widths 1 (omega arith) h)
-  where
-    widths : List ℕ
-    widths = 1 ∷ 1 ∷ 1 ∷ 2 ∷ 2 ∷ 2 ∷ 4 ∷ 4 ∷ []
-
-    fields : ruleBytes (ruleBy t (toRule r)) ≡ bytesOf 1 (rankOf t (numberAt 1 0 r)) ++ fieldsBytes widths 1 r
-    fields = unfold ruleBytes ruleBy toRule laidOut bytesOf fieldsBytes in refl
+unfolding ruleBytes ruleBy toRule laidOut bytesOf sum fieldsAt
+rule-copied t {r} l h = ap (λ b. bytesOf 1 (rankOf t (numberAt 1 0 r)) ++ b) (fields-written (1 ∷ 1 ∷ 1 ∷ 2 ∷ 2 ∷ 2 ∷ 4 ∷ 4 ∷ []) 1 (omega arith) h)
 
 -- all phases of a slice
 pub phases-copied : (n : ℕ) {s : Bytes} → n * phaseSize ≤ length s → AllBytes s
     → concat (map phaseBytes (map toPhase (chunks n phaseSize s))) ≡ take (n * phaseSize) s
-unfolding concat chunks
-phases-copied zero l h = refl
-phases-copied (suc n) {s} l h =
-    let e : phaseSize + n * phaseSize ≡ suc n * phaseSize = omega arith in
-    ap₂ _++_ (phase-copied (length-take phaseSize s ∙ omega arith) (take-bytes phaseSize h)) (phases-copied n (omega (arith, length-drop phaseSize s)) (drop-bytes phaseSize h))
-    ∙ sym (take-add phaseSize (n * phaseSize) s) ∙ ap (λ k. take k s) e
+unfolding phaseBytes
+phases-copied n l h = rows-written phase-spelled n l h

@@ -1,6 +1,6 @@
 -- The sections of the flat form, as the code stores them: a count, then records one after the other. Assumes nothing.
 use mathlib.Core.Path.{_≡_, refl, sym, ap, ap₂, _∙_}
-use Prim.Native.Nat.{ℕ, zero, suc, _+_, _*_, _/_, _%_, _≤_, _<_}
+use Prim.Native.Nat.{ℕ, suc, _+_, _*_, _/_, _%_, _≤_, _<_}
 use mathlib.Core.List.{List, [], _∷_, _++_, map, append-assoc}
 use native.Mathlib.Omega.{arith}
 use native.Mathlib.Nat.{add-zero, le-refl}
@@ -13,18 +13,19 @@ use Rattle.definition.specs.Model.{Component, Phase, Rule, noComponent, noRule,
 use Rattle.definition.specs.Records.{componentBytes, phaseBytes, ruleBytes, couplingBytes}
 use Rattle.definition.specs.File.{sectionBytes, modelBytes}
 use Rattle.definition.specs.Pinned.Decoder.{toPhase, toRule}
-use Rattle.laws.proofs.Lists.{getD-map}
+use Rattle.laws.proofs.Lists.{getD-map, length-up}
 use Rattle.byte_laws.specs.Parts.{recordsIn, row}
 use Rattle.byte_laws.proofs.Records.{length-records, record-in}
 use Rattle.model_records.specs.Values.{phasesIn, rulesIn}
-use Rattle.model_laws.proofs.Codec.{length-bytes, rows-length}
+use Rattle.model_laws.proofs.Codec.{length-bytes}
 use Rattle.pull_laws.specs.Tables.{numbersAt}
 use Rattle.pull_laws.proofs.Positions.{getD-up}
 use Rattle.store_laws.proofs.Stores.{sets-append, sets-front}
 use Rattle.flat_ranks.specs.Ranks.{rankOf}
 use Rattle.laws.specs.Keys.{couplingOf}
 use Rattle.flat_writer.specs.Written.{numbersIn, underRoot, atomicsBy, componentsBy, ruleBy, flatBy}
-use Rattle.flat_writer.proofs.Pieces.{records-more, records-none, phases-copied, rule-copied, length-component, length-phase, length-rule, length-coupling}
+use Rattle.flat_writer.proofs.Pieces.{records-more, records-none, phases-copied, rule-copied}
+use Rattle.model_laws.proofs.Writing.{component-size, phase-size, rule-size, coupling-size, section-length}
 
 -- a whole slice, copied
 pub copy-start : (s d : Bytes) (at : ℕ) → sets d (at + 0) (slice 0 (length s) s) ≡ sets d at s
@@ -60,11 +61,6 @@ atomic-puts k at b x y z =
 -- ---- lists of records
 
 module _ (cs : List Component) (t : List ℕ) (n : ℕ) where
-  length-up : (k n : ℕ) → length (upFrom k n) ≡ n
-  unfolding upFrom
-  length-up k zero = refl
-  length-up k (suc n) = ap suc (length-up (suc k) n)
-
   length-numbers : length (numbersIn t n) ≡ n
   unfolding numbersIn
   length-numbers = length-map (upFrom 0 n) _ ∙ length-up 0 n
@@ -85,10 +81,10 @@ module _ (cs : List Component) (t : List ℕ) (n : ℕ) where
       ≡ sets b (7 + 5 * i) (concat (map componentBytes (drop i (atomicsBy cs t n))))
   atomics-more i b l =
       ap (λ k. sets (sets b (7 + 5 * i) (componentBytes k)) (7 + 5 * (i + 1)) (concat (map componentBytes (drop (i + 1) (atomicsBy cs t n))))) (sym (atomic-at i l))
-      ∙ records-more 5 componentBytes length-component (atomicsBy cs t n) i 7 noComponent b (omega (arith, length-atomics))
+      ∙ records-more 5 componentBytes component-size (atomicsBy cs t n) i 7 noComponent b (omega (arith, length-atomics))
 
   pub atomics-none : (i : ℕ) (b : Bytes) → n ≤ i → sets b (7 + 5 * i) (concat (map componentBytes (drop i (atomicsBy cs t n)))) ≡ b
-  atomics-none i b l = records-none 5 componentBytes length-component (atomicsBy cs t n) i (7 + 5 * i) b (omega (arith, length-atomics))
+  atomics-none i b l = records-none 5 componentBytes component-size (atomicsBy cs t n) i (7 + 5 * i) b (omega (arith, length-atomics))
 
   -- count, root and atomics
   pub components-puts : (b : Bytes) → sets (sets (sets b 0 (bytesOf 2 (n + 1))) 2 (bytesOf 5 0)) 7 (concat (map componentBytes (atomicsBy cs t n))) ≡ sets b 0 (sectionBytes componentBytes (componentsBy cs t n))
@@ -96,7 +92,7 @@ module _ (cs : List Component) (t : List ℕ) (n : ℕ) where
       let k : n + 1 ≡ length (componentsBy cs t n) = count in
       ap (λ k. sets (sets (sets b 0 (bytesOf 2 k)) 2 (bytesOf 5 0)) 7 (concat (map componentBytes (atomicsBy cs t n)))) k
       ∙ ap (λ r. sets (sets (sets b 0 (bytesOf 2 (length (componentsBy cs t n)))) 2 r) 7 (concat (map componentBytes (atomicsBy cs t n)))) root-bytes
-      ∙ pieces (bytesOf 2 (length (componentsBy cs t n))) (componentBytes noComponent) (concat (map componentBytes (atomicsBy cs t n))) (length-bytes 2 _) (length-component noComponent)
+      ∙ pieces (bytesOf 2 (length (componentsBy cs t n))) (componentBytes noComponent) (concat (map componentBytes (atomicsBy cs t n))) (length-bytes 2 _) (component-size noComponent)
       ∙ (unfold sectionBytes componentsBy concat in refl)
     where
       count : n + 1 ≡ length (componentsBy cs t n)
@@ -143,7 +139,7 @@ module _ (s : Bytes) (t : List ℕ) where
       let xs = map (ruleBy t) (rulesIn s) in
       let m : i < length xs = omega (arith, length-map (rulesIn s) (ruleBy t)) in
       ap (λ k. sets (sets b (at + 18 * i) (ruleBytes k)) (at + 18 * (i + 1)) (concat (map ruleBytes (drop (i + 1) xs)))) (sym (here ∙ ap (ruleBy t) there))
-      ∙ records-more 18 ruleBytes length-rule xs i at (ruleBy t noRule) b m
+      ∙ records-more 18 ruleBytes rule-size xs i at (ruleBy t noRule) b m
     where
       here : getD (map (ruleBy t) (rulesIn s)) i (ruleBy t noRule) ≡ ruleBy t (getD (rulesIn s) i noRule)
       here = getD-map (ruleBy t) (rulesIn s) i noRule (ruleBy t noRule) l
@@ -152,7 +148,7 @@ module _ (s : Bytes) (t : List ℕ) where
       there = unfold rulesIn row in (record-in ruleSize toRule s i noRule (omega (arith, length-rules)))
 
   pub rules-none : (i at : ℕ) (b : Bytes) → length (rulesIn s) ≤ i → sets b at (concat (map ruleBytes (drop i (map (ruleBy t) (rulesIn s))))) ≡ b
-  rules-none i at b l = records-none 18 ruleBytes length-rule (map (ruleBy t) (rulesIn s)) i at b (omega (arith, length-map (rulesIn s) (ruleBy t)))
+  rules-none i at b l = records-none 18 ruleBytes rule-size (map (ruleBy t) (rulesIn s)) i at b (omega (arith, length-map (rulesIn s) (ruleBy t)))
 
 -- rows
 module _ (rows : List ℕ) (n : ℕ) (few : n ≤ length rows) where
@@ -167,10 +163,10 @@ module _ (rows : List ℕ) (n : ℕ) (few : n ≤ length rows) where
       let e : getD xs i (couplingOf 0) ≡ couplingOf (getD rows i 0)
       = getD-map couplingOf (take n rows) i 0 (couplingOf 0) (omega (arith, length-take-le n rows few)) ∙ ap couplingOf (getD-take n rows i 0 l) in
       ap (λ k. sets (sets b (at + 4 * i) (couplingBytes k)) (at + 4 * (i + 1)) (concat (map couplingBytes (drop (i + 1) xs)))) (sym e)
-      ∙ records-more 4 couplingBytes length-coupling xs i at (couplingOf 0) b (omega (arith, length-rows))
+      ∙ records-more 4 couplingBytes coupling-size xs i at (couplingOf 0) b (omega (arith, length-rows))
 
   pub rows-none : (i at : ℕ) (b : Bytes) → n ≤ i → sets b at (concat (map couplingBytes (drop i (map couplingOf (take n rows))))) ≡ b
-  rows-none i at b l = records-none 4 couplingBytes length-coupling (map couplingOf (take n rows)) i at b (omega (arith, length-rows))
+  rows-none i at b l = records-none 4 couplingBytes coupling-size (map couplingOf (take n rows)) i at b (omega (arith, length-rows))
 
 -- a rule from its row
 pub rule-row : (s : Bytes) (i : ℕ) → i < length (rulesIn s) → length (take 18 (drop (18 * i) s)) ≡ ruleSize
@@ -184,11 +180,6 @@ rule-puts t r at b l h =
     ∙ sym (sets-append x (take 17 (drop 1 r)) b at) ∙ ap (sets b at) (sym (rule-copied t l h))
 
 -- ---- the whole
-
-section-length : {A : Type 0} (size : ℕ) (bytes : A → Bytes) → ((x : A) → length (bytes x) ≡ size) → (xs : List A) → length (sectionBytes bytes xs) ≡ 2 + length xs * size
-unfolding sectionBytes
-section-length size bytes sized xs =
-    length-append (bytesOf 2 (length xs)) (concat (map bytes xs)) ∙ ap₂ _+_ (length-bytes 2 (length xs)) (rows-length size bytes sized xs)
 
 module _ (cs : List Component) (ps : List Phase) (rs : List Rule) (t : List ℕ) (n : ℕ) (rows : List ℕ) where
   first : Bytes
@@ -211,19 +202,19 @@ module _ (cs : List Component) (ps : List Phase) (rs : List Rule) (t : List ℕ)
 
   first-length : length first ≡ 7 + 5 * n
   unfolding first componentsBy
-  first-length = section-length 5 componentBytes length-component (noComponent ∷ atomicsBy cs t n) ∙ omega (arith, length-atomics cs t n)
+  first-length = section-length 5 componentBytes component-size (noComponent ∷ atomicsBy cs t n) ∙ omega (arith, length-atomics cs t n)
 
   second-length : length second ≡ 2 + 18 * length ps
   unfolding second
-  second-length = section-length 18 phaseBytes length-phase ps ∙ omega arith
+  second-length = section-length 18 phaseBytes phase-size ps ∙ omega arith
 
   third-length : length third ≡ 2 + 18 * length rs
   unfolding third
-  third-length = section-length 18 ruleBytes length-rule (map (ruleBy t) rs) ∙ omega (arith, length-map rs (ruleBy t))
+  third-length = section-length 18 ruleBytes rule-size (map (ruleBy t) rs) ∙ omega (arith, length-map rs (ruleBy t))
 
   fourth-length : length fourth ≡ 2 + 4 * length rows
   unfolding fourth
-  fourth-length = section-length 4 couplingBytes length-coupling (map couplingOf rows) ∙ omega (arith, length-map rows couplingOf)
+  fourth-length = section-length 4 couplingBytes coupling-size (map couplingOf rows) ∙ omega (arith, length-map rows couplingOf)
 
   pub flat-length : length (modelBytes (flatBy cs ps rs t n rows)) ≡ 13 + 5 * n + 18 * length ps + 18 * length rs + 4 * length rows
   flat-length =

@@ -12,7 +12,6 @@ use Rattle.definition.specs.Limits.{maxComponents, maxPhases, maxRules, maxRout
 use Rattle.definition.specs.Model.{atomics}
 use Rattle.definition.specs.File.{modelBytes}
 use Rattle.definition.specs.Pinned.Decoder.{accepted}
-use Rattle.definition.specs.Engine.{wrote}
 use Rattle.definition.specs.Flatten.{flat, flatten}
 use Rattle.model_records.specs.Values.{componentsIn, phasesIn, rulesIn, modelIn}
 use Rattle.model.specs.Checked.{componentsPart, phasesPart, rulesPart, modelOf}
@@ -20,7 +19,8 @@ use Rattle.model.specs.declared.Counts.{Counts}
 use Rattle.pull_laws.specs.Ranges.{InRange}
 use Rattle.pull_laws.specs.TablesOf.{TablesOf}
 use Rattle.model_tables.proofs.Accepted.{fine, few-records, few-atomics}
-use Rattle.run_calls.proofs.Starts.{wrote-short, wrote-whole}
+use Rattle.model_laws.proofs.Answers.{flatten-model, flatten-done}
+use Rattle.model_laws.proofs.Answers as Answers
 use Rattle.flat_rows.specs.Rows.{probeRows}
 use Rattle.flat_rows.proofs.ProbeRows.{rows-sorted, rows-many}
 use Rattle.flat_writer.specs.Written.{flatBy}
@@ -29,8 +29,7 @@ use Rattle.flat_writer.proofs.FlatBy.{flat-by}
 use Rattle.sort.proofs.Merging.{length-sort}
 
 pub flatten-refused : (file buffer : Bytes) (n : ℕ) → refused n ≡ accepted file → record { number = n; written = 0; buffer = buffer } ≡ flatten file buffer
-unfolding flatten wrote
-flatten-refused file buffer n e = rw (← e)
+flatten-refused file buffer n e = sym (flatten-model file buffer n (sym e))
 
 pub at-most : {a b c : ℕ} → a ≤ b → c ≡ b → a ≤ c
 at-most l e = omega arith
@@ -46,10 +45,6 @@ module _ (file : Bytes) (n : Counts) (bytes : (i : ℕ) → getD file i 0 < 256)
   pub few-own : length (atomics (componentsIn (componentsPart file n))) ≤ maxComponents
   unfolding modelOf modelIn
   few-own = few-atomics file n bytes e
-
-  accepted-is : (buffer : Bytes) → wrote buffer (ok (modelBytes (flat (modelOf file n)))) ≡ flatten file buffer
-  unfolding flatten
-  accepted-is buffer = rw (← e)
 
   -- the tables of the model, and the number of its atomics
   module _ (t : List ℕ) (h : TablesOf (modelOf file n) t) (k : ℕ) (c : k ≡ length (atomics (componentsIn (componentsPart file n)))) where
@@ -87,14 +82,12 @@ module _ (file : Bytes) (n : Counts) (bytes : (i : ℕ) → getD file i 0 < 256)
 
       -- "15 lent buffer too short"
       pub flatten-short : (buffer : Bytes) → length buffer < size → record { number = 15; written = 0; buffer = buffer } ≡ flatten file buffer
-      flatten-short buffer l = wrote-short buffer (modelBytes (flat (modelOf file n))) (omega (arith, size-is)) ∙ accepted-is buffer
+      flatten-short buffer l = sym (Answers.flatten-short file buffer (modelOf file n) (sym e) (omega (arith, size-is)))
 
       pub flatten-whole : (buffer after rows : List ℕ) → size ≤ length buffer → rows ≡ sortBy leb (probeRows t k)
           → after ≡ stored (modelBytes (flatBy (componentsIn (componentsPart file n)) (phasesIn (phasesPart file n)) (rulesIn (rulesPart file n)) t k rows)) buffer
           → record { number = 0; written = size; buffer = after } ≡ flatten file buffer
       flatten-whole buffer after rows l r s =
-          wrote-whole buffer (modelBytes (flat (modelOf file n))) size after size-is
-          (s ∙ ap (λ r. stored (modelBytes (flatBy (componentsIn (componentsPart file n)) (phasesIn (phasesPart file n)) (rulesIn (rulesPart file n)) t k r)) buffer) r
-          ∙ ap (λ m. stored (modelBytes m) buffer) flat-is)
-          (omega (arith, size-is))
-          ∙ accepted-is buffer
+          let same = s ∙ ap (λ r. stored (modelBytes (flatBy (componentsIn (componentsPart file n)) (phasesIn (phasesPart file n)) (rulesIn (rulesPart file n)) t k r)) buffer) r
+          ∙ ap (λ m. stored (modelBytes m) buffer) flat-is in
+          (λ i. record { number = 0; written = size-is i; buffer = same i }) ∙ sym (flatten-done file buffer (modelOf file n) (sym e) (omega (arith, size-is)))

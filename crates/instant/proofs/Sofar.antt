@@ -16,7 +16,7 @@ use Rattle.definition.specs.Model.{Bag, messageLe}
 use Rattle.definition.specs.Step.{Stepped, Simulator}
 use Rattle.definition.specs.Instant.{Instant, done, jammed, stepped, isDue, goesOn, stepsAt, instant, over, traceBytes, recordsFrom, instantTrace}
 use Rattle.definition.specs.Engine.{toBag}
-use Rattle.laws.proofs.Sorting.{clash}
+use Rattle.laws.proofs.Tests.{clash}
 use Rattle.clock.specs.Times.{latest}
 use Rattle.model_records.specs.Values.{phasesIn}
 use Rattle.pull_laws.specs.Carried.{Carried, nextEnd}

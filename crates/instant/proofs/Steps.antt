@@ -1,7 +1,7 @@
 -- The steps of an instant as a loop takes them: those taken so far, put in front of what is left of the instant, are the whole instant;
 -- and the verdict at each way out of the loop. Over anything that takes steps. Assumes nothing.
 use mathlib.Core.Path.{_≡_, refl, _∙_, sym, ap}
-use mathlib.Core.List.{List, [], _∷_, _++_, map, append-assoc, append-nil}
+use mathlib.Core.List.{List, [], _∷_, _++_, map, append-nil}
 use mathlib.Core.Bool.{Bool, true, false, _&&_, not, cond}
 use Prim.Native.Nat.{ℕ, zero, suc, _+_, _*_, _/_, _≤_, _<_, min}
 use native.Mathlib.Omega.{arith}
@@ -13,10 +13,11 @@ use Rattle.definition.specs.Lists.{concat, isEmpty, sortBy}
 use Rattle.definition.specs.Bytes.{Bytes, chunks}
 use Rattle.definition.specs.Model.{Message, Bag, messageLe}
 use Rattle.definition.specs.Records.{messageAt}
-use Rattle.definition.specs.Instant.{TraceRecord, recordBytes, traceBytes, recordsFrom, instantTrace}
+use Rattle.definition.specs.Instant.{recordBytes, traceBytes, recordsFrom, instantTrace}
 use Rattle.definition.specs.Engine.{toBag}
 use Rattle.laws.proofs.Lists.{sort-permutes, length-perm}
 use Rattle.laws.specs.Keys.{messageOf}
+use Rattle.laws.proofs.Turns.{traces-append}
 use Rattle.trace_records.specs.Written.{recordOf, stepBytes}
 
 -- ---- the given bag
@@ -46,11 +47,6 @@ unfolding toBag chunks
 bag-none b = refl
 
 -- ---- records
-
-traces-append : (rs ss : List TraceRecord) → traceBytes (rs ++ ss) ≡ traceBytes rs ++ traceBytes ss
-unfolding traceBytes concat
-traces-append [] ss = refl
-traces-append (r ∷ rs) ss = ap (λ b. recordBytes r ++ b) (traces-append rs ss) ∙ sym (append-assoc (recordBytes r) (traceBytes rs) (traceBytes ss))
 
 records-append : (now k : ℕ) (xs ys : List Bag) → recordsFrom now k (xs ++ ys) ≡ recordsFrom now k xs ++ recordsFrom now (k + length xs) ys
 unfolding recordsFrom

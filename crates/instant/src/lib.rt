@@ -16,10 +16,10 @@ ghost use Rattle.instant.specs.declared.Verdict.the-variants as VV;
 use clock::Moment;
 use dues::next_end;
 use limits::MAX_COMPONENTS;
+use limits::MESSAGE_SIZE;
 use simulator::step_once;
 use table_words::TABLE_SIZE;
 use trace_records::MAX_ROOT_BAG;
-use trace_records::MESSAGE_SIZE;
 use trace_records::put_step;
 
 // "at most 1,024 in all"

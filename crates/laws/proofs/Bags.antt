@@ -5,21 +5,39 @@ use mathlib.Core.List.{List, [], _∷_, _++_, List·Permᴰ, List·Permᴰ·nil,
 use mathlib.Core.Bool.{Bool, true, false, _&&_, cond}
 use native.Mathlib.Omega.{arith}
 use lib.Dec.{eqb}
+use lib.ListN.{length}
 use borrow.Author.Tests.{eqb-true, eq-eqb}
 use Rattle.definition.specs.Lists.{count, Same, sortBy}
-use Rattle.laws.proofs.Sorting.{and-left, and-right, sort-perm, message-order}
+use Rattle.laws.proofs.Tests.{and-left, and-right}
+use Rattle.laws.proofs.Sorting.{sort-perm, message-order}
 use Rattle.definition.specs.Model.{Message, Bag, Rule, messageLe}
-use Rattle.definition.specs.Atomic.{meets, holds, deciding}
+use Rattle.definition.specs.Atomic.{meets, withinElapsed, holds, deciding}
 
 pub count-append : {A : Type 0} (p : A → Bool) (x y : List A) → count p (x ++ y) ≡ count p x + count p y
 unfolding count
 count-append p [] y = omega arith
 count-append p (a ∷ x) y = let h = count-append p x y in omega arith
 
+count-all : {A : Type 0} (x : List A) → count (λ a. true) x ≡ length x
+unfolding count
+count-all [] = refl
+count-all (a ∷ x) = let h = count-all x in omega arith
+
+pub same-length : {A : Type 0} (x y : List A) → Same x y → length x ≡ length y
+same-length x y s = sym (count-all x) ∙ s (λ a. true) ∙ count-all y
+
 -- the deciding rule does not depend on the order of the bag
 pub holds-same : (c p e : ℕ) (x y : Bag) (k : Rule) → Same x y → holds c p e x k ≡ holds c p e y k
 unfolding holds
 holds-same c p e x y k s = rw (s (meets k))
+
+-- a rule that holds for a component names it
+pub holds-component : (c p e : ℕ) (x : Bag) (k : Rule) → holds c p e x k ≡ true → k .component ≡ c
+unfolding holds
+holds-component c p e x k f =
+    let a = eqb (k .component) c in
+    let b = a && eqb (k .phase) p in
+    eqb-true (k .component) c (and-left a _ (and-left b _ (and-left (b && withinElapsed k e) _ f)))
 
 pub deciding-same : (c p e at : ℕ) (x y : Bag) (ks : List Rule) → Same x y → deciding (holds c p e x) at ks ≡ deciding (holds c p e y) at ks
 unfolding deciding

@@ -1,27 +1,17 @@
 -- General laws of lists: tests that all elements pass, congruences over such elements, permutations. Assumes nothing.
-use mathlib.Core.Path.{_≡_, refl, ap, ap₂, _∙_}
-use Prim.Native.Nat.{ℕ, zero, suc, _+_, _≤_, _<_}
-use mathlib.Core.List.{List, [], _∷_, _++_, map, List·Permᴰ, List·Permᴰ·nil, List·Permᴰ·cons, List·Permᴰ·swap, List·Permᴰ·trans, Permᴰ·refl}
-use mathlib.Core.Bool.{Bool, true, false, _&&_, _||_, cond}
+use mathlib.Core.Path.{_≡_, refl, sym, ap, ap₂, _∙_}
+use Prim.Native.Nat.{ℕ, zero, suc, _+_, _-_, _≤_, _<_}
+use mathlib.Core.List.{List, [], _∷_, _++_, map, append-assoc, List·Permᴰ, List·Permᴰ·nil, List·Permᴰ·cons, List·Permᴰ·swap, List·Permᴰ·trans, Permᴰ·refl}
+use mathlib.Core.Bool.{Bool, true, false, _&&_, cond}
 use native.Mathlib.Omega.{arith}
-use lib.ListN.{length, take, getD}
-use Rattle.definition.specs.Lists.{concat, sum, all, keep, count, insertBy, sortBy}
-use Rattle.laws.proofs.Sorting.{and-left, and-right}
+use native.Mathlib.Nat.{le-refl}
+use lib.Dec.{eqb}
+use lib.ListN.{length, take, drop, getD, length-drop}
+use lib.Seq.{take-all}
+use borrow.Author.Tests.{eqb-true, eqb-false}
+use Rattle.definition.specs.Lists.{concat, sum, all, keep, upFrom, count, insertBy, sortBy}
+use Rattle.laws.proofs.Tests.{and-left, and-right, and-true}
 use Rattle.laws.proofs.Sums.{sumOf}
-
-pub and-true : (a b : Bool) → a ≡ true → b ≡ true → a && b ≡ true
-and-true a b e f = rw (e, f)
-
-pub and-false : (b : Bool) → b && false ≡ false
-and-false true = refl
-and-false false = refl
-
-pub or-left : (a b : Bool) → a ≡ true → a || b ≡ true
-or-left a b e = rw e
-
-pub or-right : (a b : Bool) → b ≡ true → a || b ≡ true
-or-right true b e = refl
-or-right false b e = e
 
 module _ {A : Type 0} where
   pub all-head : (p : A → Bool) (a : A) (l : List A) → all p (a ∷ l) ≡ true → p a ≡ true
@@ -79,6 +69,12 @@ module _ {A : Type 0} where
   all-getD p (a ∷ l) zero d h k = and-left (p a) _ h
   all-getD p (a ∷ l) (suc i) d h k = all-getD p l i d (and-right (p a) _ h) k
 
+  pub all-at : (p : A → Bool) (l : List A) (i : ℕ) (d : A) → all p l ≡ true → i < length l → p (getD l i d) ≡ true
+  unfolding all
+  all-at p [] i d h b = absurd (omega arith)
+  all-at p (a ∷ l) zero d h b = and-left (p a) _ h
+  all-at p (a ∷ l) (suc i) d h b = all-at p l i d (and-right (p a) _ h) (omega arith)
+
   pub all-keep : (p : A → Bool) (l : List A) → all p (keep p l) ≡ true
   unfolding all keep
   all-keep p [] = refl
@@ -105,11 +101,6 @@ module _ {A : Type 0} where
   unfolding all sumOf
   sum-cong-if q f g [] h e = refl
   sum-cong-if q f g (a ∷ l) h e = ap₂ _+_ (e a (and-left (q a) _ h)) (sum-cong-if q f g l (and-right (q a) _ h) e)
-
-  pub sum-le-if : (q : A → Bool) (f g : A → ℕ) (l : List A) → all q l ≡ true → ((a : A) → q a ≡ true → f a ≤ g a) → sumOf f l ≤ sumOf g l
-  unfolding all sumOf
-  sum-le-if q f g [] h e = omega arith
-  sum-le-if q f g (a ∷ l) h e = omega (arith, e a (and-left (q a) _ h), sum-le-if q f g l (and-right (q a) _ h) e)
 
   pub map-cong-if : {B : Type 0} (q : A → Bool) (f g : A → B) (l : List A) → all q l ≡ true → ((a : A) → q a ≡ true → f a ≡ g a) → map f l ≡ map g l
   unfolding all
@@ -183,6 +174,11 @@ module _ {A B : Type 0} where
   all-concat p q f (a ∷ l) h e =
       all-append p (f a) (concat (map f l)) (e a (and-left (q a) _ h)) (all-concat p q f l (and-right (q a) _ h) e)
 
+  pub concat-append : (f : A → List B) (x y : List A) → concat (map f (x ++ y)) ≡ concat (map f x) ++ concat (map f y)
+  unfolding concat
+  concat-append f [] y = refl
+  concat-append f (a ∷ x) y = ap (λ l. f a ++ l) (concat-append f x y) ∙ sym (append-assoc (f a) (concat (map f x)) (concat (map f y)))
+
   pub getD-map : (f : A → B) (l : List A) (i : ℕ) (d : A) (e : B) → i < length l → getD (map f l) i e ≡ f (getD l i d)
   getD-map f [] i d e h = absurd (omega arith)
   getD-map f (a ∷ l) zero d e h = refl
@@ -192,3 +188,23 @@ module _ {A B : Type 0} where
   take-map f zero l = refl
   take-map f (suc n) [] = refl
   take-map f (suc n) (a ∷ l) = ap (λ k. f a ∷ k) (take-map f n l)
+
+-- ---- what is left of a list, and a row of numbers
+
+pub tail : {A : Type 0} (a : ℕ) (l : List A) → take (length l - a) (drop a l) ≡ drop a l
+tail a l = take-all (length l - a) (drop a l) (simp length-drop (le-refl (length l - a)))
+
+pub length-up : (k n : ℕ) → length (upFrom k n) ≡ n
+unfolding upFrom
+length-up k zero = refl
+length-up k (suc n) = ap suc (length-up (suc k) n)
+
+-- each number passes a test that all pass
+pub each : (p : ℕ → Bool) (k n : ℕ) → all p (upFrom k n) ≡ true → (i : ℕ) → k ≤ i → i < k + n → p i ≡ true
+unfolding all upFrom
+each p k zero e i h l = absurd (omega arith)
+each p k (suc n) e i h l = go (eqb i k) refl (each p (suc k) n (and-right (p k) _ e) i)
+  where
+    go : (b : Bool) → eqb i k ≡ b → (suc k ≤ i → i < suc k + n → p i ≡ true) → p i ≡ true
+    go true f ih = ap p (eqb-true i k f) ∙ and-left (p k) _ e
+    go false f ih = ih (omega (arith, eqb-false i k f)) (omega arith)

@@ -2,9 +2,9 @@
 use mathlib.Core.Path.{_≡_, refl, sym, ap, _∙_, fun-ext}
 use Prim.Native.Nat.{ℕ, _+_, _*_, _≤_}
 use mathlib.Core.List.{List, [], _∷_, _++_, map}
-use mathlib.Core.Bool.{Bool, true, false, cond}
+use mathlib.Core.Bool.{Bool, true, false, _&&_, cond}
 use native.Mathlib.Omega.{arith}
-use Rattle.definition.specs.Lists.{concat}
+use Rattle.definition.specs.Lists.{concat, keep}
 
 unfoldable pub sumOf : {A : Type 0} → (A → ℕ) → List A → ℕ
 sumOf f [] = 0
@@ -59,3 +59,44 @@ pub sum-swap : {A B : Type 0} (f : A → B → ℕ) (x : List A) (y : List B) �
 unfolding sumOf
 sum-swap f [] y = sym (sum-zero y)
 sum-swap f (a ∷ x) y = ap (λ n. sumOf (f a) y + n) (sum-swap f x y) ∙ sym (sum-add (f a) (λ b. sumOf (λ a. f a b) x) y)
+
+-- ---- sums of what passes a test
+
+pub if-if : (b c : Bool) (n : ℕ) → cond b (cond c n 0) 0 ≡ cond c (cond b n 0) 0
+if-if true true n = refl
+if-if true false n = refl
+if-if false true n = refl
+if-if false false n = refl
+
+pub if-add : (b : Bool) (n k : ℕ) → cond b (n + k) 0 ≡ cond b n 0 + cond b k 0
+if-add true n k = refl
+if-add false n k = refl
+
+pub if-zero : (b : Bool) → cond {A = ℕ} b 0 0 ≡ 0
+if-zero true = refl
+if-zero false = refl
+
+pub if-cong : (b : Bool) (n k : ℕ) → (b ≡ true → n ≡ k) → cond b n 0 ≡ cond b k 0
+if-cong true n k h = h refl
+if-cong false n k h = refl
+
+pub if-both : (a b : Bool) (n : ℕ) → cond b (cond a n 0) 0 ≡ cond (a && b) n 0
+if-both true b n = refl
+if-both false true n = refl
+if-both false false n = refl
+
+module _ {A : Type 0} where
+  pub sum-if : (f : A → ℕ) (b : Bool) (l : List A) → sumOf (λ x. cond b (f x) 0) l ≡ cond b (sumOf f l) 0
+  sum-if f true l = refl
+  sum-if f false l = sum-zero l
+
+  -- an element before a list, where a test passes
+  pub sum-cons : (f : A → ℕ) (b : Bool) (a : A) (l : List A) → sumOf f (cond b (a ∷ l) l) ≡ cond b (f a) 0 + sumOf f l
+  unfolding sumOf
+  sum-cons f true a l = refl
+  sum-cons f false a l = omega arith
+
+  pub sum-keep : (f : A → ℕ) (p : A → Bool) (l : List A) → sumOf f (keep p l) ≡ sumOf (λ a. cond (p a) (f a) 0) l
+  unfolding sumOf keep
+  sum-keep f p [] = refl
+  sum-keep f p (a ∷ l) = sum-cons f (p a) a (keep p l) ∙ rw (sum-keep f p l)

@@ -1,4 +1,5 @@
-// Every limit and every width of the papers that the code names: the numbers of the definitions' `Limits`, once.
+// The limits and widths that the code names: those of the papers, with the numbers of the definitions' `Limits`, and the sizes of the
+// tables by port, which follow from them.
 
 // ---- the model file
 pub const MAX_COMPONENTS: usize = 64;
@@ -42,8 +43,10 @@ pub const MAX_NODES: usize = 512;
 // Ways are counted up to one more than the routes that a model may have.
 pub const WAYS_CAP: u16 = 1025;
 
-// ---- calls
+// ---- calls: a message has port (1) and value (2), a trace record begins with moment (8), step (2) and message count (2)
 pub const MESSAGE_SIZE: usize = 3;
+
+pub const RECORD_HEAD: usize = 12;
 
 pub const MAX_GIVEN: usize = 16;
 

@@ -4,11 +4,14 @@ use mathlib.Core.Path.{_≡_, refl, ap, ap₂, _∙_}
 use Prim.Native.Nat.{ℕ, zero, suc, _+_, _*_, _/_, _%_, _^_, _≤_, _<_}
 use mathlib.Core.List.{List, [], _∷_, _++_, map, append-assoc}
 use native.Mathlib.Omega.{arith}
-use lib.ListN.{length, take, drop, length-append, length-take, length-drop}
+use lib.ListN.{length, length-map, take, drop, length-append, length-take, length-drop}
 use lib.Seq.{take-at, drop-at}
 use borrow.Author.Tests.{ltb-true, lt-ltb}
 use Rattle.definition.specs.Lists.{concat}
 use Rattle.definition.specs.Bytes.{Bytes, AllBytes, none, more, littleEndian, numberAt, bytesOf, chunks}
+use Rattle.definition.specs.Limits.{messageSize}
+use Rattle.definition.specs.Records.{messageAt}
+use Rattle.definition.specs.Engine.{toBag}
 
 -- ---- buffers of bytes
 
@@ -60,11 +63,6 @@ le-small zero h = omega arith
 le-small (suc w) none = let i = le-small w none in omega arith
 le-small (suc w) (more {b = b} h t) = let i = le-small w t in omega (arith, ltb-true b 256 h)
 
--- so that writing it again gives it back
-pub number-kept : (w at : ℕ) {s : Bytes} → AllBytes s → littleEndian (bytesOf w (numberAt w at s)) ≡ numberAt w at s
-unfolding numberAt
-number-kept w at {s} h = le-bytes w (littleEndian (take w (drop at s))) (le-small w (drop-bytes at h))
-
 bytes-of-le : (w : ℕ) {s : Bytes} → length s ≡ w → AllBytes s → bytesOf w (littleEndian s) ≡ s
 unfolding bytesOf littleEndian
 bytes-of-le zero e none = refl
@@ -100,3 +98,7 @@ pub length-chunks : (n size : ℕ) (s : Bytes) → length (chunks n size s) ≡ 
 unfolding chunks
 length-chunks zero size s = refl
 length-chunks (suc n) size s = ap suc (length-chunks n size (drop size s))
+
+pub bag-length : (b : Bytes) → length (toBag b) ≡ length b / messageSize
+unfolding toBag
+bag-length b = length-map (chunks (length b / messageSize) messageSize b) (messageAt 0) ∙ length-chunks (length b / messageSize) messageSize b

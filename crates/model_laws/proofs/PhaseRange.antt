@@ -9,7 +9,7 @@ use native.Mathlib.Omega.{arith}
 use lib.Dec.{leb, ltb, eqb}
 use lib.ListN.{length, getD, replicate, length-replicate, getD-replicate, List·getD-append, List·getD-eq-default, length-append}
 use lib.Seq.{getD-append-add, getD-append-seam, append-snoc}
-use borrow.Author.Tests.{ltb-true, ltb-false, eqb-true}
+use borrow.Author.Tests.{ltb-true, ltb-false}
 use Rattle.definition.specs.Lists.{concat, sum, all}
 use Rattle.definition.specs.Limits.{maxOutputs, portCount}
 use Rattle.definition.specs.Model.{Bag, Component, Phase, Rule, Model, noComponent, noPhase, noRule, componentAt, isAtomic, phasesBefore, phaseAt, outputs}
@@ -17,10 +17,11 @@ use Rattle.definition.specs.Records.{portFits}
 use Rattle.definition.specs.File.{phaseTotal}
 use Rattle.definition.specs.Pinned.Decoder.{advanceFits, usedFit, phaseFields, bounds, phaseFits, ruleFields}
 use Rattle.definition.specs.Devs.{ticks}
-use Rattle.definition.specs.Atomic.{withinElapsed, holds, deciding, ledTo, advanceOf, internal, external, confluent}
+use Rattle.definition.specs.Atomic.{holds, deciding, ledTo, advanceOf, internal, external, confluent}
 use Rattle.definition.specs.SavedRun.{Entry}
 use Rattle.definition.specs.FlatMachine.{moved}
-use Rattle.laws.proofs.Sorting.{and-left, and-right}
+use Rattle.laws.proofs.Tests.{and-left, and-right}
+use Rattle.laws.proofs.Bags.{holds-component}
 use Rattle.model_laws.proofs.WellFormed.{WellFormed, rules-fit}
 
 -- ---- the bounds of the phase records
@@ -102,13 +103,6 @@ module _ (m : Model) (w : WellFormed m) (c : ℕ) where
       let v = leb (k .low) (k .high) in
       omega (arith, ltb-true (k .next) _ (and-right a b (and-left (a && b) p (and-left (a && b && p) v (and-left (a && b && p && v) _ h)))), ap (λ d. componentAt cs d .phases) e)
 
-  holds-component : (p e : ℕ) (x : Bag) (k : Rule) → holds c p e x k ≡ true → k .component ≡ c
-  unfolding holds
-  holds-component p e x k f =
-      let a = eqb (k .component) c in
-      let b = a && eqb (k .phase) p in
-      eqb-true (k .component) c (and-left a _ (and-left b _ (and-left (b && withinElapsed k e) _ f)))
-
   -- the rules `ks` behind others
   led-own : (p e : ℕ) (x : Bag) (before ks : List Rule) → all (ruleFields (m .components)) ks ≡ true → Own p
       → Own (ledTo (before ++ ks) p (deciding (holds c p e x) (length before) ks))
@@ -119,7 +113,7 @@ module _ (m : Model) (w : WellFormed m) (c : ℕ) where
       go : (b : Bool) → holds c p e x k ≡ b
           → Own (ledTo ((before ++ (k ∷ [])) ++ ks) p (deciding (holds c p e x) (length (before ++ (k ∷ []))) ks))
           → Own (ledTo (before ++ (k ∷ ks)) p (cond (holds c p e x k) (some (length before)) (deciding (holds c p e x) (suc (length before)) ks)))
-      go true f ih = rw f (subst (λ (r : Rule). Own (r .next)) (sym (getD-append-seam before k ks noRule)) (rule-own k (and-left (ruleFields (m .components) k) _ h) (holds-component p e x k f)))
+      go true f ih = rw f (subst (λ (r : Rule). Own (r .next)) (sym (getD-append-seam before k ks noRule)) (rule-own k (and-left (ruleFields (m .components) k) _ h) (holds-component c p e x k f)))
       go false f ih =
           let n : length (before ++ (k ∷ [])) ≡ suc (length before) = length-append before (k ∷ []) ∙ omega arith in
           rw (f, ← n, ← append-snoc before k ks) ih

@@ -7,57 +7,36 @@ use native.Mathlib.Omega.{arith}
 use lib.Dec.{ltb, eqb}
 use lib.ListN.{length}
 use borrow.Author.Tests.{ltb-false, eqb-true}
-use Rattle.definition.specs.Lists.{concat}
-use Rattle.definition.specs.Bytes.{Bytes, AllBytes, ok, _>>=_, littleEndian, numberAt, bytesOf, laidOut}
+use Rattle.definition.specs.Bytes.{Bytes, AllBytes, ok, _>>=_}
 use Rattle.definition.specs.Limits.{maxComponents, maxPhases, maxRules, maxCouplings, maxRoutes, componentSize, phaseSize, ruleSize, couplingSize}
-use Rattle.definition.specs.Model.{Model, slots}
-use Rattle.definition.specs.Records.{messageAt, componentBytes, phaseBytes, ruleBytes, couplingBytes}
+use Rattle.definition.specs.Model.{Model}
+use Rattle.definition.specs.Records.{componentBytes, phaseBytes, ruleBytes, couplingBytes}
 use Rattle.definition.specs.File.{phaseTotal}
 use Rattle.definition.specs.Routes.{routes}
 use Rattle.definition.specs.Pinned.Decoder.{toComponent, componentFits, toPhase, phaseFits, toRule, ruleFits, toCoupling, couplingFits, componentCountRefusal, phaseCountRefusal, limitRefusal, componentSection, phaseSection, ruleSection, couplingSection, endOfFile, decode, accepted}
-use Rattle.model_laws.proofs.Codec.{number-kept}
+use Rattle.model_laws.proofs.Layouts.{record-kept}
+use Rattle.model_laws.proofs.Spellings.{component-spelled, phase-spelled, rule-spelled, coupling-spelled}
 use Rattle.model_laws.proofs.WellFormed.{WellFormed, Accepted}
-use Rattle.model_laws.proofs.Sections.{ok-same, bind-ok, refuse-ok, section-given}
+use Rattle.model_laws.proofs.Sections.{section-given}
+use Rattle.laws.proofs.Results.{ok-same, bind-ok, refuse-ok}
 
 -- ---- a record read of bytes is kept by its bytes
 
-module _ (r : Bytes) (b : AllBytes r) where
-  kept : (w at : ℕ) → littleEndian (bytesOf w (numberAt w at r)) ≡ numberAt w at r
-  kept w at = number-kept w at b
+component-kept : (r : Bytes) → AllBytes r → toComponent (componentBytes (toComponent r)) ≡ toComponent r
+unfolding componentBytes
+component-kept r b = record-kept component-spelled b
 
-  component-kept : toComponent (componentBytes (toComponent r)) ≡ toComponent r
-  unfolding toComponent componentBytes numberAt littleEndian laidOut bytesOf
-  component-kept = λ i. record { kind = kept 1 0 i; parent = kept 1 1 i; phases = kept 1 2 i; initial = kept 1 3 i; order = kept 1 4 i }
+phase-kept : (r : Bytes) → AllBytes r → toPhase (phaseBytes (toPhase r)) ≡ toPhase r
+unfolding phaseBytes
+phase-kept r b = record-kept phase-spelled b
 
-  phase-kept : toPhase (phaseBytes (toPhase r)) ≡ toPhase r
-  unfolding toPhase phaseBytes slots messageAt numberAt littleEndian laidOut bytesOf concat
-  phase-kept = λ i. record {
-    advance = kept 4 0 i;
-    next = kept 1 4 i;
-    outputCount = kept 1 5 i;
-    slot0 = record { port = kept 1 6 i; value = kept 2 7 i };
-    slot1 = record { port = kept 1 9 i; value = kept 2 10 i };
-    slot2 = record { port = kept 1 12 i; value = kept 2 13 i };
-    slot3 = record { port = kept 1 15 i; value = kept 2 16 i };
-  }
+rule-kept : (r : Bytes) → AllBytes r → toRule (ruleBytes (toRule r)) ≡ toRule r
+unfolding ruleBytes
+rule-kept r b = record-kept rule-spelled b
 
-  rule-kept : toRule (ruleBytes (toRule r)) ≡ toRule r
-  unfolding toRule ruleBytes numberAt littleEndian laidOut bytesOf
-  rule-kept = λ i. record {
-    component = kept 1 0 i;
-    phase = kept 1 1 i;
-    next = kept 1 2 i;
-    port = kept 1 3 i;
-    low = kept 2 4 i;
-    high = kept 2 6 i;
-    least = kept 2 8 i;
-    lowElapsed = kept 4 10 i;
-    highElapsed = kept 4 14 i;
-  }
-
-  coupling-kept : toCoupling (couplingBytes (toCoupling r)) ≡ toCoupling r
-  unfolding toCoupling couplingBytes numberAt littleEndian laidOut bytesOf
-  coupling-kept = λ i. record { source = kept 1 0 i; sourcePort = kept 1 1 i; target = kept 1 2 i; targetPort = kept 1 3 i }
+coupling-kept : (r : Bytes) → AllBytes r → toCoupling (couplingBytes (toCoupling r)) ≡ toCoupling r
+unfolding couplingBytes
+coupling-kept r b = record-kept coupling-spelled b
 
 -- ---- a count that gets no number
 

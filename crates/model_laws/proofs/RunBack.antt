@@ -1,26 +1,30 @@
 -- A saved run that was written is read back, and a run that was read of bytes is written as it stood: a call may write its run back
 -- also where it did nothing. Assumes nothing.
-use mathlib.Core.Path.{_≡_, refl, sym, ap, ap₂, _∙_}
-use Prim.Native.Nat.{ℕ, zero, suc, _+_, _*_, _^_, _≤_, _<_}
+use mathlib.Core.Path.{_≡_, sym, ap, ap₂, _∙_}
+use Prim.Native.Nat.{ℕ, _+_, _*_, _^_, _≤_, _<_}
 use mathlib.Core.List.{_++_, map, map-map, append-assoc}
 use native.Mathlib.Omega.{arith}
-use lib.ListN.{length, take, drop, length-map, length-append, length-take, length-drop, take-append-drop}
-use lib.Seq.{drop-at, take-add, take-all, length-take-le}
+use lib.ListN.{length, take, drop, length-map, length-append, length-drop, take-append-drop}
+use lib.Seq.{drop-at, take-add, length-take-le}
 use Rattle.definition.specs.Lists.{concat}
-use Rattle.definition.specs.Bytes.{Bytes, AllBytes, littleEndian, numberAt, bytesOf, chunks, stored}
+use Rattle.definition.specs.Bytes.{Bytes, AllBytes, numberAt, bytesOf, chunks, laidOut, stored}
 use Rattle.definition.specs.Limits.{headSize, entrySize}
-use Rattle.definition.specs.SavedRun.{Entry, Run, runLength, toEntry, toRun, entryBytes, runBytes}
-use Rattle.model_laws.proofs.Codec.{take-bytes, drop-bytes, length-bytes, le-bytes, number-front, number-behind, number-written, rows-length, rows-back, length-chunks}
+use Rattle.definition.specs.Model.{Model}
+use Rattle.definition.specs.SavedRun.{Entry, Run, runLength, toEntry, toRun, runOf, atomicCount, entryBytes, runBytes}
+use Rattle.model_laws.proofs.Layouts.{record-size, record-back}
+use Rattle.model_laws.proofs.Rows.{rows-written}
+use Rattle.model_laws.proofs.Spellings.{entry-spelled}
+use Rattle.model_laws.proofs.Codec.{drop-bytes, length-bytes, number-front, number-behind, number-written, rows-length, rows-back, length-chunks}
 
 -- ---- written, and read back
 
-entry-size : (r : Entry) → length (entryBytes r) ≡ entrySize
-unfolding entryBytes bytesOf
-entry-size r = refl
+pub entry-size : (r : Entry) → length (entryBytes r) ≡ entrySize
+unfolding entryBytes laidOut bytesOf
+entry-size r = record-size entry-spelled r
 
 pub entry-back : (r : Entry) → r .phase < 256 → r .last < 256 ^ 8 → toEntry (entryBytes r) ≡ r
-unfolding toEntry entryBytes numberAt littleEndian bytesOf
-entry-back r h k = λ i. record { phase = le-bytes 1 (r .phase) h i; last = le-bytes 8 (r .last) k i }
+unfolding entryBytes laidOut bytesOf
+entry-back r h k = record-back entry-spelled r (h, (k, tt))
 
 pub length-run : (r : Run) → length (runBytes r) ≡ runLength (length (r .entries))
 unfolding runBytes runLength
@@ -30,6 +34,10 @@ length-run r =
     let c = bytesOf 2 n in
     let b = concat (map entryBytes (r .entries)) in
     omega (arith, length-append (o ++ c) b, length-append o c, length-bytes 8 (r .opening), length-bytes 2 n, rows-length entrySize entryBytes entry-size (r .entries))
+
+pub entry-count : (m : Model) (s : Bytes) → length (runOf m s .entries) ≡ atomicCount m
+unfolding runOf toRun
+entry-count m s = length-map (chunks (atomicCount m) entrySize (drop headSize s)) toEntry ∙ length-chunks (atomicCount m) entrySize (drop headSize s)
 
 module _ (r : Run) (rest : Bytes) where
   run-shape : runBytes r ++ rest ≡ bytesOf 8 (r .opening) ++ (bytesOf 2 (length (r .entries)) ++ (concat (map entryBytes (r .entries)) ++ rest))
@@ -58,19 +66,10 @@ module _ (r : Run) (rest : Bytes) where
 
 -- ---- read, and written as it stood
 
-entry-written : {r : Bytes} → length r ≡ entrySize → AllBytes r → entryBytes (toEntry r) ≡ r
-unfolding entryBytes toEntry
-entry-written {r} e h =
-    ap₂ _++_ (number-written 1 0 (omega arith) h) (number-written 8 1 (omega arith) h) ∙ sym (take-add 1 8 r) ∙ take-all entrySize r (omega arith)
-
 entries-written : (n : ℕ) {s : Bytes} → n * entrySize ≤ length s → AllBytes s
     → concat (map entryBytes (map toEntry (chunks n entrySize s))) ≡ take (n * entrySize) s
-unfolding concat chunks
-entries-written zero {s} l h = ap (λ k. take k s) (let q : 0 ≡ 0 * entrySize = omega arith in q)
-entries-written (suc n) {s} l h =
-    ap₂ _++_ (entry-written (length-take entrySize s ∙ omega arith) (take-bytes entrySize h))
-    (entries-written n (omega (arith, length-drop entrySize s)) (drop-bytes entrySize h))
-    ∙ sym (take-add entrySize (n * entrySize) s) ∙ ap (λ k. take k s) (let q : entrySize + n * entrySize ≡ suc n * entrySize = omega arith in q)
+unfolding entryBytes laidOut bytesOf
+entries-written n l h = rows-written entry-spelled n l h
 
 pub run-written : (n : ℕ) {s : Bytes} → runLength n ≤ length s → numberAt 2 8 s ≡ n → AllBytes s → stored (runBytes (toRun n s)) s ≡ s
 unfolding stored

@@ -3,48 +3,26 @@
 use mathlib.Core.Path.{_≡_, refl, sym, ap, ap₂, _∙_, subst}
 use Prim.Native.Nat.{ℕ, zero, suc, _+_, _*_, _^_, _≤_, _<_}
 use mathlib.Core.List.{List, _∷_, _++_, map, map-map, append-assoc}
-use mathlib.Core.Bool.{Bool, true, false, not}
+use mathlib.Core.Bool.{Bool, true, not}
 use native.Mathlib.Omega.{arith}
-use lib.Dec.{ltb, eqb}
+use lib.Dec.{ltb}
 use lib.ListN.{length, drop, length-map, length-append}
 use lib.Seq.{drop-at}
-use borrow.Author.Tests.{ltb-false, le-ltb, eqb-true, eqb-false, not-false}
+use borrow.Author.Tests.{ltb-false, le-ltb, not-false}
 use Rattle.definition.specs.Lists.{concat, all, upFrom}
-use Rattle.definition.specs.Bytes.{Bytes, AllBytes, Result, ok, refused, _>>=_, refuseIf, numberAt, bytesOf, chunks}
+use Rattle.definition.specs.Bytes.{Bytes, AllBytes, ok, numberAt, bytesOf, chunks}
 use Rattle.definition.specs.Limits.{countSize}
 use Rattle.definition.specs.File.{sectionBytes}
 use Rattle.definition.specs.Pinned.Decoder.{Section, sectionCount, section}
-use Rattle.laws.proofs.Sorting.{and-left, and-right}
-use Rattle.laws.proofs.Lists.{and-true}
+use Rattle.laws.proofs.Tests.{and-true}
+use Rattle.laws.proofs.Lists.{each}
+use Rattle.laws.proofs.Results.{bind-ok, refuse-ok, ok-same}
 use Rattle.model_laws.proofs.Codec.{take-bytes, drop-bytes, length-bytes, number-front, rows-length, rows-back, length-chunks}
 use Rattle.model_laws.proofs.WellFormed.{Checked}
 
 -- ---- checks in a row that end well have all been passed
 
-pub ok-same : {A : Type 0} (a b : A) → ok a ≡ ok b → a ≡ b
-ok-same a b e = cc
-
-never-ok : {A : Type 0} (n : ℕ) (a : A) → refused n ≡ ok a → ⊥
-never-ok n a e = let z : _≡_ {A = ℕ} 0 1 = cc in omega arith
-
-pub bind-ok : {A B : Type 0} (r : Result A) (f : A → Result B) (b : B) → (r >>= f) ≡ ok b → (a : A) × (r ≡ ok a) × (f a ≡ ok b)
-bind-ok (ok a) f b e = (a, refl, e)
-bind-ok (refused n) f b e = absurd (never-ok n b e)
-
-pub refuse-ok : {B : Type 0} (t : Bool) (n : ℕ) (f : Unit {0} → Result B) (b : B) → (refuseIf t n >>= f) ≡ ok b → (t ≡ false) × (f tt ≡ ok b)
-refuse-ok true n f b e = absurd (never-ok n b e)
-refuse-ok false n f b e = (refl, e)
-
 -- ---- a test on each number of a row of numbers
-
-each : (p : ℕ → Bool) (k n : ℕ) → all p (upFrom k n) ≡ true → (i : ℕ) → k ≤ i → i < k + n → p i ≡ true
-unfolding all upFrom
-each p k zero e i h l = absurd (omega arith)
-each p k (suc n) e i h l = go (eqb i k) refl (each p (suc k) n (and-right (p k) _ e) i)
-  where
-    go : (b : Bool) → eqb i k ≡ b → (suc k ≤ i → i < suc k + n → p i ≡ true) → p i ≡ true
-    go true f ih = ap p (eqb-true i k f) ∙ and-left (p k) _ e
-    go false f ih = ih (omega (arith, eqb-false i k f)) (omega arith)
 
 pub all-numbers : (p : ℕ → Bool) (k n : ℕ) → ((i : ℕ) → k ≤ i → i < k + n → p i ≡ true) → all p (upFrom k n) ≡ true
 unfolding all upFrom

@@ -14,8 +14,7 @@ use Rattle.definition.specs.Records.{componentBytes, phaseBytes, ruleBytes, cou
 use Rattle.definition.specs.File.{phaseTotal}
 use Rattle.definition.specs.Routes.{routes}
 use Rattle.definition.specs.Pinned.Decoder.{toComponent, componentFits, toPhase, phaseFits, toRule, ruleFields, ruleFits, toCoupling, couplingFields, couplingFits}
-use Rattle.laws.proofs.Sorting.{and-left}
-use Rattle.laws.proofs.Lists.{and-true}
+use Rattle.laws.proofs.Tests.{and-left, and-true}
 
 -- The records of one section: no more than its limit, each spelled by its bytes, each keeping the lines of document 01.
 pub record Checked {A : Type 0} (limit : ℕ) (to : Bytes → A) (bytes : A → Bytes) (fits : List A → ℕ → Bool) (xs : List A) : Type 0 where

@@ -1,18 +1,19 @@
 -- A sound model's bytes decode to it: every record has its section's size, so that each section is read back, one behind the other.
 -- Assumes nothing.
 use mathlib.Core.Path.{_≡_, refl}
-use Prim.Native.Nat.{ℕ, _≤_, _<_}
-use mathlib.Core.List.{[], _++_, append-assoc, append-nil}
+use Prim.Native.Nat.{ℕ, _+_, _*_, _≤_, _<_}
+use mathlib.Core.List.{List, [], _++_, map, append-assoc, append-nil}
 use native.Mathlib.Omega.{arith}
-use lib.ListN.{length}
+use lib.ListN.{length, length-append}
 use borrow.Author.Tests.{le-ltb, eq-eqb, ne-eqb}
 use Rattle.definition.specs.Lists.{concat}
 use Rattle.definition.specs.Bytes.{Bytes, ok, bytesOf, laidOut}
-use Rattle.definition.specs.Limits.{maxComponents, maxPhases, maxRules, maxCouplings, componentSize, phaseSize, ruleSize, couplingSize}
+use Rattle.definition.specs.Limits.{maxComponents, maxPhases, maxRules, maxCouplings, countSize, componentSize, phaseSize, ruleSize, couplingSize}
 use Rattle.definition.specs.Model.{Component, Phase, Rule, Coupling, Model, slots}
 use Rattle.definition.specs.Records.{componentBytes, phaseBytes, ruleBytes, couplingBytes}
 use Rattle.definition.specs.File.{phaseTotal, sectionBytes, modelBytes}
 use Rattle.definition.specs.Pinned.Decoder.{toComponent, componentFits, toPhase, phaseFits, toRule, ruleFits, toCoupling, couplingFits, componentCountRefusal, phaseCountRefusal, limitRefusal, componentSection, phaseSection, ruleSection, couplingSection, endOfFile, decode}
+use Rattle.model_laws.proofs.Codec.{length-bytes, rows-length}
 use Rattle.model_laws.proofs.WellFormed.{WellFormed}
 use Rattle.model_laws.proofs.Sections.{section-back}
 
@@ -33,6 +34,12 @@ rule-size k = refl
 pub coupling-size : (k : Coupling) → length (couplingBytes k) ≡ couplingSize
 unfolding couplingBytes laidOut bytesOf
 coupling-size k = refl
+
+pub section-length : {A : Type 0} (size : ℕ) (bytes : A → Bytes) → ((x : A) → length (bytes x) ≡ size) → (xs : List A)
+    → length (sectionBytes bytes xs) ≡ countSize + length xs * size
+unfolding sectionBytes
+section-length size bytes sized xs =
+    omega (arith, length-append (bytesOf countSize (length xs)) (concat (map bytes xs)), length-bytes countSize (length xs), rows-length size bytes sized xs)
 
 -- ---- counts
 

@@ -88,12 +88,37 @@ outputs-few : (p : Phase) → length (outputs p) ≤ maxOutputs
 unfolding outputs slots
 outputs-few p = omega (arith, length-take (p .outputCount) (slots p))
 
-module _ (m : Model) (w : WellFormed m) (at : ℕ → Entry) (now : ℕ) (ready : Ready m at now (root m)) where
-  -- what an atomic sends
-  sends : ℕ → Bag
-  sends s = cond (due m at now (leaf s)) (outs m at now s) []
+-- what an atomic sends
+unfoldable pub sends : Model → (ℕ → Entry) → ℕ → ℕ → Bag
+sends m at now s = cond (due m at now (leaf s)) (outs m at now s) []
 
-  sends-few : (s : ℕ) → length (sends s) ≤ maxOutputs
+-- What the routes carry of what is sent and of what is given, for any phases in the place of the model's own.
+module _ (m : Model) (w : WellFormed m) (ps : List Phase) (a : ℕ) (weigh : Message → ℕ) where
+  abbrev phased : Model
+  phased = record { components = m .components; phases = ps; rules = m .rules; couplings = m .couplings }
+
+  pub ways-carry : (at : ℕ → Entry) (now : ℕ) → ((s : ℕ) → isAtomic (m .components) s ≡ true → all portFits (outs phased at now s) ≡ true)
+      → waysSum phased at now a weigh rootEnds (root m) ≡ sumOf (λ s. sumOf (carry m a weigh s) (sends phased at now s)) (atomics (m .components))
+  unfolding dueSum sends
+  ways-carry at now ports =
+      let cs = m .components in
+      sym (due-tree phased at now a weigh (atomics cs) (isAtomic cs) (atomic-once cs (w .components .fit) (w .some-component)) rootEnds (root m) (only-in (isAtomic cs) (root m) (leaves m w)))
+      ∙ sum-cong-if (isAtomic cs) _ _ (atomics cs) (atomics-atomic cs (w .components .fit) (w .some-component))
+      (λ s e. ap (λ n. cond (due phased at now (leaf s)) n 0) (sum-cong-if portFits _ _ (outs phased at now s) (ports s e) (λ y h. sym (carry-atomic m w a weigh s y e h)))
+      ∙ sym (sum-cond (carry m a weigh s) (due phased at now (leaf s)) (outs phased at now s)))
+
+  pub given-carry : (x : Bag) → all portFits x ≡ true → hits a weigh (endsIn (m .couplings) (root m)) x ≡ sumOf (carry m a weigh 0) x
+  unfolding hits
+  given-carry x ports = sum-cong-if portFits _ _ x ports (λ y h. sym (carry-root m w a weigh y h))
+
+-- the root is no atomic
+pub no-root : (m : Model) → WellFormed m → occurs 0 (atomics (m .components)) ≡ 0
+no-root m w =
+    let cs = m .components in
+    count-none (isAtomic cs) (λ s. eqb 0 s) (atomics cs) (atomics-atomic cs (w .components .fit) (w .some-component)) (λ s. root-not cs s (rooted cs (w .components .fit) (w .some-component)))
+
+module _ (m : Model) (w : WellFormed m) (at : ℕ → Entry) (now : ℕ) (ready : Ready m at now (root m)) where
+  sends-few : (s : ℕ) → length (sends m at now s) ≤ maxOutputs
   unfolding sends outs
   sends-few s = go (due m at now (leaf s))
     where
@@ -101,15 +126,9 @@ module _ (m : Model) (w : WellFormed m) (at : ℕ → Entry) (now : ℕ) (ready 
       go true = outputs-few (phaseAt m s (at s .phase))
       go false = omega arith
 
-  ways-carry : (a : ℕ) (weigh : Message → ℕ) → waysSum m at now a weigh rootEnds (root m) ≡ sumOf (λ s. sumOf (carry m a weigh s) (sends s)) (atomics (m .components))
-  unfolding dueSum outs sends
-  ways-carry a weigh =
-      let cs = m .components in
-      sym (due-tree m at now a weigh (atomics cs) (isAtomic cs) (atomic-once cs (w .components .fit) (w .some-component)) rootEnds (root m) (only-in (isAtomic cs) (root m) (leaves m w)))
-      ∙ sum-cong-if (isAtomic cs) _ _ (atomics cs) (atomics-atomic cs (w .components .fit) (w .some-component))
-      (λ s e. ap (λ n. cond (due m at now (leaf s)) n 0)
-      (sum-cong-if portFits _ _ (outputs (phaseAt m s (at s .phase))) (outputs-fit m w s (at s .phase)) (λ y h. sym (carry-atomic m w a weigh s y e h)))
-      ∙ sym (sum-cond (carry m a weigh s) (due m at now (leaf s)) (outputs (phaseAt m s (at s .phase)))))
+  ways : (a : ℕ) → waysSum m at now a (λ z. 1) rootEnds (root m) ≡ sumOf (λ s. sumOf (carry m a (λ z. 1) s) (sends m at now s)) (atomics (m .components))
+  unfolding outs
+  ways a = ways-carry m w (m .phases) a (λ z. 1) at now (λ s e. outputs-fit m w s (at s .phase))
 
   -- at most 4 messages a route
   pub root-bag : length (outTo m at now (partsOfRoot m) 0) ≤ maxOutputs * length (routes m)
@@ -118,19 +137,19 @@ module _ (m : Model) (w : WellFormed m) (at : ℕ → Entry) (now : ℕ) (ready 
       let u = up-tree m at now 0 (λ z. 1) (root m) rootEnds ready in
       let h = root-hits 0 (λ z. 1) (outDue m at now (root m)) in
       let o = ap (sumOf (λ z. 1)) (out-due m at now 0 (partsOfRoot m) ready) in
-      let c = capacity m 0 maxOutputs sends sends-few (atomics (m .components)) (atomic-most (m .components) (w .components .fit) (w .some-component)) in
-      omega (arith, u, h, o, c, sum-ones out, ways-carry 0 (λ z. 1))
+      let c = capacity m 0 maxOutputs (sends m at now) sends-few (atomics (m .components)) (atomic-most (m .components) (w .components .fit) (w .some-component)) in
+      omega (arith, u, h, o, c, sum-ones out, ways 0)
 
   module _ (x : Bag) (n : ℕ) (given : length x ≤ n) (ports : all portFits x ≡ true) (most : maxOutputs ≤ n) where
     -- the root sends the given bag
     sendsAll : ℕ → Bag
-    sendsAll s = cond (eqb 0 s) x (sends s)
+    sendsAll s = cond (eqb 0 s) x (sends m at now s)
 
     few : (s : ℕ) → length (sendsAll s) ≤ n
     unfolding sendsAll
     few s = go (eqb 0 s)
       where
-        go : (b : Bool) → length (cond b x (sends s)) ≤ n
+        go : (b : Bool) → length (cond b x (sends m at now s)) ≤ n
         go true = given
         go false = omega (arith, sends-few s)
 
@@ -143,16 +162,9 @@ module _ (m : Model) (w : WellFormed m) (at : ℕ → Entry) (now : ℕ) (ready 
 
         go : (b : Bool) → eqb c 0 ≡ b → cond (eqb c 0) 1 0 + occurs c (atomics cs) ≤ 1
         go true e =
-            let z : occurs c (atomics cs) ≡ 0
-            = ap (λ k. occurs k (atomics cs)) (eqb-true c 0 e)
-            ∙ count-none (isAtomic cs) (λ s. eqb 0 s) (atomics cs) (atomics-atomic cs (w .components .fit) (w .some-component))
-            (λ s. root-not cs s (rooted cs (w .components .fit) (w .some-component))) in
+            let z : occurs c (atomics cs) ≡ 0 = ap (λ k. occurs k (atomics cs)) (eqb-true c 0 e) ∙ no-root m w in
             rw e (omega arith)
         go false e = rw e (omega (arith, atomic-most cs (w .components .fit) (w .some-component) c))
-
-    given-carry : (a : ℕ) (weigh : Message → ℕ) → hits a weigh (endsIn (m .couplings) (root m)) x ≡ sumOf (carry m a weigh 0) x
-    unfolding hits
-    given-carry a weigh = sum-cong-if portFits _ _ x ports (λ y h. sym (carry-root m w a weigh y h))
 
     -- at most n messages a route, where the given bag has at most n
     pub atomic-bag : (a : ℕ) → length (bagAt m at now a (root m) x) ≤ n * length (routes m)
@@ -163,7 +175,7 @@ module _ (m : Model) (w : WellFormed m) (at : ℕ → Entry) (now : ℕ) (ready 
         let d = down-tree m at now a (λ z. 1) (root m) x in
         let cs = m .components in
         let c = capacity m a n sendsAll few (0 ∷ atomics cs) one in
-        let others : sumOf (λ s. sumOf (carry m a (λ z. 1) s) (sendsAll s)) (atomics cs) ≡ sumOf (λ s. sumOf (carry m a (λ z. 1) s) (sends s)) (atomics cs)
+        let others : sumOf (λ s. sumOf (carry m a (λ z. 1) s) (sendsAll s)) (atomics cs) ≡ sumOf (λ s. sumOf (carry m a (λ z. 1) s) (sends m at now s)) (atomics cs)
         = sum-cong-if (isAtomic cs) _ _ (atomics cs) (atomics-atomic cs (w .components .fit) (w .some-component))
-        (λ s e. ap (λ b. sumOf (carry m a (λ z. 1) s) (cond b x (sends s))) (root-not cs s (rooted cs (w .components .fit) (w .some-component)) e)) in
-        omega (arith, u, d, c, others, sum-ones bag, given-carry a (λ z. 1), ways-carry a (λ z. 1))
+        (λ s e. ap (λ b. sumOf (carry m a (λ z. 1) s) (cond b x (sends m at now s))) (root-not cs s (rooted cs (w .components .fit) (w .some-component)) e)) in
+        omega (arith, u, d, c, others, sum-ones bag, given-carry m w (m .phases) a (λ z. 1) x ports, ways a)

@@ -13,8 +13,8 @@ use Rattle.definition.specs.Model.{Message, Bag, Coupling, Model, phaseAt, outp
 use Rattle.definition.specs.Records.{portFits}
 use Rattle.definition.specs.Routes.{portsTo, Port, endsFrom, joined, joinedAll, waysFrom, waysFromAll}
 use Rattle.definition.specs.SavedRun.{Entry}
-use Rattle.laws.proofs.Sums.{sumOf, sum-append, sum-map, sum-concat, sum-add, sum-zero, sum-cong, sum-cond}
-use Rattle.nest_laws.proofs.Numbers.{eqb-sym, if-if, if-add, if-zero, sum-if}
+use Rattle.laws.proofs.Sums.{sumOf, sum-append, sum-map, sum-concat, sum-add, sum-zero, sum-cong, sum-cond, if-if, if-add, if-zero, sum-if}
+use Rattle.laws.proofs.Tests.{eqb-sym}
 use Rattle.nest_laws.proofs.Occurs.{occurs, once-up, pick-one}
 use Rattle.nest_laws.proofs.Trees.{OnlyIn, OnlyInAll}
 use Rattle.nest_laws.proofs.Nest.{due}

@@ -12,7 +12,7 @@ use Rattle.definition.specs.Routes.{endsIn, joinedAll, waysFrom, rootEnds, rout
 use Rattle.laws.proofs.Sums.{sumOf, sum-append, sum-zero, sum-cong}
 use Rattle.laws.proofs.Lists.{all-if}
 use Rattle.model_laws.proofs.WellFormed.{WellFormed}
-use Rattle.nest_laws.proofs.Numbers.{eqb-sym}
+use Rattle.laws.proofs.Tests.{eqb-sym}
 use Rattle.nest_laws.proofs.Trees.{leavesT, OnlyIn, only-in}
 use Rattle.nest_laws.proofs.Components.{rooted, root-not, root, shape, leaves}
 use Rattle.nest_laws.proofs.Paths.{hit, hits}

@@ -13,7 +13,7 @@ use Rattle.definition.specs.Lists.{all, upFrom}
 use Rattle.definition.specs.Limits.{maxAncestors}
 use Rattle.definition.specs.Model.{Tree, Component, Model, noComponent, componentAt, isAtomic, atomics, isChild, children, Forest, leaf, node, forest, treeAt, tree}
 use Rattle.definition.specs.Pinned.Decoder.{coupledFields, atomicFields, kindFields, rootFields, rootWithin, placeFits, componentFits}
-use Rattle.laws.proofs.Sorting.{clash, and-left, and-right}
+use Rattle.laws.proofs.Tests.{clash, and-left, and-right}
 use Rattle.laws.proofs.Bags.{points-perm}
 use Rattle.laws.proofs.Lists.{all-keep, count-none}
 use Rattle.model_laws.proofs.WellFormed.{ComponentsFit, WellFormed}

@@ -10,10 +10,9 @@ use lib.ListN.{length}
 use borrow.Author.Tests.{ltb-true, eqb-true, ne-eqb}
 use Rattle.definition.specs.Lists.{upFrom, count}
 use Rattle.definition.specs.Model.{Component, componentAt, isAtomic, isChild, children, leaf, node, forest, treeAt}
-use Rattle.laws.proofs.Sums.{sumOf, sum-add, sum-cong}
+use Rattle.laws.proofs.Sums.{sumOf, sum-add, sum-cong, if-if, sum-keep}
 use Rattle.nest_laws.proofs.Trees.{leavesT, forest-occurs}
-use Rattle.nest_laws.proofs.Numbers.{if-if, sum-keep, eqb-sym}
-use Rattle.laws.proofs.Sorting.{clash, and-right, and-left}
+use Rattle.laws.proofs.Tests.{clash, and-left, and-right, eqb-sym}
 use Rattle.nest_laws.proofs.Occurs.{pick-one, occurs, once-up, kept-tests}
 use Rattle.laws.proofs.Lists.{sum-cong-if}
 

@@ -15,9 +15,9 @@ use Rattle.definition.specs.SavedRun.{Entry}
 use Rattle.definition.specs.Step.{leavesOf, leavesOfAll, assoc, unload}
 use Rattle.definition.specs.FlatMachine.{moved}
 use Rattle.definition.specs.Carrying.{Stands, StandsAll}
-use Rattle.laws.proofs.Bags.{count-append, deciding-same}
+use Rattle.laws.proofs.Bags.{count-append, deciding-same, same-length}
 use Rattle.laws.proofs.Lists.{map-cong-if, all-keep}
-use Rattle.nest_laws.proofs.Numbers.{eqb-sym, same-length}
+use Rattle.laws.proofs.Tests.{eqb-sym}
 use Rattle.nest_laws.proofs.Occurs.{occurs}
 use Rattle.nest_laws.proofs.Trees.{leavesT, leavesF}
 use Rattle.nest_laws.proofs.Nest.{due, bagAt, bagAtAll}

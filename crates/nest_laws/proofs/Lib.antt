@@ -1,5 +1,4 @@
 -- Laws of one step of a nest, in the order of the argument.
-pub mod Numbers
 pub mod Occurs
 pub mod Places
 pub mod Pairs

@@ -3,14 +3,14 @@
 use mathlib.Core.Path.{_≡_, refl, ap, ap₂, _∙_, fun-ext}
 use Prim.Native.Nat.{ℕ, zero, suc, _+_, _≤_, _<_}
 use mathlib.Core.List.{List, [], _∷_, map}
-use mathlib.Core.Bool.{Bool, true, false, _&&_, cond}
+use mathlib.Core.Bool.{Bool, true, false, _&&_, cond, and-false}
 use native.Mathlib.Omega.{arith}
 use lib.Dec.{eqb, leb, ltb}
 use borrow.Author.Tests.{eqb-true, eqb-false, ne-eqb, leb-true, ltb-true, le-leb, lt-ltb}
 use Rattle.definition.specs.Lists.{all, keep, upFrom, count}
-use Rattle.laws.proofs.Sorting.{and-left, and-right}
+use Rattle.laws.proofs.Tests.{and-left, and-right, and-true}
 use Rattle.laws.proofs.Sums.{sumOf}
-use Rattle.laws.proofs.Lists.{all-and, all-keep, and-true, and-false, all-if, count-keep, count-none}
+use Rattle.laws.proofs.Lists.{all-and, all-keep, all-if, count-keep, count-none}
 
 -- how often c stands in a list
 abbrev pub occurs : ℕ → List ℕ → ℕ

@@ -10,7 +10,7 @@ use lib.ListN.{length}
 use borrow.Author.Tests.{eqb-true, eqb-false, eq-eqb, ne-eqb}
 use Rattle.definition.specs.Lists.{all, count}
 use Rattle.definition.specs.SavedRun.{Entry, lookUp}
-use Rattle.laws.proofs.Sorting.{and-left, and-right}
+use Rattle.laws.proofs.Tests.{and-left, and-right}
 use Rattle.nest_laws.proofs.Occurs.{occurs, Distinct, map-avoid}
 
 unfoldable pub paired : {A B : Type 0} → (ℕ → A → B) → List ℕ → List A → List B

@@ -9,9 +9,8 @@ use lib.ListN.{length, take, getD}
 use borrow.Author.Tests.{eqb-true, eqb-false, eq-eqb, ne-eqb}
 use Rattle.definition.specs.Lists.{keep, upFrom, count}
 use Rattle.definition.specs.Flatten.{placeIn}
-use Rattle.laws.proofs.Sorting.{clash}
+use Rattle.laws.proofs.Tests.{clash, eqb-cong}
 use Rattle.laws.proofs.Sums.{sumOf}
-use Rattle.nest_laws.proofs.Numbers.{eqb-cong}
 use Rattle.nest_laws.proofs.Occurs.{occurs, Distinct, map-avoid}
 
 pub place-below : (c : ℕ) (l : List ℕ) → 0 < occurs c l → placeIn c l < length l

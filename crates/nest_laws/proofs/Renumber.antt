@@ -17,7 +17,8 @@ use Rattle.definition.specs.SavedRun.{Entry, dueOf}
 use Rattle.definition.specs.Flatten.{placeIn, renumbered, flatAtomic, flatComponents, flatRule, flat}
 use Rattle.definition.specs.FlatMachine.{dueNow, moved}
 use Rattle.laws.proofs.Sums.{sumOf, sum-map}
-use Rattle.laws.proofs.Lists.{and-true, or-right, all-every, all-map, all-head, all-tail, map-cong-if, sum-map-of, getD-map, take-map}
+use Rattle.laws.proofs.Lists.{all-every, all-map, map-cong-if, sum-map-of, getD-map, take-map, all-at}
+use Rattle.laws.proofs.Tests.{and-true, or-right}
 use Rattle.nest_laws.proofs.Occurs.{occurs, Distinct, kept-distinct}
 use Rattle.nest_laws.proofs.Places.{place-below, place-at, place-eqb, places, up-suc, sum-to-place, take-up}
 use Rattle.nest_laws.proofs.Components.{rooted, atomic-below, root-not, no-phases, atomic-once, atomics-atomic}
@@ -42,11 +43,6 @@ unfolding keep upFrom
 keep-behind p n e h =
     ap (λ b. cond b (0 ∷ keep p (upFrom 1 n)) (keep p (upFrom 1 n))) e
     ∙ keep-up p 1 n (λ i b. ap p (let q : 1 + i ≡ suc i = omega arith in q) ∙ h i b)
-
-pub all-at : {A : Type 0} (p : A → Bool) (l : List A) (i : ℕ) (d : A) → all p l ≡ true → i < length l → p (getD l i d) ≡ true
-all-at p [] i d h b = absurd (omega arith)
-all-at p (a ∷ l) zero d h b = all-head p a l h
-all-at p (a ∷ l) (suc i) d h b = all-at p l i d (all-tail p a l h) (omega arith)
 
 atomics-up : (k : Component) (l : List Component) → k .kind ≡ 0 → all (λ a. eqb (a .kind) 1) l ≡ true → atomics (k ∷ l) ≡ upFrom 1 (length l)
 unfolding atomics isAtomic componentAt

@@ -7,8 +7,7 @@ use native.Mathlib.Omega.{arith}
 use borrow.Author.Tests.{eqb-true, eqb-false, ne-eqb, leb-true, le-leb}
 use Rattle.definition.specs.Devs.{Time, finite, never, earlier, remaining, later, sameTime}
 use Rattle.definition.specs.SavedRun.{notBefore}
-use Rattle.laws.proofs.Sorting.{clash}
-use Rattle.nest_laws.proofs.Numbers.{eqb-cong}
+use Rattle.laws.proofs.Tests.{clash, eqb-cong}
 
 pub left-earlier : (u v : Time) (n : ℕ) → remaining (earlier u v) n ≡ earlier (remaining u n) (remaining v n)
 unfolding remaining earlier

@@ -6,7 +6,7 @@ use mathlib.Core.Bool.{Bool, true}
 use lib.Dec.{eqb}
 use Rattle.definition.specs.Lists.{all, count}
 use Rattle.definition.specs.Model.{Tree, Forest, leaf, node, stop, more, forest}
-use Rattle.laws.proofs.Sorting.{and-left, and-right}
+use Rattle.laws.proofs.Tests.{and-left, and-right}
 use Rattle.laws.proofs.Sums.{sumOf}
 use Rattle.laws.proofs.Bags.{count-append}
 use Rattle.laws.proofs.Lists.{all-append, all-front, all-back}

@@ -14,17 +14,15 @@ use Rattle.definition.specs.Model.{Message, Bag, Model, componentAt, isAtomic, 
 use Rattle.definition.specs.Pinned.Decoder.{rootWithin}
 use Rattle.definition.specs.Devs.{translate}
 use Rattle.definition.specs.SavedRun.{Entry}
-use Rattle.laws.proofs.Sorting.{and-left, and-right}
-use Rattle.laws.proofs.Sums.{sumOf, sum-append, sum-cong, sum-cond}
+use Rattle.laws.proofs.Tests.{and-left, and-right, eqb-sym, or-second}
+use Rattle.laws.proofs.Sums.{sumOf, sum-append, sum-cong, sum-cond, if-if}
 use Rattle.laws.proofs.Lists.{sum-cong-if}
-use Rattle.nest_laws.proofs.Numbers.{eqb-sym, if-if}
 use Rattle.nest_laws.proofs.Occurs.{kept-tests}
 use Rattle.nest_laws.proofs.Nest.{outTo, bagAt, bagAtAll}
 use Rattle.route_laws.specs.Ways.{Rising, sub}
 use Rattle.route_laws.proofs.Nests.{sub-step, sub-name}
 use Rattle.route_laws.proofs.Counts.{sum-pick}
 use Rattle.route_laws.proofs.Routed.{over-atomics}
-use Rattle.pull_laws.proofs.Tests.{or-second}
 use Rattle.pull_laws.proofs.Pulled.{inBag}
 
 module _ (m : Model) (at : ℕ → Entry) (now : ℕ) (x : Bag) where

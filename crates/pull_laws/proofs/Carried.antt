@@ -1,14 +1,14 @@
 -- Carried due moments: what is due now, the marks and the next due moment, read off them, are those of the state; and a state changed at one
 -- position has one of them changed. Assumes nothing.
 use mathlib.Core.Path.{_≡_, refl, sym, ap, ap₂, _∙_}
-use Prim.Native.Nat.{ℕ, zero, suc, _+_, _-_, _<_, _≤_, min}
+use Prim.Native.Nat.{ℕ, zero, suc, _+_, _<_, _≤_, min}
 use mathlib.Core.List.{List, [], _∷_}
 use mathlib.Core.Bool.{Bool, true, false, cond, true≢false}
 use native.Mathlib.Omega.{arith}
 use lib.ListN.{length, getD, set}
 use lib.Seq.{getD-set-same, getD-set-other}
 use lib.Dec.{eqb, ltb}
-use borrow.Author.Tests.{eqb-true, eqb-false, ne-eqb, lt-ltb, le-ltb}
+use borrow.Author.Tests.{eqb-true, eqb-false, ne-eqb, le-ltb}
 use Rattle.definition.specs.Limits.{maxComponents, neverField, neverMoment}
 use Rattle.definition.specs.Model.{Bag, Phase, Rule}
 use Rattle.definition.specs.Devs.{Time, finite, never, earlier, sameTime, ticks}

@@ -1,119 +1,164 @@
 -- The flags keep the local condition of `Pruned`: at a node whose flag is down, static or of this step, each node that leads there has nothing to
--- give. So leaving out its rows changes nothing. Assumes nothing.
+-- give, so leaving out its rows changes nothing. The record `Flags` has all that this takes of a step's marks and flags; a step of a run
+-- (`Flagged`) and the probing step of flatten are its two instances. Assumes nothing.
 use mathlib.Core.Path.{_≡_, refl, sym, ap, _∙_}
-use Prim.Native.Nat.{ℕ, _+_, _≤_, _<_}
-use mathlib.Core.List.{List, []}
+use Prim.Native.Nat.{ℕ, _-_, _<_}
+use mathlib.Core.List.{List, [], _∷_, map}
 use mathlib.Core.Bool.{Bool, true, false, _&&_, _||_, not, cond}
 use native.Mathlib.Omega.{arith}
 use lib.Dec.{eqb}
 use lib.ListN.{length, getD}
-use borrow.Author.Tests.{eqb-true, eqb-false}
+use borrow.Author.Tests.{eqb-true, eqb-false, not-true, not-false}
 use Rattle.definition.specs.Lists.{all, isEmpty}
-use Rattle.definition.specs.Limits.{portCount, maxAdvance}
-use Rattle.definition.specs.Model.{Bag, Coupling, Model, isAtomic, atomics, isChild, leaf}
+use Rattle.definition.specs.Limits.{portCount}
+use Rattle.definition.specs.Model.{Bag, Coupling, Model, Phase, noPhase, isChild, outputs}
 use Rattle.definition.specs.Pinned.Decoder.{couplingFields}
-use Rattle.laws.proofs.Sorting.{clash, and-left, and-right}
-use Rattle.laws.proofs.Lists.{and-true, all-and, all-if}
+use Rattle.laws.proofs.Tests.{clash, and-left, and-right, and-true, or-none}
+use Rattle.laws.proofs.Lists.{all-and, all-if}
 use Rattle.model_laws.proofs.WellFormed.{WellFormed}
-use Rattle.nest_laws.proofs.Nest.{outOf, outDue}
-use Rattle.clock.specs.Times.{latest}
-use Rattle.run_state.specs.declared.State.{State}
 use Rattle.pull_laws.specs.Put.{valuesOn}
 use Rattle.route_laws.proofs.Placed.{kept}
-use Rattle.pull_laws.specs.Tables.{nodeComponent, atomicNode}
-use Rattle.pull_laws.specs.TableStep.{anyOf, isUp, mayCome, isOpen}
+use Rattle.pull_laws.specs.Tables.{nodeComponent, nodePort, atomicNode}
+use Rattle.pull_laws.specs.TableStep.{anyOf, isUp, mayCome, isOpen, sentBy}
 use Rattle.pull_laws.specs.Tabled.{Tabled, isLive, mayLead}
-use Rattle.pull_laws.proofs.Tests.{not-true, not-false, or-none}
 use Rattle.pull_laws.proofs.Ends.{rising}
-use Rattle.pull_laws.proofs.Positions.{atEntry}
-use Rattle.pull_laws.proofs.Nodes.{Node, inn, sourceNode, endsAt, rowsAt, atomicAt, sentAt, givenAt, rootAt, outputAt}
+use Rattle.pull_laws.proofs.Nodes.{Node, inn, sourceNode, endsAt, rowsAt, atomicAt, givenAt, rootAt, outputAt}
 use Rattle.pull_laws.proofs.Numbered.{code, code-component, code-output, good, good-in, rows-all, rows-good, rows-are, atomic-is, code-below}
 use Rattle.pull_laws.proofs.Pruned.{still, stillIn, goodOut, empty-list}
-use Rattle.pull_laws.proofs.Flagged.{any-none, any-map, es, fs, up-due, mark-closed, flag-root, flag-down}
+
+-- nothing passes, so each fails
+pub any-none : {A : Type 0} (p : A → Bool) (l : List A) → anyOf p l ≡ false → all (λ a. not (p a)) l ≡ true
+unfolding anyOf all
+any-none p [] h = refl
+any-none p (a ∷ l) h = go (p a) refl (any-none p l)
+  where
+    go : (b : Bool) → p a ≡ b → (anyOf p l ≡ false → all (λ a. not (p a)) l ≡ true) → not (p a) && all (λ a. not (p a)) l ≡ true
+    go true e ih = absurd (clash (ap (λ b. b || anyOf p l) e) h)
+    go false e ih = rw e (ih (rw e at h))
+
+pub any-map : {A B : Type 0} (p : B → Bool) (f : A → B) (l : List A) → anyOf p (map f l) ≡ anyOf (λ a. p (f a)) l
+unfolding anyOf
+any-map p f [] = refl
+any-map p f (a ∷ l) = ap (λ b. p (f a) || b) (any-map p f l)
 
 both-down : (a b : Bool) → a && b ≡ false → a ≡ true → b ≡ false
 both-down true b h e = h
 both-down false b h e = absurd (clash e refl)
 
-module _ (m : Model) (w : WellFormed m) (st : State) (t : List ℕ) (h : Tabled m t) (now : ℕ)
-    (soon : (i : ℕ) → i < length (atomics (m .components)) → getD (st .last) i 0 + maxAdvance ≤ latest) (x : Bag) where
-  abbrev pub marked : List ℕ
-  marked = es m w st t h now soon
+closes : (a b : Bool) → b ≡ false → a && b ≡ false
+closes true b e = e
+closes false b e = refl
 
-  abbrev pub flags : List ℕ
-  flags = fs m w st t h now soon x
+-- What marks es and flags fs have to say of a model with the tables t, where `sends` is what its sources put out and x is the given bag: a
+-- mark that is down is down at the children, and where a flag is down nothing may come.
+pub record Flags (m : Model) (w : WellFormed m) (t : List ℕ) (ps : List Phase) (es fs : List ℕ) (x : Bag) (sends : Node → List ℕ) : Type 0 where
+  pub sent : (y : Node) → good m w y ≡ true → atomicAt m y ≡ true → sentBy ps t es (code y) ≡ sends y
+  pub marks-down : (c d : ℕ) → isChild (m .components) c d ≡ true → d < length (m .components) → isUp es c ≡ false → isUp es d ≡ false
+  pub flags-down : (c q : ℕ) → 0 < c → c < length (m .components) → q < portCount → isUp fs c ≡ false
+      → all (λ y. not (mayCome ps t es fs (code y))) (rowsAt m (inn c q)) ≡ true
+  pub root-down : isUp fs 0 ≡ false → isEmpty x ≡ true
 
+module _ (m : Model) (w : WellFormed m) (t : List ℕ) (h : Tabled m t) (ps : List Phase) (es fs : List ℕ) (x : Bag) (sends : Node → List ℕ)
+    (k : Flags m w t ps es fs x sends) where
   -- the flag of a node
   unfoldable pub up : Node → Bool
-  up y = isOpen (m .phases) t marked flags (code y)
+  up y = isOpen ps t es fs (code y)
 
-  abbrev pub sends : Node → List ℕ
-  sends = sentAt m (atEntry m w st) now
-
-  -- nothing is sent where nothing may come
-  may-out : (y : Node) → y .port < portCount → y .output ≡ true → mayCome (m .phases) t marked flags (code y) ≡ isUp marked (y .component)
-  unfolding mayCome
-  may-out y l o =
-      ap (λ b. cond b (isUp marked (nodeComponent (code y))) (isUp flags (nodeComponent (code y)))) (code-output y l ∙ o) ∙ ap (isUp marked) (code-component y l)
-
-  may-in : (y : Node) → y .port < portCount → y .output ≡ false → mayCome (m .phases) t marked flags (code y) ≡ isUp flags (y .component)
-  unfolding mayCome
-  may-in y l o =
-      ap (λ b. cond b (isUp marked (nodeComponent (code y))) (isUp flags (nodeComponent (code y)))) (code-output y l ∙ o) ∙ ap (isUp flags) (code-component y l)
-
-  nothing-sent : (c q : ℕ) → isAtomic (m .components) c ≡ true → isUp marked c ≡ false → valuesOn q (outDue m (atEntry m w st) now (leaf c)) ≡ []
-  unfolding outDue valuesOn
-  nothing-sent c q e d =
-      ap (λ b. valuesOn q (cond b (outOf m (atEntry m w st) now (leaf c)) [])) (sym (up-due m w st t h now soon c e) ∙ d)
-
-  closes : (a b : Bool) → b ≡ false → a && b ≡ false
-  closes true b e = e
-  closes false b e = refl
-
-  up-down : (y : Node) → mayCome (m .phases) t marked flags (code y) ≡ false → up y ≡ false
-  unfolding up isOpen isLive
-  up-down y e = closes (isLive t (code y)) (mayCome (m .phases) t marked flags (code y)) e
-
-  -- an output node from which nothing may come in this step
-  abbrev pub Still : Node → Bool
+  -- nothing comes from an output node, or from any
+  abbrev Still : Node → Bool
   Still = still (rowsAt m) (atomicAt m) sends outputAt (good m w) up
 
-  still-marks : (y : Node) → y .port < portCount → y .output ≡ true → isUp marked (y .component) ≡ false → Still y ≡ true
-  unfolding still atomicAt sentAt isEmpty
-  still-marks y l o d = go (isAtomic (m .components) (y .component)) refl
-    where
-      go : (b : Bool) → isAtomic (m .components) (y .component) ≡ b
-          → cond b (isEmpty (valuesOn (y .port) (outDue m (atEntry m w st) now (leaf (y .component))))) (not (up y)) ≡ true
-      go true e = ap isEmpty (nothing-sent (y .component) (y .port) e d)
-      go false e = ap not (up-down y (may-out y l o ∙ d))
+  abbrev StillIn : Node → Bool
+  StillIn = stillIn (rowsAt m) (atomicAt m) sends outputAt (good m w) up
 
-  -- .. and one that nothing leads to, ever
+  abbrev MayCome : Node → Bool
+  MayCome y = mayCome ps t es fs (code y)
+
+  -- ---- a node whose flag is down
+
+  may-out : (y : Node) → y .port < portCount → y .output ≡ true → MayCome y ≡ isUp es (y .component)
+  unfolding mayCome
+  may-out y l o = ap (λ b. cond b (isUp es (nodeComponent (code y))) (isUp fs (nodeComponent (code y)))) (code-output y l ∙ o) ∙ ap (isUp es) (code-component y l)
+
+  may-in : (y : Node) → y .port < portCount → y .output ≡ false → MayCome y ≡ isUp fs (y .component)
+  unfolding mayCome
+  may-in y l o = ap (λ b. cond b (isUp es (nodeComponent (code y))) (isUp fs (nodeComponent (code y)))) (code-output y l ∙ o) ∙ ap (isUp fs) (code-component y l)
+
   live-down : (y : Node) → isLive t (code y) ≡ false → up y ≡ false
   unfolding up isOpen isLive
-  live-down y e = ap (λ b. b && mayCome (m .phases) t marked flags (code y)) e
+  live-down y e = ap (λ b. b && MayCome y) e
 
-  still-live : (y : Node) → good m w y ≡ true → y .output ≡ true → not (mayLead t (code y)) ≡ true → Still y ≡ true
-  unfolding still mayLead
-  still-live y g o e =
-      let l = good-in m w y g .1 in
-      let d = or-none (atomicNode t (code y)) (isLive t (code y)) (not-true (atomicNode t (code y) || isLive t (code y)) (ap (λ b. not (cond b (atomicNode t (code y) || isLive t (code y)) (isLive t (code y)))) (sym (code-output y l ∙ o)) ∙ e)) in
-      ap (λ b. cond b (isEmpty (sends y)) (not (up y))) (sym (atomic-is m w t h y g) ∙ d .0) ∙ ap not (live-down y (d .1))
+  come-down : (y : Node) → MayCome y ≡ false → up y ≡ false
+  unfolding up isOpen isLive
+  come-down y e = closes (isLive t (code y)) (MayCome y) e
 
-  -- nothing that may lead: from the table of live nodes
-  leads-none : (y : Node) → good m w y ≡ true → isLive t (code y) ≡ false → all (λ z. not (mayLead t (code z))) (rowsAt m y) ≡ true
-  leads-none y g e =
-      any-none (λ z. mayLead t (code z)) (rowsAt m y)
-      (sym (any-map (mayLead t) code (rowsAt m y)) ∙ ap (anyOf (mayLead t)) (sym (rows-are m w t h y g)) ∙ h .live (code y) (code-below m w y g) e)
+  idle : (y : Node) → up y ≡ false → isLive t (code y) ≡ true → MayCome y ≡ false
+  unfolding up isOpen isLive
+  idle y d e = both-down (isLive t (code y)) (MayCome y) d e
+
+  nothing-sent : (y : Node) → good m w y ≡ true → atomicAt m y ≡ true → isUp es (y .component) ≡ false → sends y ≡ []
+  unfolding sentBy isUp
+  nothing-sent y g a d =
+      let values : ℕ → List ℕ = λ c. valuesOn (nodePort (code y)) (outputs (getD ps (getD es c 0 - 1) noPhase)) in
+      sym (k .sent y g a) ∙ ap (λ c. cond (eqb (getD es c 0) 0) [] (values c)) (code-component y (good-in m w y g .1))
+      ∙ ap (λ b. cond b [] (values (y .component))) (not-false (eqb (getD es (y .component) 0) 0) d)
+
+  still-in : (z : Node) → up z ≡ false → (z .output ≡ true → atomicAt m z ≡ true → sends z ≡ []) → StillIn z ≡ true
+  unfolding stillIn still outputAt isEmpty
+  still-in z d none = go (z .output) refl (atomicAt m z) refl
+    where
+      go : (o : Bool) → z .output ≡ o → (a : Bool) → atomicAt m z ≡ a → cond o (cond a (isEmpty (sends z)) (not (up z))) (not (up z)) ≡ true
+      go true o true a = ap isEmpty (none o a)
+      go true o false a = ap not d
+      go false o a f = ap not d
+
+  still-out : (z : Node) → z .output ≡ true → StillIn z ≡ true → Still z ≡ true
+  unfolding stillIn outputAt
+  still-out z o e = ap (λ b. cond b (Still z) (not (up z))) (sym o) ∙ e
+
+  -- a node that no source ever leads to
+  by-live : (z : Node) → good m w z ≡ true → not (mayLead t (code z)) ≡ true → StillIn z ≡ true
+  unfolding mayLead
+  by-live z g e = go (z .output) refl
+    where
+      none : (o : Bool) → z .output ≡ o → cond o (atomicNode t (code z) || isLive t (code z)) (isLive t (code z)) ≡ false
+      none o f =
+          not-true _ (ap (λ b. not (cond b (atomicNode t (code z) || isLive t (code z)) (isLive t (code z)))) (sym (code-output z (good-in m w z g .1) ∙ f)) ∙ e)
+
+      go : (o : Bool) → z .output ≡ o → StillIn z ≡ true
+      go true o =
+          let d = or-none (atomicNode t (code z)) (isLive t (code z)) (none true o) in
+          still-in z (live-down z (d .1)) (λ p a. absurd (clash (atomic-is m w t h z g ∙ a) (d .0)))
+      go false o = still-in z (live-down z (none false o)) (λ p a. absurd (clash p o))
+
+  -- a node from which nothing may come in this step
+  by-flags : (z : Node) → good m w z ≡ true → not (MayCome z) ≡ true → StillIn z ≡ true
+  by-flags z g e =
+      let d = not-true (MayCome z) e in
+      still-in z (come-down z d) (λ o a. nothing-sent z g a (sym (may-out z (good-in m w z g .1) o) ∙ d))
 
   -- ---- the local condition
 
-  down-case : (y : Node) → up y ≡ false → (b : Bool) → isLive t (code y) ≡ b → b ≡ true → mayCome (m .phases) t marked flags (code y) ≡ false
-  unfolding up isOpen isLive
-  down-case y d b e f = both-down (isLive t (code y)) (mayCome (m .phases) t marked flags (code y)) d (e ∙ f)
+  closed : (y : Node) → good m w y ≡ true → up y ≡ false → (MayCome y ≡ false → all (λ z. not (MayCome z)) (rowsAt m y) ≡ true) → all StillIn (rowsAt m y) ≡ true
+  closed y g d by-marks = go (isLive t (code y)) refl
+    where
+      each : (p : Node → Bool) → ((z : Node) → good m w z ≡ true → not (p z) ≡ true → StillIn z ≡ true) → all (λ z. not (p z)) (rowsAt m y) ≡ true → all StillIn (rowsAt m y) ≡ true
+      each p one e =
+          all-if (λ z. good m w z && not (p z)) StillIn (rowsAt m y) (λ z f. one z (and-left (good m w z) _ f) (and-right (good m w z) (not (p z)) f))
+          (all-and (good m w) (λ z. not (p z)) (rowsAt m y) (rows-good m w y) e)
+
+      go : (b : Bool) → isLive t (code y) ≡ b → all StillIn (rowsAt m y) ≡ true
+      go false e =
+          each (λ z. mayLead t (code z)) by-live (any-none (λ z. mayLead t (code z)) (rowsAt m y)
+          (sym (any-map (mayLead t) code (rowsAt m y)) ∙ ap (anyOf (mayLead t)) (sym (rows-are m w t h y g)) ∙ h .live (code y) (code-below m w y g) e))
+      go true e = each MayCome by-flags (by-marks (idle y d e))
 
   -- the rows of an output node are outputs of children
-  child-outs : (y : Node) → y .output ≡ true → all (λ z. z .output && isChild (m .components) (y .component) (z .component)) (rowsAt m y) ≡ true
-  unfolding endsAt sourceNode
+  child : Node → Node → Bool
+  child y z = z .output && isChild (m .components) (y .component) (z .component)
+
+  child-outs : (y : Node) → y .output ≡ true → all (child y) (rowsAt m y) ≡ true
+  unfolding endsAt sourceNode child
   child-outs y o = rows-all m w _ y (λ k f e. one k f (ap (λ b. eqb (k .target) (y .component) && eqb (y .port) (k .targetPort) && cond b (isChild (m .components) (k .target) (k .source)) (not (isChild (m .components) (k .target) (k .source)))) (sym o) ∙ e))
     where
       not-both : (k : Coupling) → couplingFields (m .components) k ≡ true → isChild (m .components) (k .target) (k .source) ≡ true → isChild (m .components) (k .source) (k .target) ≡ false
@@ -134,85 +179,36 @@ module _ (m : Model) (w : WellFormed m) (st : State) (t : List ℕ) (h : Tabled 
           let q = eqb-true (k .target) (y .component) (and-left (eqb (k .target) (y .component)) _ a) in
           and-true _ _ (ap not (not-both k f s)) (ap (λ c. isChild (m .components) c (k .source)) (sym q) ∙ s)
 
-  abbrev pub GoodOut : Node → Bool
-  GoodOut = goodOut (rowsAt m) (atomicAt m) sends outputAt (good m w) up
-
-  pub out-good : (y : Node) → good m w y ≡ true → outputAt y ≡ true → all GoodOut (rowsAt m y) ≡ true
-  unfolding outputAt
+  pub out-good : (y : Node) → good m w y ≡ true → outputAt y ≡ true → all (goodOut (rowsAt m) (atomicAt m) sends outputAt (good m w) up) (rowsAt m y) ≡ true
+  unfolding outputAt child
   out-good y g o =
-      all-if (λ z. good m w z && (z .output && isChild (m .components) (y .component) (z .component))) GoodOut (rowsAt m y)
-      (λ z e. and-true (good m w z) (z .output) (and-left (good m w z) _ e) (and-left (z .output) _ (and-right (good m w z) _ e)))
-      (all-and (good m w) (λ z. z .output && isChild (m .components) (y .component) (z .component)) (rowsAt m y) (rows-good m w y) (child-outs y o))
+      all-and (good m w) (λ z. z .output) (rowsAt m y) (rows-good m w y) (all-if (child y) (λ z. z .output) (rowsAt m y) (λ z e. and-left (z .output) _ e) (child-outs y o))
 
   pub closed-out : (y : Node) → good m w y ≡ true → outputAt y ≡ true → up y ≡ false → all Still (rowsAt m y) ≡ true
-  unfolding outputAt
-  closed-out y g o d = go (isLive t (code y)) refl
+  unfolding outputAt child
+  closed-out y g o d =
+      all-if (λ z. child y z && StillIn z) Still (rowsAt m y)
+      (λ z e. still-out z (and-left (z .output) _ (and-left (child y z) (StillIn z) e)) (and-right (child y z) (StillIn z) e))
+      (all-and (child y) StillIn (rowsAt m y) (child-outs y o) (closed y g d by-marks))
     where
-      child : Node → Bool
-      child z = z .output && isChild (m .components) (y .component) (z .component)
-
-      go : (b : Bool) → isLive t (code y) ≡ b → all Still (rowsAt m y) ≡ true
-      go false e =
-          all-if (λ z. GoodOut z && not (mayLead t (code z))) Still (rowsAt m y)
-          (λ z f. let a = and-left (GoodOut z) _ f in
-          still-live z (and-left (good m w z) (z .output) a) (and-right (good m w z) (z .output) a) (and-right (GoodOut z) (not (mayLead t (code z))) f))
-          (all-and GoodOut (λ z. not (mayLead t (code z))) (rowsAt m y) (out-good y g o) (leads-none y g e))
-      go true e =
-          let idle = sym (may-out y (good-in m w y g .1) o) ∙ down-case y d true e refl in
-          all-if (λ z. good m w z && child z) Still (rowsAt m y)
-          (λ z f. let a = and-left (good m w z) (child z) f in
-          let b = and-right (good m w z) (child z) f in
-          still-marks z (good-in m w z a .1) (and-left (z .output) _ b)
-          (mark-closed m w st t h now soon (y .component) (z .component) (and-right (z .output) _ b) (good-in m w z a .0) idle))
-          (all-and (good m w) child (rowsAt m y) (rows-good m w y) (child-outs y o))
-
-  -- at inputs
-  abbrev pub StillIn : Node → Bool
-  StillIn = stillIn (rowsAt m) (atomicAt m) sends outputAt (good m w) up
-
-  still-in : (z : Node) → (z .output ≡ true → Still z ≡ true) → (z .output ≡ false → up z ≡ false) → StillIn z ≡ true
-  unfolding stillIn outputAt
-  still-in z a b = go (z .output) refl
-    where
-      go : (o : Bool) → z .output ≡ o → cond o (Still z) (not (up z)) ≡ true
-      go true e = a e
-      go false e = ap not (b e)
-
-  in-live : (z : Node) → good m w z ≡ true → not (mayLead t (code z)) ≡ true → StillIn z ≡ true
-  in-live z g e = still-in z (λ o. still-live z g o e) (λ o. live-down z (not-lead o))
-    where
-      not-lead : z .output ≡ false → isLive t (code z) ≡ false
-      not-lead o =
-          not-true (isLive t (code z))
-          (unfold mayLead in (ap (λ b. not (cond b (atomicNode t (code z) || isLive t (code z)) (isLive t (code z)))) (sym (code-output z (good-in m w z g .1) ∙ o)) ∙ e))
-
-  in-flags : (z : Node) → good m w z ≡ true → not (mayCome (m .phases) t marked flags (code z)) ≡ true → StillIn z ≡ true
-  in-flags z g e =
-      let d = not-true (mayCome (m .phases) t marked flags (code z)) e in
-      let l = good-in m w z g .1 in
-      still-in z (λ o. still-marks z l o (sym (may-out z l o) ∙ d)) (λ o. up-down z d)
+      by-marks : MayCome y ≡ false → all (λ z. not (MayCome z)) (rowsAt m y) ≡ true
+      by-marks e =
+          all-if (λ z. good m w z && child y z) (λ z. not (MayCome z)) (rowsAt m y)
+          (λ z f. let i = good-in m w z (and-left (good m w z) (child y z) f) in
+          let c = and-right (good m w z) (child y z) f in
+          ap not (may-out z (i .1) (and-left (z .output) _ c)
+          ∙ k .marks-down (y .component) (z .component) (and-right (z .output) _ c) (i .0) (sym (may-out y (good-in m w y g .1) o) ∙ e)))
+          (all-and (good m w) (child y) (rowsAt m y) (rows-good m w y) (child-outs y o))
 
   input-node : (y : Node) → y .output ≡ false → y ≡ inn (y .component) (y .port)
   input-node y o = λ i. record { component = y .component; port = y .port; output = o i }
 
   pub closed-in : (y : Node) → good m w y ≡ true → outputAt y ≡ false → rootAt y ≡ false → up y ≡ false → all StillIn (rowsAt m y) ≡ true
   unfolding outputAt rootAt
-  closed-in y g o r d = go (isLive t (code y)) refl
-    where
-      go : (b : Bool) → isLive t (code y) ≡ b → all StillIn (rowsAt m y) ≡ true
-      go false e =
-          all-if (λ z. good m w z && not (mayLead t (code z))) StillIn (rowsAt m y)
-          (λ z f. in-live z (and-left (good m w z) _ f) (and-right (good m w z) (not (mayLead t (code z))) f))
-          (all-and (good m w) (λ z. not (mayLead t (code z))) (rowsAt m y) (rows-good m w y) (leads-none y g e))
-      go true e =
-          let i = good-in m w y g in
-          let idle = sym (may-in y (i .1) o) ∙ down-case y d true e refl in
-          let none : all (λ z. not (mayCome (m .phases) t marked flags (code z))) (rowsAt m y) ≡ true
-          = ap (λ n. all (λ z. not (mayCome (m .phases) t marked flags (code z))) (rowsAt m n)) (input-node y o)
-          ∙ flag-down m w st t h now soon x (y .component) (y .port) (let q = eqb-false (y .component) 0 r in omega arith) (i .0) (i .1) idle in
-          all-if (λ z. good m w z && not (mayCome (m .phases) t marked flags (code z))) StillIn (rowsAt m y)
-          (λ z f. in-flags z (and-left (good m w z) _ f) (and-right (good m w z) (not (mayCome (m .phases) t marked flags (code z))) f))
-          (all-and (good m w) (λ z. not (mayCome (m .phases) t marked flags (code z))) (rowsAt m y) (rows-good m w y) none)
+  closed-in y g o r d =
+      let i = good-in m w y g in
+      closed y g d (λ e. ap (λ n. all (λ z. not (MayCome z)) (rowsAt m n)) (input-node y o)
+      ∙ k .flags-down (y .component) (y .port) (let q = eqb-false (y .component) 0 r in omega arith) (i .0) (i .1) (sym (may-in y (i .1) o) ∙ e))
 
   -- the root's input flag is down where nothing is given
   pub empty : (y : Node) → good m w y ≡ true → outputAt y ≡ false → rootAt y ≡ true → up y ≡ false → givenAt x y ≡ []
@@ -220,9 +216,8 @@ module _ (m : Model) (w : WellFormed m) (st : State) (t : List ℕ) (h : Tabled 
   empty y g o r d =
       let i = good-in m w y g in
       let z = eqb-true (y .component) 0 r in
-      let n : isLive t (code y) ≡ true = ap (λ y. isLive t (code y)) (input-node y o ∙ ap (λ c. inn c (y .port)) z) ∙ live-root (y .port) (i .1) in
-      let idle = sym (may-in y (i .1) o) ∙ down-case y d true n refl in
-      none-given (not-false (isEmpty x) (sym (flag-root m w st t h now soon x) ∙ ap (isUp flags) (sym z) ∙ idle))
+      let live : isLive t (code y) ≡ true = ap (λ y. isLive t (code y)) (input-node y o ∙ ap (λ c. inn c (y .port)) z) ∙ live-root (y .port) (i .1) in
+      none-given (k .root-down (ap (isUp fs) (sym z) ∙ sym (may-in y (i .1) o) ∙ idle y d live))
     where
       live-root : (q : ℕ) → q < portCount → isLive t (code (inn 0 q)) ≡ true
       live-root q l = unfold code in (h .given-live q l)

@@ -6,7 +6,7 @@ use mathlib.Core.List.{List, [], _∷_, _++_, map}
 use mathlib.Core.Bool.{Bool, true, false, cond}
 use Rattle.definition.specs.Lists.{all}
 use Rattle.definition.specs.Limits.{maxAncestors}
-use Rattle.laws.proofs.Sorting.{and-left, and-right}
+use Rattle.laws.proofs.Tests.{and-left, and-right}
 use Rattle.pull_laws.specs.Pull.{joined, childOut, coupledOut, sourceIn, inputIn}
 
 module _ {N M : Type 0} (code : N → M) (good : N → Bool) where

@@ -4,17 +4,16 @@ use mathlib.Core.Path.{_≡_, refl, sym, ap, ap₂, _∙_}
 use Prim.Native.Nat.{ℕ, zero, suc, _+_, _-_, _≤_, _<_}
 use mathlib.Core.List.{List, [], _∷_}
 use mathlib.Core.Option.{none, some}
-use mathlib.Core.Bool.{Bool, true, false, _&&_, cond}
+use mathlib.Core.Bool.{Bool, true, false, cond}
 use native.Mathlib.Omega.{arith}
 use lib.Dec.{eqb, leb}
 use lib.ListN.{length, getD}
-use borrow.Author.Tests.{eqb-true, leb-true, leb-false}
-use Rattle.definition.specs.Lists.{count}
+use borrow.Author.Tests.{leb-true, leb-false}
 use Rattle.definition.specs.Limits.{neverField}
 use Rattle.definition.specs.Model.{Bag, Phase, Rule, Model, noRule, componentAt, phaseAt}
 use Rattle.definition.specs.Devs.{finite, never, ticks}
-use Rattle.definition.specs.Atomic.{meets, withinElapsed, holds, deciding, ledTo, advanceOf, internal, external, confluent}
-use Rattle.laws.proofs.Sorting.{and-left}
+use Rattle.definition.specs.Atomic.{holds, deciding, ledTo, advanceOf, internal, external, confluent}
+use Rattle.laws.proofs.Bags.{holds-component}
 use Rattle.model_laws.proofs.WellFormed.{WellFormed}
 use Rattle.run_state.specs.declared.State.{State}
 use Rattle.pull_laws.specs.TableStep.{firstFrom, decidingIn, phaseIn, decidedIn, confluentIn}
@@ -23,7 +22,7 @@ use Rattle.pull_laws.proofs.Positions.{phase-is}
 
 -- ---- the first position that passes
 
-first-none : (test : ℕ → Bool) (m i : ℕ) → ((j : ℕ) → i ≤ j → j < i + m → test j ≡ false) → firstFrom test m i ≡ none
+pub first-none : (test : ℕ → Bool) (m i : ℕ) → ((j : ℕ) → i ≤ j → j < i + m → test j ≡ false) → firstFrom test m i ≡ none
 unfolding firstFrom
 first-none test zero i h = refl
 first-none test (suc m) i h = rw (h i (omega arith) (omega arith), first-none test m (i + 1) (λ j a b. h j (omega arith) (omega arith)))
@@ -85,20 +84,13 @@ deciding-first test at (k ∷ ks) rs h =
 -- ---- transitions
 
 module _ (m : Model) (w : WellFormed m) (st : State) (t : List ℕ) (h : Tabled m t) (c : ℕ) (l : c < length (m .components)) where
-  names : (p e : ℕ) (x : Bag) (k : Rule) → holds c p e x k ≡ true → k .component ≡ c
-  unfolding holds
-  names p e x k f =
-      let a = eqb (k .component) c in
-      let b = a && eqb (k .phase) p in
-      eqb-true (k .component) c (and-left a _ (and-left b _ (and-left (b && withinElapsed k e) (leb (k .least) (count (meets k) x)) f)))
-
   pub decided-is : (p e : ℕ) (x : Bag) → decidedIn (m .phases) t (m .rules) c p e x ≡ external m c p e x
   unfolding decidedIn external decidingIn
   decided-is p e x =
       ap (ledTo (m .rules) p)
       (sym (deciding-first (holds c p e x) 0 (m .rules) (m .rules) (λ j. (let q : j ≡ 0 + j = omega arith in ap (λ i. getD (m .rules) i noRule) q))
       ∙ window (λ i. holds c p e x (getD (m .rules) i noRule)) (length (m .rules)) _ _ (h .rules-in c l)
-      (λ j s f. let n = names p e x (getD (m .rules) j noRule) f in (h .rules-from c j l s n, h .rules-to c j l s n))))
+      (λ j s f. let n = holds-component c p e x (getD (m .rules) j noRule) f in (h .rules-from c j l s n, h .rules-to c j l s n))))
 
   pub next-is : (p : ℕ) → phaseIn (m .phases) t c p .next ≡ internal m c p
   unfolding internal

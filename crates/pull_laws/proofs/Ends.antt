@@ -1,22 +1,22 @@
 -- The theorem of pulling: for a sound model, an atomic's bag, pulled port by port as keys, is its bag in the nest in another order, and so is
--- the root's output bag. Everything that the pulled account needs comes from the checks of the decoder. Assumes nothing.
+-- the root's output bag. What the pulled account needs of the nest comes from the checks of the decoder. Assumes nothing.
 use mathlib.Core.Path.{_≡_, refl, sym, ap, _∙_, subst}
 use Prim.Native.Nat.{ℕ, zero, suc, _+_, _≤_, _<_}
-use mathlib.Core.List.{_∷_, map}
+use mathlib.Core.List.{List, _∷_, map}
 use mathlib.Core.Bool.{Bool, true, false, cond}
 use native.Mathlib.Omega.{arith}
 use lib.Dec.{eqb}
 use lib.ListN.{length}
 use Rattle.definition.specs.Lists.{all, keep, upFrom, Same}
 use Rattle.definition.specs.Limits.{maxAncestors, portCount}
-use Rattle.definition.specs.Model.{Bag, Model, isAtomic, isChild, children, Tree, Forest, leaf, node, stop, forest, tree}
+use Rattle.definition.specs.Model.{Bag, Phase, Model, isAtomic, isChild, children, Tree, Forest, leaf, node, stop, forest, tree}
 use Rattle.definition.specs.Records.{portFits}
 use Rattle.definition.specs.SavedRun.{Entry}
 use Rattle.model_laws.proofs.WellFormed.{WellFormed, couplings-fit}
 use Rattle.nest_laws.proofs.Components.{atomic-below, rooted, near-root, partsOfRoot, root, shape}
-use Rattle.nest_laws.proofs.Nest.{Fresh, Ready, ReadyAll, outTo, bagAt}
+use Rattle.nest_laws.proofs.Nest.{Fresh, Ready, ReadyAll, outTo, outDue, bagAt}
 use Rattle.laws.specs.Keys.{messageOf}
-use Rattle.pull_laws.specs.Put.{keysOf}
+use Rattle.pull_laws.specs.Put.{keysOf, valuesOn}
 use Rattle.route_laws.proofs.Placed.{coupled-parents}
 use Rattle.route_laws.proofs.Placed as P
 use Rattle.route_laws.specs.Ways.{Rising, sub}
@@ -26,7 +26,7 @@ use Rattle.pull_laws.proofs.Nodes.{inn, out, rowsAt, atomicAt, sentAt, 
 use Rattle.pull_laws.proofs.Pulled.{in-right, root-right}
 use Rattle.pull_laws.proofs.Arriving.{bag-right}
 use Rattle.pull_laws.proofs.Keys.{isValue, same-by-port}
-use Rattle.pull_laws.proofs.Values.{hasValue, values-all, sent-values, coupled-values, input-values, out-fits, bag-fits}
+use Rattle.pull_laws.proofs.Values.{hasValue, values-all, coupled-values, input-values, out-fits, bag-fits}
 
 below : Tree → Forest
 below (leaf c) = stop
@@ -75,28 +75,36 @@ module _ (m : Model) (w : WellFormed m) where
     pub ready-all : (c : ℕ) → c < length (m .components) → Ready m at now (sub (m .components) c)
     ready-all c l = ready-sub (length (m .components)) c l (omega arith)
 
+-- ---- the two bags, for any phases in the place of the model's own: a step of a run has the model's, the probing step of flatten has its own
+
+module _ (m : Model) (w : WellFormed m) (ps : List Phase) where
+  abbrev pub phased : Model
+  phased = record { components = m .components; phases = ps; rules = m .rules; couplings = m .couplings }
+
+  module _ (at : ℕ → Entry) (now : ℕ) (ready : (c : ℕ) → c < length (m .components) → Ready phased at now (sub (m .components) c))
+      (sent : (q c : ℕ) → all isValue (valuesOn q (outDue phased at now (leaf c))) ≡ true) where
     -- the root's output bag
-    pub root-same : Same (map messageOf (keysOf (λ q. pulledOut m at now maxAncestors (out 0 q)) portCount 0)) (outTo m at now (partsOfRoot m) 0)
+    pub root-same : Same (map messageOf (keysOf (λ q. pulledOut phased at now maxAncestors (out 0 q)) portCount 0)) (outTo phased at now (partsOfRoot m) 0)
     unfolding sentAt
     root-same =
         let fit = couplings-fit m w in
-        same-by-port _ _ (λ q. coupled-values isValue (rowsAt m) (atomicAt m) (sentAt m at now) (λ y. sent-values m w at now (y .port) (y .component)) maxAncestors (out 0 q))
-        (out-fits m at now fit (partsOfRoot m) 0)
-        (λ g q. root-right m at now g rising fit ready-all (near-root (m .components) (w .components .fit) (w .some-component)) q
-        ∙ ap (λ f. on q g (outTo m at now f 0)) root-parts)
+        same-by-port _ _ (λ q. coupled-values isValue (rowsAt phased) (atomicAt phased) (sentAt phased at now) (λ y. sent (y .port) (y .component)) maxAncestors (out 0 q))
+        (out-fits phased at now fit (partsOfRoot m) 0)
+        (λ g q. root-right phased at now g (rising m w) fit ready (near-root (m .components) (w .components .fit) (w .some-component)) q
+        ∙ ap (λ f. on q g (outTo phased at now f 0)) (root-parts m w))
 
     -- the bag of an atomic, where the given bag has ports and values as it should
     pub pulled-same : (x : Bag) → all portFits x ≡ true → all hasValue x ≡ true → (a : ℕ) → isAtomic (m .components) a ≡ true
-        → Same (map messageOf (keysOf (λ q. pulledIn m at now x maxAncestors (inn a q)) portCount 0)) (bagAt m at now a (root m) x)
+        → Same (map messageOf (keysOf (λ q. pulledIn phased at now x maxAncestors (inn a q)) portCount 0)) (bagAt phased at now a (root m) x)
     unfolding sentAt givenAt hasValue
     pulled-same x ports values a e =
         let fit = couplings-fit m w in
         let l = atomic-below (m .components) a e in
         let near = near-root (m .components) (w .components .fit) (w .some-component) in
         same-by-port _ _
-        (λ q. input-values isValue (rowsAt m) (atomicAt m) (sentAt m at now) (λ y. sent-values m w at now (y .port) (y .component))
+        (λ q. input-values isValue (rowsAt phased) (atomicAt phased) (sentAt phased at now) (λ y. sent (y .port) (y .component))
         (givenAt x) rootAt outputAt (λ y. values-all isValue (y .port) x values) maxAncestors (inn a q))
-        (bag-fits m at now fit a (root m) x ports)
-        (λ g q. in-right m at now g rising fit ready-all near x maxAncestors a q l (near a l)
-        ∙ sym (bag-right m at now x (λ y. cond (eqb q (y .port)) (g (y .value)) 0) a rising near (w .some-component) l e (coupled-parents (m .components) (w .components .fit)))
-        ∙ ap (λ t. on q g (bagAt m at now a t x)) root-tree)
+        (bag-fits phased at now fit a (root m) x ports)
+        (λ g q. in-right phased at now g (rising m w) fit ready near x maxAncestors a q l (near a l)
+        ∙ sym (bag-right phased at now x (λ y. cond (eqb q (y .port)) (g (y .value)) 0) a (rising m w) near (w .some-component) l e (coupled-parents (m .components) (w .components .fit)))
+        ∙ ap (λ t. on q g (bagAt phased at now a t x)) (root-tree m w))

@@ -1,54 +1,41 @@
--- The marks and flags of a step on a model's tables: an atomic is marked where it is due, and the flags keep the local condition of `Pruned`. So
--- what the code pulls by tables and flags is what is pulled on the model. Assumes nothing.
+-- The marks and flags of a step on a model's tables: an atomic is marked where it is due, a mark that is down is down below, and where a flag is
+-- down nothing may come. So they are `Flags`, and what the code pulls by tables and flags is what is pulled on the model. Assumes nothing.
 use mathlib.Core.Path.{_≡_, refl, sym, ap, _∙_}
 use Prim.Native.Nat.{ℕ, suc, _+_, _-_, _≤_, _<_}
-use mathlib.Core.List.{List, [], _∷_, map}
+use mathlib.Core.List.{List, []}
 use mathlib.Core.Bool.{Bool, true, false, _&&_, _||_, not, cond}
 use native.Mathlib.Omega.{arith}
 use lib.Dec.{eqb, ltb}
 use lib.ListN.{length, getD, set, replicate, length-set, length-replicate}
 use lib.Seq.{getD-set-same}
-use borrow.Author.Tests.{eqb-true, ne-eqb, lt-ltb, ltb-true}
+use borrow.Author.Tests.{eqb-true, ne-eqb, lt-ltb, ltb-true, not-false}
 use Rattle.definition.specs.Lists.{all, isEmpty}
 use Rattle.definition.specs.Limits.{maxComponents, portCount, maxAdvance}
-use Rattle.definition.specs.Model.{Bag, Coupling, Model, isAtomic, atomics, isChild, componentAt, phasesBefore, leaf}
+use Rattle.definition.specs.Model.{Bag, Coupling, Model, noPhase, isAtomic, atomics, isChild, componentAt, phasesBefore, phaseAt, outputs, leaf}
 use Rattle.definition.specs.Pinned.Decoder.{couplingFields}
 use Rattle.definition.specs.Devs.{finite, sameTime}
 use Rattle.definition.specs.SavedRun.{Entry, dueOf, dueAt}
 use Rattle.definition.specs.Flatten.{placeIn}
-use Rattle.laws.proofs.Sorting.{clash, and-left, and-right}
+use Rattle.laws.proofs.Tests.{clash, and-left, and-right}
 use Rattle.laws.proofs.Lists.{all-and, all-if}
 use Rattle.model_laws.proofs.WellFormed.{WellFormed}
 use Rattle.nest_laws.proofs.Kin.{par}
 use Rattle.nest_laws.proofs.Places.{place-below, place-at}
 use Rattle.nest_laws.proofs.Components.{atomic-below, atomic-once, rooted}
-use Rattle.nest_laws.proofs.Nest.{due}
+use Rattle.nest_laws.proofs.Nest.{due, outOf, outDue}
 use Rattle.clock.specs.Times.{latest}
 use Rattle.run_state.specs.declared.State.{State}
 use Rattle.route_laws.proofs.Placed.{kept}
-use Rattle.pull_laws.specs.Tables.{nodeComponent, numbersAt, parentsAt, countAt}
-use Rattle.pull_laws.specs.TableStep.{anyOf, isUp, recordOf, markOf, marked, raised, marks, mayCome, reached}
+use Rattle.pull_laws.specs.Tables.{nodeComponent, nodePort, numbersAt, parentsAt, countAt}
+use Rattle.pull_laws.specs.Put.{valuesOn}
+use Rattle.pull_laws.specs.TableStep.{anyOf, isUp, recordOf, markOf, marked, raised, marks, mayCome, reached, sentBy}
 use Rattle.pull_laws.specs.Tabled.{Tabled}
 use Rattle.pull_laws.proofs.Ends.{rising}
 use Rattle.pull_laws.proofs.Marks.{marked-length, marked-own, raised-other, raised-closed, reach-port, reached-before, reached-down}
 use Rattle.pull_laws.proofs.Positions.{heldAt, atEntry, atomicAtPlace, entry-at, place-is, due-at}
-use Rattle.pull_laws.proofs.Nodes.{Node, inn, sourceNode, endsAt, rowsAt, child-parent, own-child}
-use Rattle.pull_laws.proofs.Numbered.{code, code-component, code-output, good, good-in, good-node, rows-all, rows-good, rows-are}
-
--- nothing passes, so each fails
-pub any-none : {A : Type 0} (p : A → Bool) (l : List A) → anyOf p l ≡ false → all (λ a. not (p a)) l ≡ true
-unfolding anyOf all
-any-none p [] h = refl
-any-none p (a ∷ l) h = go (p a) refl (any-none p l)
-  where
-    go : (b : Bool) → p a ≡ b → (anyOf p l ≡ false → all (λ a. not (p a)) l ≡ true) → not (p a) && all (λ a. not (p a)) l ≡ true
-    go true e ih = absurd (clash (ap (λ b. b || anyOf p l) e) h)
-    go false e ih = rw e (ih (rw e at h))
-
-pub any-map : {A B : Type 0} (p : B → Bool) (f : A → B) (l : List A) → anyOf p (map f l) ≡ anyOf (λ a. p (f a)) l
-unfolding anyOf
-any-map p f [] = refl
-any-map p f (a ∷ l) = ap (λ b. p (f a) || b) (any-map p f l)
+use Rattle.pull_laws.proofs.Nodes.{Node, inn, sourceNode, endsAt, rowsAt, atomicAt, sentAt, child-parent, own-child}
+use Rattle.pull_laws.proofs.Numbered.{code, code-component, code-port, code-output, good, good-in, good-node, rows-all, rows-good, rows-are}
+use Rattle.pull_laws.proofs.Closed.{any-none, any-map, Flags}
 
 module _ (m : Model) (w : WellFormed m) (st : State) (t : List ℕ) (h : Tabled m t) (now : ℕ)
     (soon : (i : ℕ) → i < length (atomics (m .components)) → getD (st .last) i 0 + maxAdvance ≤ latest) where
@@ -94,7 +81,7 @@ module _ (m : Model) (w : WellFormed m) (st : State) (t : List ℕ) (h : Tabled 
       (ap (λ d. recordOf (m .phases) t d (getD (st .phase) i 0)) n ∙ ap (λ k. k + getD (st .phase) i 0) (h .phases c (atomic-below (m .components) c e)) ∙ ap (λ (r : Entry). phasesBefore (m .components) c + r .phase) (sym q))
 
   -- an atomic's mark: its phase record where it is due
-  pub mark-is : (c : ℕ) → isAtomic (m .components) c ≡ true
+  mark-is : (c : ℕ) → isAtomic (m .components) c ≡ true
       → getD es c 0 ≡ cond (due m (atEntry m w st) now (leaf c)) (suc (phasesBefore (m .components) c + atEntry m w st c .phase)) 0
   unfolding marks first
   mark-is c e =
@@ -121,7 +108,7 @@ module _ (m : Model) (w : WellFormed m) (st : State) (t : List ℕ) (h : Tabled 
       go false n = refl
 
   -- a marked component's parent is marked
-  pub mark-closed : (c d : ℕ) → isChild (m .components) c d ≡ true → d < length (m .components) → isUp es c ≡ false → isUp es d ≡ false
+  mark-closed : (c d : ℕ) → isChild (m .components) c d ≡ true → d < length (m .components) → isUp es c ≡ false → isUp es d ≡ false
   unfolding marks first
   mark-closed c d k l down = go (isUp (raised (m .phases) t most first) d) refl
     where
@@ -147,7 +134,7 @@ module _ (m : Model) (w : WellFormed m) (st : State) (t : List ℕ) (h : Tabled 
     abbrev begun : List ℕ
     begun = set (replicate maxComponents 0) 0 (cond (isEmpty x) 0 1)
 
-    pub flag-root : isUp fs 0 ≡ not (isEmpty x)
+    flag-root : isUp fs 0 ≡ not (isEmpty x)
     unfolding reached isUp
     flag-root =
         ap (λ n. not (eqb n 0))
@@ -183,7 +170,7 @@ module _ (m : Model) (w : WellFormed m) (st : State) (t : List ℕ) (h : Tabled 
         go false e = ap (λ n. not (eqb n 0)) (agree (nodeComponent (code y)) (omega (arith, code-component y l, ltb-true (y .component) c e)))
 
     -- where a flag is down, nothing may come to the inputs
-    pub flag-down : (c q : ℕ) → 0 < c → c < length (m .components) → q < portCount → isUp fs c ≡ false
+    flag-down : (c q : ℕ) → 0 < c → c < length (m .components) → q < portCount → isUp fs c ≡ false
         → all (λ y. not (mayCome (m .phases) t es fs (code y))) (rowsAt m (inn c q)) ≡ true
     unfolding reached code
     flag-down c q b l p down =
@@ -200,3 +187,27 @@ module _ (m : Model) (w : WellFormed m) (st : State) (t : List ℕ) (h : Tabled 
         (all-and (λ y. good m w y && (y .output || ltb (y .component) c)) (λ y. not (mayCome (m .phases) t es gs (code y))) (rowsAt m (inn c q))
         (all-and (good m w) (λ y. y .output || ltb (y .component) c) (rowsAt m (inn c q)) (rows-good m w (inn c q)) (rows-before c q))
         (any-none (λ y. mayCome (m .phases) t es gs (code y)) (rowsAt m (inn c q)) none))
+
+    sent-is : (y : Node) → good m w y ≡ true → atomicAt m y ≡ true → sentBy (m .phases) t es (code y) ≡ sentAt m (atEntry m w st) now y
+    unfolding sentBy sentAt atomicAt outDue outOf phaseAt
+    sent-is y g e =
+        let i = good-in m w y g in
+        let values : ℕ → ℕ → List ℕ = λ q n. cond (eqb n 0) [] (valuesOn q (outputs (getD (m .phases) (n - 1) noPhase))) in
+        ap (λ c. values (nodePort (code y)) (getD es c 0)) (code-component y (i .1)) ∙ ap (λ q. values q (getD es (y .component) 0)) (code-port y (i .1))
+        ∙ ap (values (y .port)) (mark-is (y .component) e) ∙ go (due m (atEntry m w st) now (leaf (y .component)))
+      where
+        record-of : ℕ
+        record-of = phasesBefore (m .components) (y .component) + atEntry m w st (y .component) .phase
+
+        go : (b : Bool) → cond (eqb (cond b (suc record-of) 0) 0) [] (valuesOn (y .port) (outputs (getD (m .phases) (cond b (suc record-of) 0 - 1) noPhase)))
+            ≡ valuesOn (y .port) (cond b (outputs (getD (m .phases) record-of noPhase)) [])
+        go true = let n : suc record-of - 1 ≡ record-of = omega arith in rw (ne-eqb (suc record-of) 0 (omega arith), n)
+        go false = unfold valuesOn in refl
+
+    pub flagged : Flags m w t (m .phases) es fs x (sentAt m (atEntry m w st) now)
+    flagged = record {
+      sent = sent-is;
+      marks-down = mark-closed;
+      flags-down = flag-down;
+      root-down = λ e. not-false (isEmpty x) (sym flag-root ∙ e);
+    }

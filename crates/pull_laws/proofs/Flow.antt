@@ -4,14 +4,12 @@ use mathlib.Core.Path.{_≡_, refl, ap, _∙_}
 use Prim.Native.Nat.{ℕ, _+_}
 use mathlib.Core.List.{List, [], _∷_}
 use mathlib.Core.Bool.{Bool, true, false, _&&_, cond}
-use native.Mathlib.Omega.{arith}
 use lib.Dec.{eqb, ltb}
 use Rattle.definition.specs.Lists.{keep, upFrom}
 use Rattle.definition.specs.Model.{Bag, Coupling}
 use Rattle.definition.specs.Routes.{portsTo}
 use Rattle.definition.specs.Devs.{translate}
-use Rattle.laws.proofs.Sums.{sumOf, sum-append, sum-cong, sum-zero, sum-swap}
-use Rattle.nest_laws.proofs.Numbers.{if-zero, sum-keep}
+use Rattle.laws.proofs.Sums.{sumOf, sum-append, sum-cong, sum-zero, sum-swap, if-zero, sum-keep, sum-cons}
 use Rattle.nest_laws.proofs.Paths.{translate-sum}
 use Rattle.pull_laws.specs.Pull.{joined}
 use Rattle.pull_laws.specs.Put.{valuesOn}
@@ -21,15 +19,10 @@ use Rattle.route_laws.proofs.Counts.{sum-pick}
 abbrev pub on : ℕ → (ℕ → ℕ) → Bag → ℕ
 on q g x = sumOf (λ y. cond (eqb q (y .port)) (g (y .value)) 0) x
 
-pub cond-of : {A : Type 0} (f : A → ℕ) (b : Bool) (a : A) (rest : List A) → sumOf f (cond b (a ∷ rest) rest) ≡ cond b (f a) 0 + sumOf f rest
-unfolding sumOf
-cond-of f true a rest = refl
-cond-of f false a rest = omega arith
-
 pub values-on : (q : ℕ) (g : ℕ → ℕ) (x : Bag) → sumOf g (valuesOn q x) ≡ on q g x
 unfolding valuesOn sumOf
 values-on q g [] = refl
-values-on q g (y ∷ x) = cond-of g (eqb q (y .port)) (y .value) (valuesOn q x) ∙ rw (values-on q g x)
+values-on q g (y ∷ x) = sum-cons g (eqb q (y .port)) (y .value) (valuesOn q x) ∙ rw (values-on q g x)
 
 pub joined-sum : {A : Type 0} (g : ℕ → ℕ) (f : A → List ℕ) (l : List A) → sumOf g (joined f l) ≡ sumOf (λ a. sumOf g (f a)) l
 unfolding joined sumOf
@@ -47,7 +40,7 @@ unfolding portsTo sumOf
 ports-sum f i d p [] = refl
 ports-sum f i d p (k ∷ ks) =
     let b = eqb (k .source) i && eqb (k .target) d && eqb (k .sourcePort) p in
-    cond-of f b (k .targetPort) (portsTo ks i d p) ∙ ap (λ n. cond b (f (k .targetPort)) 0 + n) (ports-sum f i d p ks)
+    sum-cons f b (k .targetPort) (portsTo ks i d p) ∙ ap (λ n. cond b (f (k .targetPort)) 0 + n) (ports-sum f i d p ks)
 
 gate : {A : Type 0} (a b e : Bool) (f : A → Bool) (w : A → ℕ) (x : List A)
     → sumOf (λ y. cond (a && b && f y) (cond e (w y) 0) 0) x ≡ cond (a && b && e) (sumOf (λ y. cond (f y) (w y) 0) x) 0
@@ -83,10 +76,6 @@ cond-last true false p true n = refl
 cond-last true false p false n = refl
 cond-last false e p true n = refl
 cond-last false e p false n = refl
-
-pub cond-cong : (b : Bool) (n k : ℕ) → (b ≡ true → n ≡ k) → cond b n 0 ≡ cond b k 0
-cond-cong true n k h = h refl
-cond-cong false n k h = refl
 
 -- over kept components d, the couplings that begin at d: over the couplings that begin at a kept component
 pub by-source : (w : ℕ → ℕ → ℕ) (p : ℕ → Bool) (n to q : ℕ) (ks : List Coupling)

@@ -13,7 +13,7 @@ use Rattle.definition.specs.Model.{Message, Bag}
 use Rattle.definition.specs.Records.{portFits}
 use Rattle.laws.proofs.Sums.{sumOf, sum-append, sum-map, sum-cong, sum-swap}
 use Rattle.laws.proofs.Lists.{sum-cong-if, count-sum}
-use Rattle.nest_laws.proofs.Numbers.{eqb-sym}
+use Rattle.laws.proofs.Tests.{eqb-sym}
 use Rattle.laws.specs.Keys.{valueRange, keyOf, messageOf}
 use Rattle.pull_laws.specs.Put.{keysOf}
 use Rattle.route_laws.proofs.Counts.{sum-pick}

@@ -1,5 +1,4 @@
 -- Laws of the pulled step, in the order of the argument.
-pub mod Tests
 pub mod Nests
 pub mod Flow
 pub mod Nodes
@@ -13,9 +12,9 @@ pub mod Coded
 pub mod Marks
 pub mod Positions
 pub mod Numbered
-pub mod Flagged
 pub mod Closed
 pub mod TablePull
+pub mod Flagged
 pub mod Decided
 pub mod Moves
 pub mod StepLaw

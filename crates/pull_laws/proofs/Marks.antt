@@ -11,12 +11,11 @@ use lib.Seq.{getD-set-same, getD-set-other}
 use borrow.Author.Tests.{eqb-true, eqb-false}
 use Rattle.definition.specs.Limits.{portCount}
 use Rattle.definition.specs.Model.{Phase}
-use Rattle.laws.proofs.Sorting.{clash}
+use Rattle.laws.proofs.Tests.{clash, or-none}
 use Rattle.run_state.specs.declared.State.{State}
 use Rattle.route_laws.specs.Nodes.{inputNode}
 use Rattle.pull_laws.specs.Tables.{numbersAt, parentsAt, chainRows}
 use Rattle.pull_laws.specs.TableStep.{anyOf, isUp, markOf, marked, raised, mayCome, mayReach, reachedFrom}
-use Rattle.pull_laws.proofs.Tests.{or-none}
 
 -- what is up stays up
 set-up : (l : List ℕ) (i j : ℕ) → isUp l j ≡ true → isUp (set l i 1) j ≡ true

@@ -13,7 +13,7 @@ use Rattle.definition.specs.Model.{Model, isAtomic, atomics, isChild, children,
 use Rattle.definition.specs.Devs.{Time, earlier}
 use Rattle.definition.specs.SavedRun.{dueOf, dueAt, dueAll, nextDue}
 use Rattle.definition.specs.Flatten.{placeIn}
-use Rattle.laws.proofs.Sorting.{and-left, and-right}
+use Rattle.laws.proofs.Tests.{and-left, and-right}
 use Rattle.model_laws.proofs.WellFormed.{WellFormed}
 use Rattle.nest_laws.proofs.Occurs.{kept-tests}
 use Rattle.nest_laws.proofs.Places.{place-below, place-at}

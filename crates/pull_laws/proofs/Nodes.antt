@@ -8,21 +8,19 @@ use native.Mathlib.Omega.{arith}
 use native.Mathlib.Nat.{add-zero, zero-add}
 use lib.Dec.{eqb, ltb}
 use lib.ListN.{length}
-use borrow.Author.Tests.{eqb-true, eq-eqb, ne-eqb, lt-ltb}
+use borrow.Author.Tests.{eqb-true, eq-eqb, ne-eqb, lt-ltb, not-true}
 use Rattle.definition.specs.Lists.{all, keep}
 use Rattle.definition.specs.Model.{Bag, Component, Coupling, Model, componentAt, isAtomic, isChild, isSibling, leaf}
 use Rattle.definition.specs.Pinned.Decoder.{related, couplingFields}
 use Rattle.definition.specs.SavedRun.{Entry}
-use Rattle.laws.proofs.Sorting.{clash, and-left, and-right}
-use Rattle.laws.proofs.Sums.{sumOf, sum-map}
+use Rattle.laws.proofs.Tests.{clash, and-left, and-right, refuted, or-first, or-second}
+use Rattle.laws.proofs.Sums.{sumOf, sum-map, sum-keep}
 use Rattle.laws.proofs.Lists.{sum-cong-if}
-use Rattle.nest_laws.proofs.Numbers.{sum-keep}
 use Rattle.nest_laws.proofs.Nest.{outDue}
 use Rattle.pull_laws.specs.Pull.{coupledOut, inputIn}
 use Rattle.pull_laws.specs.Put.{valuesOn}
 use Rattle.route_laws.specs.Ways.{Rising}
 use Rattle.route_laws.proofs.Placed.{kept}
-use Rattle.pull_laws.proofs.Tests.{refuted, not-true, or-first, or-second}
 
 -- A port of a component, for its output or its input.
 pub record Node : Type 0 where

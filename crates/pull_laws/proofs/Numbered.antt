@@ -12,8 +12,8 @@ use Rattle.definition.specs.Lists.{all, keep}
 use Rattle.definition.specs.Limits.{portCount}
 use Rattle.definition.specs.Model.{Component, Coupling, Model, isAtomic, isChild}
 use Rattle.definition.specs.Pinned.Decoder.{couplingFields}
-use Rattle.laws.proofs.Sorting.{and-left, and-right}
-use Rattle.laws.proofs.Lists.{and-true, all-if, all-and, all-every, all-keep, all-map, map-cong-if}
+use Rattle.laws.proofs.Tests.{and-left, and-right, and-true}
+use Rattle.laws.proofs.Lists.{all-if, all-and, all-every, all-keep, all-map, map-cong-if}
 use Rattle.model_laws.proofs.WellFormed.{WellFormed, couplings-fit}
 use Rattle.route_laws.proofs.Placed.{kept}
 use Rattle.route_laws.specs.Nodes.{portNodes, inputNode, outputNode, sourceNumber, targetNumber}

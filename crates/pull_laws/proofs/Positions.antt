@@ -9,7 +9,7 @@ use native.Mathlib.Nat.{add-zero}
 use lib.Dec.{eqb, ltb}
 use lib.ListN.{length, getD, List·getD-eq-default}
 use borrow.Author.Tests.{leb-true, ltb-true, ltb-false}
-use Rattle.definition.specs.Lists.{all, upFrom, count}
+use Rattle.definition.specs.Lists.{upFrom, count}
 use Rattle.definition.specs.Limits.{maxAdvance, neverField}
 use Rattle.definition.specs.Model.{Phase, Model, noPhase, isAtomic, atomics, phasesBefore, phaseAt}
 use Rattle.definition.specs.Pinned.Decoder.{advanceFits, phaseFields, phaseFits, usedFit}
@@ -17,10 +17,9 @@ use Rattle.definition.specs.Devs.{finite, never, later}
 use Rattle.definition.specs.Atomic.{advanceOf}
 use Rattle.definition.specs.SavedRun.{Entry, lookUp, entryOf, dueOf}
 use Rattle.definition.specs.Flatten.{placeIn}
-use Rattle.laws.proofs.Sorting.{and-left, and-right}
-use Rattle.laws.proofs.Lists.{getD-map}
+use Rattle.laws.proofs.Tests.{and-left, eqb-sym, or-first}
+use Rattle.laws.proofs.Lists.{getD-map, all-at}
 use Rattle.model_laws.proofs.WellFormed.{WellFormed}
-use Rattle.nest_laws.proofs.Numbers.{eqb-sym}
 use Rattle.nest_laws.proofs.Occurs.{occurs, Distinct}
 use Rattle.nest_laws.proofs.Places.{places}
 use Rattle.nest_laws.proofs.Components.{atomic-below, atomic-once, atomics-atomic}
@@ -30,7 +29,6 @@ use Rattle.run_state.specs.declared.State.{State}
 use Rattle.run_state.specs.Held.{entriesOf}
 use Rattle.pull_laws.specs.TableStep.{recordOf, phaseIn, dueIn, dueAtPosition}
 use Rattle.pull_laws.specs.Tabled.{Tabled}
-use Rattle.pull_laws.proofs.Tests.{or-first}
 
 -- ---- places
 
@@ -77,12 +75,6 @@ advances m w i = go (ltb i (length (m .phases))) refl
 
 -- ---- one atomic
 
-all-at : (p : ℕ → Bool) (l : List ℕ) (i : ℕ) → all p l ≡ true → i < length l → p (getD l i 0) ≡ true
-unfolding all
-all-at p [] i h b = absurd (omega arith)
-all-at p (a ∷ l) zero h b = and-left (p a) (all p l) h
-all-at p (a ∷ l) (suc i) h b = all-at p l i (and-right (p a) (all p l) h) (omega arith)
-
 -- the entry at a position
 abbrev pub heldAt : State → ℕ → Entry
 heldAt st i = record { phase = getD (st .phase) i 0; last = getD (st .last) i 0 }
@@ -109,7 +101,7 @@ module _ (m : Model) (w : WellFormed m) (st : State) where
   place-is i l = place-of (atomics (m .components)) i (distinct-atomics (m .components)) l
 
   pub atomic-at : (i : ℕ) → i < length (atomics (m .components)) → isAtomic (m .components) (atomicAtPlace i) ≡ true
-  atomic-at i l = all-at (isAtomic (m .components)) (atomics (m .components)) i (atomics-atomic (m .components) (w .components .fit) (w .some-component)) l
+  atomic-at i l = all-at (isAtomic (m .components)) (atomics (m .components)) i 0 (atomics-atomic (m .components) (w .components .fit) (w .some-component)) l
 
   pub place-entry : (i : ℕ) → i < length (atomics (m .components)) → atEntry (atomicAtPlace i) ≡ heldAt st i
   place-entry i l = entry-at (atomicAtPlace i) (atomic-at i l) ∙ ap (heldAt st) (place-is i l)

@@ -6,10 +6,10 @@ use mathlib.Core.List.{List, [], _∷_, _++_}
 use mathlib.Core.Bool.{Bool, true, false, _&&_, not, cond}
 use Rattle.definition.specs.Lists.{all, isEmpty}
 use Rattle.definition.specs.Limits.{maxAncestors}
-use Rattle.laws.proofs.Sorting.{clash, and-left, and-right}
+use Rattle.laws.proofs.Tests.{clash, and-left, and-right}
 use Rattle.laws.proofs.Lists.{all-and}
 use Rattle.pull_laws.specs.Pull.{joined, childOut, coupledOut, sourceIn, inputIn}
-use Rattle.pull_laws.proofs.Tests.{not-true}
+use borrow.Author.Tests.{not-true}
 
 joined-none : {N : Type 0} (p : N → Bool) (F : N → List ℕ) (l : List N) → all p l ≡ true → ((y : N) → p y ≡ true → F y ≡ []) → joined F l ≡ []
 unfolding joined all

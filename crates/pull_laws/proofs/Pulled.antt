@@ -14,15 +14,14 @@ use Rattle.definition.specs.Model.{Message, Bag, Component, Model, componentAt,
 use Rattle.definition.specs.Pinned.Decoder.{rootWithin, couplingFields}
 use Rattle.definition.specs.Devs.{translate}
 use Rattle.definition.specs.SavedRun.{Entry}
-use Rattle.laws.proofs.Sorting.{and-left, and-right}
-use Rattle.laws.proofs.Sums.{sumOf, sum-append, sum-cong, sum-add}
+use Rattle.laws.proofs.Tests.{and-left, and-right, or-second}
+use Rattle.laws.proofs.Sums.{sumOf, sum-append, sum-cong, sum-add, if-cong}
 use Rattle.nest_laws.proofs.Nest.{Ready, due, outOf, outTo, outDue, out-due}
 use Rattle.pull_laws.specs.Pull.{joined, childOut, coupledOut, sourceIn, inputIn}
 use Rattle.pull_laws.specs.Put.{valuesOn}
 use Rattle.route_laws.specs.Ways.{Rising, sub}
 use Rattle.route_laws.proofs.Nests.{sub-step, sub-name}
-use Rattle.pull_laws.proofs.Tests.{or-second}
-use Rattle.pull_laws.proofs.Flow.{on, values-on, joined-sum, joined-none, translate-on, cond-cong, by-source}
+use Rattle.pull_laws.proofs.Flow.{on, values-on, joined-sum, joined-none, translate-on, by-source}
 use Rattle.pull_laws.proofs.Nodes.{Node, inn, out, rowsAt, atomicAt, sentAt, givenAt, rootAt, outputAt, pulledOut, pulledIn, own-child, out-rows, in-rows}
 
 -- ---- levels
@@ -87,7 +86,7 @@ module _ (m : Model) (at : ℕ → Entry) (now : ℕ) where
         let p : ℕ → Bool = λ d. isChild (m .components) c d && ltb d (length (m .components)) in
         joined-sum g below (rowsAt m (out c q))
         ∙ out-rows m rising fit (λ x. sumOf g (below x)) c q
-        ∙ sum-cong _ _ (m .couplings) (λ k. cond-cong (eqb (k .target) c && eqb q (k .targetPort) && p (k .source)) _ _
+        ∙ sum-cong _ _ (m .couplings) (λ k. if-cong (eqb (k .target) c && eqb q (k .targetPort) && p (k .source)) _ _
         (λ e. let b = and-right (eqb (k .target) c && eqb q (k .targetPort)) (p (k .source)) e in
         h (k .source) (k .sourcePort) (and-left (isChild (m .components) c (k .source)) _ b)
         (ltb-true _ _ (and-right (isChild (m .components) c (k .source)) _ b))))
@@ -173,7 +172,7 @@ module _ (m : Model) (at : ℕ → Entry) (now : ℕ) where
             ∙ in-rows m rising fit (λ n. sumOf g (F n)) c q z
             ∙ sum-add _ _ (m .couplings)
             ∙ ap₂ _+_
-            (sum-cong _ _ (m .couplings) (λ k. cond-cong (eqb (k .target) c && eqb q (k .targetPort) && s (k .source)) _ _
+            (sum-cong _ _ (m .couplings) (λ k. if-cong (eqb (k .target) c && eqb q (k .targetPort) && s (k .source)) _ _
             (λ e. let b = and-right (eqb (k .target) c && eqb q (k .targetPort)) (s (k .source)) e in
             h (k .source) (k .sourcePort) (and-left (isChild (m .components) p (k .source)) _ b)
             (ltb-true _ _ (and-right (isChild (m .components) p (k .source)) _ b))))

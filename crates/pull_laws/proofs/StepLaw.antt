@@ -18,9 +18,9 @@ use Rattle.definition.specs.Atomic.{advanceOf}
 use Rattle.definition.specs.SavedRun.{Entry, entryOf, dueOf, dueAt}
 use Rattle.definition.specs.Step.{Stepped, step}
 use Rattle.definition.specs.FlatMachine.{moved}
-use Rattle.laws.proofs.Sorting.{clash}
+use Rattle.laws.proofs.Tests.{clash}
 use Rattle.model_laws.proofs.WellFormed.{WellFormed}
-use Rattle.nest_laws.proofs.Numbers.{same-length}
+use Rattle.laws.proofs.Bags.{same-length}
 use Rattle.nest_laws.proofs.Places.{take-up}
 use Rattle.nest_laws.proofs.Pairs.{pairs-lookUp}
 use Rattle.nest_laws.proofs.Components.{atomic-below, atomic-once, root}
@@ -36,10 +36,10 @@ use Rattle.laws.specs.Keys.{messageOf}
 use Rattle.pull_laws.specs.Tables.{numbersAt}
 use Rattle.pull_laws.specs.TableStep.{isUp, keysInto, rootKeys, rootRoom, tableStep}
 use Rattle.pull_laws.specs.Tabled.{Tabled}
-use Rattle.pull_laws.proofs.Values.{hasValue}
-use Rattle.pull_laws.proofs.Ends.{root-same, pulled-same}
+use Rattle.pull_laws.proofs.Values.{hasValue, sent-values}
+use Rattle.pull_laws.proofs.Ends.{ready-all, root-same, pulled-same}
 use Rattle.pull_laws.proofs.Positions.{heldAt, entries, atEntry, atomicAtPlace, atomic-at, place-entry}
-use Rattle.pull_laws.proofs.Flagged.{es, fs, up-due}
+use Rattle.pull_laws.proofs.Flagged.{es, fs, up-due, flagged}
 use Rattle.pull_laws.proofs.TablePull.{keys-into, root-keys}
 use Rattle.pull_laws.proofs.Moves.{SameRoom, all-room, all-own}
 
@@ -98,7 +98,7 @@ module _ (m : Model) (w : WellFormed m) (t : List ℕ) (h : Tabled m t) (st : St
     -- the whole bag of an atomic
     pub bag-same : (c : ℕ) → isAtomic (m .components) c ≡ true → Same (map messageOf (keysInto (m .phases) t marked flags x c)) (bagAt m at now c (root m) x)
     bag-same c e p =
-        ap (λ l. count p (map messageOf l)) (keys-into m w st t h now (k .soon) x c (atomic-below (m .components) c e)) ∙ pulled-same m w at now fresh x ports values c e p
+        ap (λ l. count p (map messageOf l)) (keys-into m w t h (m .phases) marked flags x _ (flagged m w st t h now (k .soon) x) c (atomic-below (m .components) c e)) ∙ pulled-same m w (m .phases) at now (ready-all m w at now fresh) (sent-values m w at now) x ports values c e p
 
     pub bag-length : (c : ℕ) → isAtomic (m .components) c ≡ true → length (keysInto (m .phases) t marked flags x c) ≤ maxGiven * length (routes m)
     bag-length c e =
@@ -144,7 +144,7 @@ module _ (m : Model) (w : WellFormed m) (t : List ℕ) (h : Tabled m t) (st : St
       -- the root's whole bag, which has at most 4 messages a route
       root-whole : Same (map messageOf (rootKeys (m .phases) t marked flags)) (step m now x (entries m w st) .out)
       root-whole p =
-          ap (λ l. count p (map messageOf l)) (root-keys m w st t h now (k .soon) x) ∙ root-same m w at now fresh p
+          ap (λ l. count p (map messageOf l)) (root-keys m w t h (m .phases) marked flags x _ (flagged m w st t h now (k .soon) x)) ∙ root-same m w (m .phases) at now (ready-all m w at now fresh) (sent-values m w at now) p
           ∙ ap (count p) (sym (step-out m w now x (entries m w st) is-ready))
 
       root-few : length (rootKeys (m .phases) t marked flags) ≤ maxOutputs * length (routes m)

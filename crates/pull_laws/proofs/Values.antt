@@ -17,8 +17,8 @@ use Rattle.definition.specs.Routes.{portsTo}
 use Rattle.definition.specs.Pinned.Decoder.{toPhase, couplingFields}
 use Rattle.definition.specs.Devs.{translateOne, translate}
 use Rattle.definition.specs.SavedRun.{Entry}
-use Rattle.laws.proofs.Sorting.{and-left, and-right}
-use Rattle.laws.proofs.Lists.{all-append, all-take, all-map, all-getD, and-true}
+use Rattle.laws.proofs.Tests.{and-left, and-right, and-true}
+use Rattle.laws.proofs.Lists.{all-append, all-take, all-map, all-getD}
 use Rattle.model_laws.proofs.WellFormed.{WellFormed}
 use Rattle.route_laws.proofs.Placed.{kept}
 use Rattle.nest_laws.proofs.Paths.{translate-ports}

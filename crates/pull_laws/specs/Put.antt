@@ -3,10 +3,10 @@
 use Prim.Native.Nat.{ℕ, zero, suc, _+_}
 use mathlib.Core.List.{List, [], _∷_, _++_, map}
 use mathlib.Core.Bool.{cond}
-use lib.ListN.{set, length}
-use lib.Dec.{ltb, eqb}
+use lib.Dec.{eqb}
 use Rattle.definition.specs.Model.{Bag}
 use Rattle.laws.specs.Keys.{keyOf}
+unfoldable pub use Rattle.store_laws.specs.Put.{put1}
 
 -- ---- keys
 
@@ -21,10 +21,6 @@ keysOf values zero q = []
 keysOf values (suc n) q = map (keyOf q) (values q) ++ keysOf values n (q + 1)
 
 -- ---- a buffer with a position
-
--- One number put at the position, which moves on; nothing where the buffer is full.
-unfoldable pub put1 : ℕ → List ℕ × ℕ → List ℕ × ℕ
-put1 v st = (set (st .0) (st .1) v, cond (ltb (st .1) (length (st .0))) (st .1 + 1) (st .1))
 
 -- Values put as messages on one port, one after the other.
 unfoldable pub puts : ℕ → List ℕ → List ℕ × ℕ → List ℕ × ℕ

@@ -5,20 +5,20 @@ use mathlib.Core.Bool.{true, false, _&&_}
 use Prim.Native.Nat.{ℕ, _≤_, _<_}
 use native.Mathlib.Omega.{arith}
 use lib.ListN.{length, drop, getD}
-use borrow.Author.Tests.{le-leb, lt-leb}
 use Rattle.definition.specs.Bytes.{Bytes, ok, refused, chunks}
 use Rattle.definition.specs.Limits.{headSize, entrySize}
 use Rattle.definition.specs.Model.{Model, atomics, phaseAt}
 use Rattle.definition.specs.Pinned.Decoder.{accepted}
 use Rattle.definition.specs.Atomic.{advanceOf}
 use Rattle.definition.specs.SavedRun.{Entry, noEntry, atomicCount, runOf, toRun, toEntry, dueOf, entryFits, entriesFit, runFits, nextDue}
-use Rattle.definition.specs.Engine.{dueNumber, wasRead, readingChecks, readAt, reading}
+use Rattle.definition.specs.Engine.{dueNumber, readAt, reading}
 use Rattle.laws.proofs.Lists.{getD-map}
 use Rattle.byte_laws.proofs.Rows.{length-rows, getD-rows}
 use Rattle.model_records.specs.Values.{componentsIn, modelIn}
 use Rattle.model.specs.Checked.{modelOf, componentsPart, phasesPart}
 use Rattle.model.specs.declared.Counts.{Counts}
 use Rattle.saved_run.specs.Runs.{bare, entryAt}
+use Rattle.model_laws.proofs.Answers.{reading-model, reading-run, reading-position, reading-done}
 
 -- ---- a run is judged by components and phases alone
 
@@ -44,22 +44,20 @@ count-file file n = refl
 -- ---- refusals
 
 pub read-refused : (file run : Bytes) (position k : ℕ) → refused k ≡ accepted file → record { number = k; phase = 0; last = 0; due = 0 } ≡ reading file run position
-unfolding reading wasRead
-read-refused file run position k e = rw (← e)
+read-refused file run position k e = sym (reading-model file run position k (sym e))
 
 module _ (file run : Bytes) (position : ℕ) (m : Model) (e : ok m ≡ accepted file) where
   pub read-unfit : runFits m run ≡ false → record { number = 10; phase = 0; last = 0; due = 0 } ≡ reading file run position
-  unfolding reading wasRead readingChecks
-  read-unfit f = rw (← e, f)
+  read-unfit f = sym (reading-run file run position m (sym e) f)
 
   module _ (f : runFits m run ≡ true) where
     pub read-past : length (atomics (m .components)) ≤ position → record { number = 16; phase = 0; last = 0; due = 0 } ≡ reading file run position
-    unfolding reading wasRead readingChecks atomicCount
-    read-past l = rw (← e, f, le-leb (length (atomics (m .components))) position l)
+    unfolding atomicCount
+    read-past l = sym (reading-position file run position m (sym e) f l)
 
     pub read-done : position < length (atomics (m .components)) → readAt (runOf m run .entries) position (nextDue m (runOf m run .entries)) ≡ reading file run position
-    unfolding reading wasRead readingChecks atomicCount
-    read-done l = rw (← e, f, lt-leb (length (atomics (m .components))) position l)
+    unfolding atomicCount
+    read-done l = sym (reading-done file run position m (sym e) f l)
 
 -- ---- the answer
 

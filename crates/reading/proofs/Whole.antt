@@ -1,11 +1,12 @@
 -- The next due moment of the whole model, by the tables that a call fills: where the model is accepted and the run fits, it is the
 -- definition's. Assumes nothing.
-use mathlib.Core.Path.{_≡_, refl, sym, ap, _∙_, subst}
-use mathlib.Core.Bool.{Bool, true, false, not}
+use mathlib.Core.Path.{_≡_, sym, ap, _∙_, subst}
+use mathlib.Core.Bool.{true}
 use mathlib.Core.List.{List}
-use Prim.Native.Nat.{ℕ, _≤_, _<_}
+use Prim.Native.Nat.{ℕ, _<_}
 use native.Mathlib.Omega.{arith}
 use lib.ListN.{length, getD}
+use borrow.Author.Tests.{not-true, not-false}
 use Rattle.definition.specs.Bytes.{Bytes, ok}
 use Rattle.definition.specs.Limits.{maxComponents}
 use Rattle.definition.specs.Model.{atomics}
@@ -24,14 +25,6 @@ use Rattle.pull_laws.specs.Carried.{Carried, nextEnd}
 use Rattle.pull_laws.proofs.Carried.{next-carried}
 use Rattle.table_laws.proofs.Calls.{next-on-tables}
 use Rattle.model_tables.proofs.Accepted.{fine}
-
-pub not-true : (b : Bool) → not b ≡ true → b ≡ false
-not-true true e = sym e
-not-true false e = refl
-
-pub not-false : (b : Bool) → not b ≡ false → b ≡ true
-not-false true e = refl
-not-false false e = sym e
 
 -- The next due moment, by what the code has: the model's tables, a state that holds the run's entries, and its carried due moments.
 pub due-whole : (file : Bytes) (n : Counts) → ((i : ℕ) → getD file i 0 < 256) → ok (modelOf file n) ≡ accepted file → (run : Bytes) (t : List ℕ) → TablesOf (modelOf file n) t

@@ -1,39 +1,25 @@
 -- The engine's test of a given bag passes exactly where document 01's lines on it hold, and what it then takes the bag for are the messages
 -- whose rows its bytes are. Assumes nothing.
 use mathlib.Core.Path.{_≡_, refl, sym, ap, ap₂, _∙_}
-use Prim.Native.Nat.{ℕ, _*_, _/_, _%_, _≤_, _<_}
+use Prim.Native.Nat.{_*_, _/_, _%_, _≤_, _<_}
 use mathlib.Core.List.{List, [], _∷_, map}
 use mathlib.Core.Bool.{Bool, true}
 use native.Mathlib.Omega.{arith}
-use lib.ListN.{length, getD, length-map}
+use lib.ListN.{length}
 use lib.Seq.{take-all}
-use Rattle.definition.specs.Lists.{sum, all}
-use Rattle.definition.specs.Bytes.{Bytes, AllBytes, chunks, Layout}
+use Rattle.definition.specs.Lists.{all}
+use Rattle.definition.specs.Bytes.{Bytes, AllBytes, chunks}
 use Rattle.definition.specs.Limits.{messageSize, maxGiven, portCount}
 use Rattle.definition.specs.Model.{Bag}
-use Rattle.definition.specs.Records.{messageAt, messageLayout, messageBytes, portFits}
+use Rattle.definition.specs.Records.{messageAt, messageBytes, portFits}
 use Rattle.definition.specs.Sound.{Every}
 use Rattle.definition.specs.Engine.{toBag, bagFits}
 use Rattle.definition.specs.Clauses.{BagFits}
-use Rattle.model_laws.proofs.Codec.{length-chunks, rows-length}
+use Rattle.model_laws.proofs.Codec.{bag-length, rows-length}
 use Rattle.refusal_laws.proofs.Tests.{Decides, less, most, equal, both}
-use Rattle.refusal_laws.proofs.Layouts.{fieldsAt, Spelled, record-size}
-use Rattle.refusal_laws.proofs.Rows.{rows-held, rows-written, rows-read}
-
-field : ℕ → Layout → ℕ
-field i fs = getD fs i (0, 0) .1
-
-message-spelled : Spelled messageSize messageLayout (messageAt 0)
-unfolding sum fieldsAt messageAt field
-message-spelled = record {
-  widths = 1 ∷ 2 ∷ [];
-  total = refl;
-  as-laid = λ x. refl;
-  as-read = λ r. refl;
-  apart = λ x y e.
-      let at : (i : ℕ) → field i (messageLayout x) ≡ field i (messageLayout y) = λ i. ap (field i) e in
-      λ i. record { port = at 0 i; value = at 1 i };
-}
+use Rattle.model_laws.proofs.Layouts.{record-size}
+use Rattle.model_laws.proofs.Rows.{rows-held, rows-written, rows-read}
+use Rattle.model_laws.proofs.Spellings.{message-spelled}
 
 -- ---- the test
 
@@ -50,11 +36,6 @@ unfolding bagFits portFits
 bag-test b =
     both (both (equal (length b % messageSize) 0) (most (length b) (messageSize * maxGiven)))
     (each portFits (λ y. y .port < portCount) (λ y. less (y .port) portCount) (toBag b))
-
-bag-length : (b : Bytes) → length (toBag b) ≡ length b / messageSize
-unfolding toBag
-bag-length b =
-    length-map (chunks (length b / messageSize) messageSize b) (messageAt 0) ∙ length-chunks (length b / messageSize) messageSize b
 
 pub fits-bag : (bag : Bytes) → AllBytes bag → bagFits bag ≡ true → BagFits bag (toBag bag)
 unfolding toBag messageBytes

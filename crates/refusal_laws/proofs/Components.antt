@@ -13,7 +13,7 @@ use Rattle.definition.specs.Model.{Component, componentAt}
 use Rattle.definition.specs.Pinned.Decoder.{toComponent, coupledFields, atomicFields, kindFields, rootFields, rootWithin, placeFits, componentFits, componentCountRefusal}
 use Rattle.definition.specs.Sound.{Ancestors, of-root, of-child, ComponentKeeps, componentForm}
 use Rattle.refusal_laws.proofs.Tests.{Decides, less, most, equal, reworded, both, either}
-use Rattle.refusal_laws.proofs.Spellings.{component-spelled}
+use Rattle.model_laws.proofs.Spellings.{component-spelled}
 use Rattle.refusal_laws.proofs.Sections.{Counted, none-applies, over-limit, Reads}
 
 -- ---- "kind (0 coupled, 1 atomic)" with the fields of each

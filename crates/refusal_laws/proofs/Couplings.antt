@@ -13,7 +13,7 @@ use Rattle.definition.specs.Model.{Component, Coupling, noCoupling, componentAt
 use Rattle.definition.specs.Pinned.Decoder.{toCoupling, related, couplingFields, notFalling, couplingFits, limitRefusal}
 use Rattle.definition.specs.Sound.{componentForm, Lines, Related, parent, sibling, child, CouplingKeeps, NotFalling, couplingForm}
 use Rattle.refusal_laws.proofs.Tests.{Decides, less, most, equal, negated, reworded, both, both-then, either, not-above}
-use Rattle.refusal_laws.proofs.Spellings.{coupling-spelled}
+use Rattle.model_laws.proofs.Spellings.{coupling-spelled}
 use Rattle.refusal_laws.proofs.Sections.{Reads}
 use Rattle.refusal_laws.proofs.Rules.{limit-counted}
 

@@ -17,7 +17,7 @@ use Rattle.definition.specs.Routes.{routes}
 use Rattle.definition.specs.Pinned.Decoder.{componentSection, phaseSection, ruleSection, couplingSection, endOfFile, decode, accepted, checkModel}
 use Rattle.definition.specs.Sound.{Form, componentForm, phaseForm, ruleForm, couplingForm, Sound}
 use Rattle.definition.specs.Refusals.{Stops, count-cut, count-wrong, not-the-sum, records-cut, line-broken, FourPass, Judged, in-components, in-phases, in-rules, in-couplings, left-over, many-routes, no-row}
-use Rattle.model_laws.proofs.Sections.{ok-same}
+use Rattle.laws.proofs.Results.{ok-same}
 use Rattle.refusal_laws.proofs.Sections.{Found, stopped, passed, passes-read, stops-read, found}
 use Rattle.refusal_laws.proofs.Components.{component-reads}
 use Rattle.refusal_laws.proofs.Phases.{phase-reads}

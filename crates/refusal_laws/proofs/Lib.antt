@@ -1,7 +1,5 @@
 -- Laws of the table of refusals: each row is given on its condition and never otherwise, and the models without a row are the sound ones.
 pub mod Tests
-pub mod Layouts
-pub mod Spellings
 pub mod Sections
 pub mod Components
 pub mod Phases
@@ -9,6 +7,5 @@ pub mod Rules
 pub mod Couplings
 pub mod Judged
 pub mod Runs
-pub mod Rows
 pub mod Bags
 pub mod Deciding

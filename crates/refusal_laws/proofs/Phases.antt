@@ -19,7 +19,7 @@ use Rattle.definition.specs.Pinned.Decoder.{toPhase, advanceFits, usedFit, unus
 use Rattle.definition.specs.Sound.{NotAbove, slotAt, PhaseKeeps, phaseForm}
 use Rattle.model_laws.proofs.PhaseRange.{bound-at}
 use Rattle.refusal_laws.proofs.Tests.{Decides, less, most, equal, reworded, both, both-then, either, every, rising, not-above}
-use Rattle.refusal_laws.proofs.Spellings.{phase-spelled}
+use Rattle.model_laws.proofs.Spellings.{phase-spelled}
 use Rattle.refusal_laws.proofs.Sections.{Counted, none-applies, over-limit, other-sum, Reads}
 
 -- ---- one phase

@@ -13,7 +13,7 @@ use Rattle.definition.specs.Model.{Component, Rule, noRule, componentAt, isAtom
 use Rattle.definition.specs.Pinned.Decoder.{toRule, ruleFields, ruleFits, limitRefusal}
 use Rattle.definition.specs.Sound.{Form, RuleKeeps, ruleForm}
 use Rattle.refusal_laws.proofs.Tests.{Decides, less, most, equal, reworded, both}
-use Rattle.refusal_laws.proofs.Spellings.{rule-spelled}
+use Rattle.model_laws.proofs.Spellings.{rule-spelled}
 use Rattle.refusal_laws.proofs.Sections.{Counted, none-applies, over-limit, Reads}
 
 -- ---- a count with a limit alone

@@ -1,19 +1,19 @@
 -- The engine's test of a saved run passes exactly where document 01's lines on it hold, entry by entry: demand 1 says so, and every call
 -- that takes a run stands on it. Assumes nothing.
-use mathlib.Core.Path.{_≡_, refl, ap, _∙_}
+use mathlib.Core.Path.{_≡_, refl, ap}
 use Prim.Native.Nat.{ℕ, zero, suc, _+_, _≤_, _<_}
 use mathlib.Core.List.{List, [], _∷_}
 use mathlib.Core.Bool.{Bool, true, false, false≢true}
 use native.Mathlib.Omega.{arith}
-use lib.ListN.{length, drop, getD, length-map}
-use Rattle.definition.specs.Bytes.{Bytes, numberAt, chunks}
-use Rattle.definition.specs.Limits.{headSize, entrySize, maxMoment}
+use lib.ListN.{length, getD}
+use Rattle.definition.specs.Bytes.{Bytes, numberAt}
+use Rattle.definition.specs.Limits.{maxMoment}
 use Rattle.definition.specs.Model.{Model, componentAt, atomics}
 use Rattle.definition.specs.Devs.{Time, finite, never, later, ticks}
 use Rattle.definition.specs.Atomic.{advanceOf}
-use Rattle.definition.specs.SavedRun.{Entry, noEntry, atomicCount, runLength, toEntry, toRun, runOf, dueOf, notBefore, entryFits, entriesFit, runFits}
+use Rattle.definition.specs.SavedRun.{Entry, noEntry, atomicCount, runLength, runOf, dueOf, notBefore, entryFits, entriesFit, runFits}
 use Rattle.definition.specs.Clauses.{EntryFits, RunFits}
-use Rattle.model_laws.proofs.Codec.{length-chunks}
+use Rattle.model_laws.proofs.RunBack.{entry-count}
 use Rattle.refusal_laws.proofs.Tests.{Decides, less, most, equal, reworded, both, either}
 
 -- ---- an entry
@@ -55,11 +55,6 @@ module _ (m : Model) (opening : ℕ) where
       split h (suc i) l = h .1 i (omega arith)
 
 -- ---- a run
-
-entry-count : (m : Model) (s : Bytes) → length (runOf m s .entries) ≡ atomicCount m
-unfolding runOf toRun
-entry-count m s =
-    length-map (chunks (atomicCount m) entrySize (drop headSize s)) toEntry ∙ length-chunks (atomicCount m) entrySize (drop headSize s)
 
 run-test : (m : Model) (s : Bytes) → Decides (runFits m s) (RunFits m s)
 unfolding runFits atomicCount

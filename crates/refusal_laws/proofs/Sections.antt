@@ -17,10 +17,11 @@ use Rattle.definition.specs.Pinned.Decoder.{Section, sectionCount, section}
 use Rattle.definition.specs.Sound.{Form}
 use Rattle.definition.specs.Refusals.{Spells, Passes, Stops, count-cut, count-wrong, not-the-sum, records-cut, line-broken}
 use Rattle.model_laws.proofs.Codec.{drop-bytes, number-written, length-chunks}
-use Rattle.model_laws.proofs.Sections.{ok-same, bind-ok, refuse-ok, section-back}
+use Rattle.model_laws.proofs.Sections.{section-back}
+use Rattle.laws.proofs.Results.{ok-same, bind-ok, refuse-ok}
 use Rattle.refusal_laws.proofs.Tests.{Decides, fails, fails-not, numbers, failing}
-use Rattle.refusal_laws.proofs.Rows.{rows-held, rows-written, each-back}
-use Rattle.refusal_laws.proofs.Layouts.{Spelled, record-size}
+use Rattle.model_laws.proofs.Rows.{rows-held, rows-written, each-back}
+use Rattle.model_laws.proofs.Layouts.{Spelled, record-size}
 
 -- ---- a form with its decoder
 

@@ -11,8 +11,7 @@ use lib.ListN.{length, getD}
 use borrow.Author.Tests.{ltb-true, lt-ltb, leb-true, le-leb, eqb-true, eqb-false, eq-eqb, not-true}
 use Rattle.definition.specs.Lists.{all, upFrom, lexLe, rises}
 use Rattle.definition.specs.Sound.{NotAbove}
-use Rattle.laws.proofs.Sorting.{clash, and-left, and-right}
-use Rattle.laws.proofs.Lists.{and-true, or-left, or-right}
+use Rattle.laws.proofs.Tests.{clash, and-left, and-right, and-true, or-left, or-right}
 
 -- The test b passes where P holds, and only there.
 pub record Decides (b : Bool) (P : Type 0) : Type 0 where

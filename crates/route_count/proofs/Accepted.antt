@@ -7,12 +7,13 @@ use native.Mathlib.Omega.{arith}
 use lib.Dec.{ltb}
 use lib.ListN.{length}
 use borrow.Author.Tests.{ltb-false}
-use Rattle.definition.specs.Bytes.{Bytes, Result, ok, refused, _>>=_, refuseIf, numberOf}
+use Rattle.definition.specs.Bytes.{Bytes, ok, refused, _>>=_, refuseIf, numberOf}
 use Rattle.definition.specs.Limits.{maxComponents, maxCouplings, maxRoutes}
 use Rattle.definition.specs.Model.{Model}
 use Rattle.definition.specs.Routes.{routes}
 use Rattle.definition.specs.Pinned.Decoder.{toComponent, componentFits, toCoupling, couplingFits, Section, orElse, componentCountRefusal, limitRefusal, componentSection, phaseSection, ruleSection, couplingSection, endOfFile, decode, accepted}
-use Rattle.byte_laws.proofs.Alls.{each}
+use Rattle.laws.proofs.Lists.{each}
+use Rattle.laws.proofs.Results.{bind-ok, ok-same}
 use Rattle.byte_laws.proofs.Sections.{Gives, section-gives}
 use Rattle.model_records.specs.Values.{componentsIn, couplingsIn, modelIn}
 use Rattle.model.specs.declared.Counts as N
@@ -27,13 +28,6 @@ use Rattle.route_count.specs.Routed.{Linked}
 use Rattle.route_laws.specs.Ways.{waysCap, Counted, Placed, tableRoutes}
 use Rattle.route_laws.proofs.Placed.{rising, coupled-parents}
 use Rattle.route_laws.proofs.Total.{routes-counted, over-limit}
-
-bind-ok : {A B : Type 0} (r : Result A) (f : A → Result B) (b : B) → (r >>= f) ≡ ok b → (a : A) × (r ≡ ok a) × (f a ≡ ok b)
-bind-ok (ok a) f b e = (a, refl, e)
-bind-ok (refused n) f b e = let z : _≡_ {A = ℕ} 0 1 = cc in absurd (omega arith)
-
-ok-same : {A : Type 0} (a b : A) → ok a ≡ ok b → a ≡ b
-ok-same a b e = cc
 
 -- Each record of an accepted section keeps its lines.
 kept-all : {A : Type 0} (size : ℕ) (w : ℕ → ℕ) (to : Bytes → A) (fits : List A → ℕ → Bool) (s : Bytes) (x : Section A) → Gives size w to fits s x

@@ -10,19 +10,9 @@ use borrow.Author.Tests.{eqb-true, eqb-false, ne-eqb, ltb-true, ltb-false}
 use Rattle.definition.specs.Lists.{keep, upFrom}
 use Rattle.definition.specs.Model.{Coupling}
 use Rattle.definition.specs.Routes.{portsTo}
-use Rattle.laws.proofs.Sums.{sumOf, sum-add, sum-zero, sum-cong}
+use Rattle.laws.proofs.Sums.{sumOf, sum-add, sum-zero, sum-cong, sum-keep, sum-cons, if-both}
 
 -- ---- sums over kept numbers
-
-pub sum-keep : {A : Type 0} (f : A → ℕ) (p : A → Bool) (l : List A) → sumOf f (keep p l) ≡ sumOf (λ a. cond (p a) (f a) 0) l
-unfolding sumOf keep
-sum-keep f p [] = refl
-sum-keep f p (a ∷ l) = go (p a) (sum-keep f p l)
-  where
-    go : (b : Bool) → sumOf f (keep p l) ≡ sumOf (λ a. cond (p a) (f a) 0) l
-        → sumOf f (cond b (a ∷ keep p l) (keep p l)) ≡ cond b (f a) 0 + sumOf (λ a. cond (p a) (f a) 0) l
-    go true e = rw e
-    go false e = omega arith
 
 module _ (f : ℕ → ℕ) (t : ℕ) where
   one : ℕ → ℕ
@@ -57,11 +47,6 @@ module _ (f : ℕ → ℕ) (t : ℕ) where
 
 -- ---- a sum over kept components and the ports that couplings reach there, as a sum over the couplings
 
-pub cond-split : (g : ℕ → ℕ) (b : Bool) (r : ℕ) (rest : List ℕ) → sumOf g (cond b (r ∷ rest) rest) ≡ cond b (g r) 0 + sumOf g rest
-unfolding sumOf
-cond-split g true r rest = refl
-cond-split g false r rest = omega arith
-
 cond-four : (a b c d : Bool) (n : ℕ) → cond d (cond (a && b && c) n 0) 0 ≡ cond b (cond (a && c && d) n 0) 0
 cond-four true true true true n = refl
 cond-four true true true false n = refl
@@ -74,11 +59,6 @@ cond-four false true c false n = refl
 cond-four false false c true n = refl
 cond-four false false c false n = refl
 
-cond-and : (a b : Bool) (n : ℕ) → cond b (cond a n 0) 0 ≡ cond (a && b) n 0
-cond-and true b n = refl
-cond-and false true n = refl
-cond-and false false n = refl
-
 -- coupling k begins at port q of c and ends at a kept component
 abbrev pub leads : (ℕ → Bool) → ℕ → ℕ → ℕ → Coupling → Bool
 leads p n c q k = eqb (k .source) c && eqb (k .sourcePort) q && p (k .target) && ltb (k .target) n
@@ -88,7 +68,7 @@ pub by-coupling : (g : ℕ → ℕ → ℕ) (p : ℕ → Bool) (n c q : ℕ) (ks
 unfolding sumOf portsTo
 by-coupling g p n c q [] = sum-zero (keep p (upFrom 0 n))
 by-coupling g p n c q (k ∷ ks) =
-    sum-cong _ _ (keep p (upFrom 0 n)) (λ d. cond-split (g d) (eqb (k .source) c && eqb (k .target) d && eqb (k .sourcePort) q) (k .targetPort) (portsTo ks c d q))
+    sum-cong _ _ (keep p (upFrom 0 n)) (λ d. sum-cons (g d) (eqb (k .source) c && eqb (k .target) d && eqb (k .sourcePort) q) (k .targetPort) (portsTo ks c d q))
     ∙ sum-add _ _ (keep p (upFrom 0 n))
     ∙ ap₂ _+_ first (by-coupling g p n c q ks)
   where
@@ -98,4 +78,4 @@ by-coupling g p n c q (k ∷ ks) =
         sum-keep _ p (upFrom 0 n)
         ∙ sum-cong _ _ (upFrom 0 n) (λ d. cond-four (eqb (k .source) c) (eqb (k .target) d) (eqb (k .sourcePort) q) (p d) (g d (k .targetPort)))
         ∙ sum-pick (λ d. cond (eqb (k .source) c && eqb (k .sourcePort) q && p d) (g d (k .targetPort)) 0) (k .target) n
-        ∙ cond-and (eqb (k .source) c && eqb (k .sourcePort) q && p (k .target)) (ltb (k .target) n) (g (k .target) (k .targetPort))
+        ∙ if-both (eqb (k .source) c && eqb (k .sourcePort) q && p (k .target)) (ltb (k .target) n) (g (k .target) (k .targetPort))

@@ -7,4 +7,3 @@ pub mod PortNodes
 pub mod Steps
 pub mod Passes
 pub mod Total
-pub mod Live

@@ -3,7 +3,7 @@
 -- others from the first to the last. Assumes nothing.
 use mathlib.Core.Path.{_≡_, refl, sym, ap, _∙_}
 use mathlib.Core.List.{List, [], _∷_}
-use mathlib.Core.Bool.{Bool, true, false, _&&_, _||_, cond}
+use mathlib.Core.Bool.{Bool, true, false, _&&_, _||_, cond, and-false, or-true}
 use Prim.Native.Nat.{ℕ, zero, suc, _+_, _*_, _≤_, _<_, min}
 use native.Mathlib.Omega.{arith}
 use native.Mathlib.Nat.{add-zero}
@@ -140,23 +140,15 @@ module _ (cs : List Component) (ks : List Coupling) (fit : (i : ℕ) → i < len
       go true e = let l = ltb-true j i e in lt-ltb j (i + 1) (omega arith) ∙ sym e
       go false e = let l = ltb-false j i e in le-ltb j (i + 1) (omega arith) ∙ sym e
 
-  and-no : (b : Bool) → (b && false) ≡ false
-  and-no true = refl
-  and-no false = refl
-
-  or-yes : (b : Bool) → (b || true) ≡ true
-  or-yes true = refl
-  or-yes false = refl
-
   pub down-start : (table : List ℕ) → ((x : ℕ) → x < portNodes * length cs → getD table x 0 ≡ endAt cs x) → Filled cs ks (downFrom cs ks (length ks)) table
-  down-start table h = filled-none (downFrom cs ks (length ks)) table (λ j l. rw (lt-leb (length ks) j (omega arith)) (and-no (leadsDown cs ks j))) h
+  down-start table h = filled-none (downFrom cs ks (length ks)) table (λ j l. rw (lt-leb (length ks) j (omega arith)) (and-false (leadsDown cs ks j))) h
 
   -- the coupling at i leads down
   down-more : (table : List ℕ) (i : ℕ) → i < length ks → portNodes * length cs ≤ length table → leadsDown cs ks i ≡ true → Filled cs ks (downFrom cs ks (i + 1)) table
       → Filled cs ks (downFrom cs ks i) (set table (from i) (min waysCap (getD table (from i) 0 + getD table (to i) 0)))
   unfolding leadsDown targetNumber
   down-more table i l room e p =
-      filled-more (downFrom cs ks (i + 1)) (downFrom cs ks i) table i l room (rw (lt-leb (i + 1) i (omega arith)) (and-no (leadsDown cs ks i))) (rw (e, le-leb i i (omega arith)))
+      filled-more (downFrom cs ks (i + 1)) (downFrom cs ks i) table i l room (rw (lt-leb (i + 1) i (omega arith)) (and-false (leadsDown cs ks i))) (rw (e, le-leb i i (omega arith)))
       (λ j h. ap (λ b. leadsDown cs ks j && b) (leb-step i j h)) before p
     where
       r : Rising cs
@@ -200,7 +192,7 @@ module _ (cs : List Component) (ks : List Coupling) (fit : (i : ℕ) → i < len
       → Filled cs ks (upTo cs ks (i + 1)) (set table (from i) (min waysCap (getD table (from i) 0 + getD table (to i) 0)))
   unfolding leadsDown targetNumber
   up-more table i l room e p =
-      filled-more (upTo cs ks i) (upTo cs ks (i + 1)) table i l room (rw (e, le-ltb i i (omega arith))) (rw (lt-ltb i (i + 1) (omega arith)) (or-yes (leadsDown cs ks i)))
+      filled-more (upTo cs ks i) (upTo cs ks (i + 1)) table i l room (rw (e, le-ltb i i (omega arith))) (rw (lt-ltb i (i + 1) (omega arith)) (or-true (leadsDown cs ks i)))
       (λ j h. ap (λ b. leadsDown cs ks j || b) (ltb-step i j h)) (λ j lj f. before j lj (isChild cs (at i .target) (at i .source)) refl f) p
     where
       r : Rising cs
@@ -216,7 +208,7 @@ module _ (cs : List Component) (ks : List Coupling) (fit : (i : ℕ) → i < len
           let w = kept-at cs ks join i l in
           let g = source-at-output cs (at j) (at i .target) (at i .targetPort) (kept-at cs ks join j lj) (w .target-port) f in
           let o = earlier j (ltb j i) refl lj g (r (at i .target) (at i .source) u (w .source)) in
-          rw (lt-ltb j i o) (or-yes (leadsDown cs ks j))
+          rw (lt-ltb j i o) (or-true (leadsDown cs ks j))
       before j lj false u f =
           let w = kept-at cs ks join i l in
           let g = source-at-input cs (at j) (at i .target) (at i .targetPort) (kept-at cs ks join j lj) (w .target-port) f in
@@ -230,7 +222,7 @@ module _ (cs : List Component) (ks : List Coupling) (fit : (i : ℕ) → i < len
       each j false u = ap (λ b. leadsDown cs ks j || b) (sym (ltb-step i j (eqb-false j i u)))
 
   pub up-end : (table : List ℕ) (i : ℕ) → length ks ≤ i → Filled cs ks (upTo cs ks i) table → Counted cs ks table
-  up-end table i h p = filled-all (upTo cs ks i) table (λ j l. rw (lt-ltb j i (omega arith)) (or-yes (leadsDown cs ks j))) p
+  up-end table i h p = filled-all (upTo cs ks i) table (λ j l. rw (lt-ltb j i (omega arith)) (or-true (leadsDown cs ks j))) p
 
   -- ---- the couplings in their turns
 

@@ -12,7 +12,7 @@ use Rattle.definition.specs.Lists.{all, lexLe}
 use Rattle.definition.specs.Limits.{portCount, maxAncestors}
 use Rattle.definition.specs.Model.{Component, Coupling, componentAt, noCoupling, isAtomic, isChild, couplingLe, couplingRow}
 use Rattle.definition.specs.Pinned.Decoder.{kindFields, rootWithin, placeFits, componentFits, related, couplingFields, notFalling, couplingFits}
-use Rattle.laws.proofs.Sorting.{clash, and-left, and-right}
+use Rattle.laws.proofs.Tests.{clash, and-left, and-right}
 use Rattle.route_laws.specs.Ways.{Rising}
 
 -- ---- components

@@ -8,7 +8,7 @@ use lib.Dec.{eqb, ltb}
 use lib.ListN.{length}
 use borrow.Author.Tests.{eqb-true, eqb-false, eq-eqb, ne-eqb, lt-ltb, le-ltb}
 use Rattle.definition.specs.Model.{Component, Coupling, isAtomic, isChild}
-use Rattle.laws.proofs.Sorting.{clash, and-left}
+use Rattle.laws.proofs.Tests.{clash, and-left}
 use Rattle.route_laws.specs.Nodes.{portNodes, inputNode, outputNode, sourceNumber, targetNumber}
 use Rattle.route_laws.specs.Ways.{down, up, waysOn, endAt}
 use Rattle.route_laws.proofs.Placed.{Kept}

@@ -6,25 +6,15 @@ use mathlib.Core.Bool.{Bool, true, false, _&&_, not, cond, true≢false}
 use native.Mathlib.Omega.{arith}
 use lib.Dec.{eqb, ltb}
 use lib.ListN.{length, length-append, length-map, replicate, length-replicate}
-use borrow.Author.Tests.{eqb-true, eqb-false, eq-eqb, ne-eqb, lt-ltb}
+use borrow.Author.Tests.{eqb-true, eq-eqb, ne-eqb, lt-ltb}
 use Rattle.definition.specs.Lists.{concat, keep, upFrom}
 use Rattle.definition.specs.Model.{Component, Coupling, Model, componentAt, isAtomic, isChild, children, Tree, Forest, leaf, node, stop, more, forest, nameOf, tree}
 use Rattle.definition.specs.Routes.{portsTo, Port, endsIn, endsFrom, joined, joinedAll, waysFrom, waysFromAll, rootEnds, routes}
-use Rattle.laws.proofs.Sums.{sumOf, sum-cong, sum-add, sum-zero}
+use Rattle.laws.proofs.Sums.{sumOf, sum-cong, sum-add, sum-zero, sum-keep, sum-cons, sum-swap, if-both, if-zero}
+use Rattle.laws.proofs.Tests.{eqb-sym, and-right}
 use Rattle.route_laws.specs.Ways.{Rising, sub, down, upIn, up}
-use Rattle.route_laws.proofs.Counts.{leads, sum-keep, cond-split, sum-pick}
+use Rattle.route_laws.proofs.Counts.{leads, sum-pick}
 use Rattle.route_laws.proofs.Nests.{sub-step, sub-name, across, length-concat}
-
-eqb-sym : (a b : ℕ) → eqb a b ≡ eqb b a
-eqb-sym a b = go (eqb b a) refl
-  where
-    go : (x : Bool) → eqb b a ≡ x → eqb a b ≡ eqb b a
-    go true e = eq-eqb a b (sym (eqb-true b a e)) ∙ sym e
-    go false e = ne-eqb a b (λ q. eqb-false b a e (sym q)) ∙ sym e
-
-and-right : (a b : Bool) → a && b ≡ true → b ≡ true
-and-right true b e = e
-and-right false b e = absurd (true≢false (sym e))
 
 keep-cong : (f g : ℕ → ℕ) (p : ℕ → Bool) (k n : ℕ) → ((d : ℕ) → p d ≡ true → d < k + n → f d ≡ g d) → sumOf f (keep p (upFrom k n)) ≡ sumOf g (keep p (upFrom k n))
 unfolding sumOf keep upFrom
@@ -154,20 +144,10 @@ module _ (ks : List Coupling) (cs : List Component) (r : Rising cs) where
 
 -- ---- a sum over the leaves of the nest is a sum over the atomics' numbers
 
-sum-swap : {A B : Type 0} (f : A → B → ℕ) (k : List A) (l : List B) → sumOf (λ a. sumOf (f a) l) k ≡ sumOf (λ b. sumOf (λ a. f a b) k) l
-unfolding sumOf
-sum-swap f [] l = sym (sum-zero l)
-sum-swap f (a ∷ k) l = ap (λ n. sumOf (f a) l + n) (sum-swap f k l) ∙ sym (sum-add (f a) _ l)
-
 pub up-cong : (f g : ℕ → ℕ) (k n : ℕ) → ((d : ℕ) → d < k + n → f d ≡ g d) → sumOf f (upFrom k n) ≡ sumOf g (upFrom k n)
 unfolding sumOf upFrom
 up-cong f g k zero h = refl
 up-cong f g k (suc n) h = ap₂ _+_ (h k (omega arith)) (up-cong f g (suc k) n (λ d l. h d (omega arith)))
-
-cond-turn : (a b : Bool) (n : ℕ) → cond (a && b) n 0 ≡ cond b (cond a n 0) 0
-cond-turn true b n = refl
-cond-turn false true n = refl
-cond-turn false false n = refl
 
 split-root : (b : Bool) (n : ℕ) → n ≡ cond b n 0 + cond (not b) n 0
 split-root true n = omega arith
@@ -191,15 +171,11 @@ module _ (cs : List Component) (r : Rising cs) (coupled : (c d : ℕ) → isChil
   child-once : (d : ℕ) → d < length cs → sumOf (λ c. cond (isChild cs c d) (T d) 0) (upFrom 0 (length cs)) ≡ cond (not (eqb d 0)) (T d) 0
   unfolding isChild
   child-once d l =
-      sum-cong _ _ (upFrom 0 (length cs)) (λ c. cond-turn (not (eqb d 0)) (eqb (componentAt cs d .parent) c) (T d))
+      sum-cong _ _ (upFrom 0 (length cs)) (λ c. sym (if-both (not (eqb d 0)) (eqb (componentAt cs d .parent) c) (T d)))
       ∙ sum-pick (λ c. cond (not (eqb d 0)) (T d) 0) (componentAt cs d .parent) (length cs) ∙ go d l
     where
       go : (d : ℕ) → d < length cs → cond (ltb (componentAt cs d .parent) (length cs)) (cond (not (eqb d 0)) (T d) 0) 0 ≡ cond (not (eqb d 0)) (T d) 0
-      go zero l = zeros (ltb (componentAt cs 0 .parent) (length cs))
-        where
-          zeros : (b : Bool) → cond {A = ℕ} b 0 0 ≡ 0
-          zeros true = refl
-          zeros false = refl
+      go zero l = if-zero (ltb (componentAt cs 0 .parent) (length cs))
       go (suc d) l =
           let s = r (componentAt cs (suc d) .parent) (suc d) (rw (ne-eqb (suc d) 0 (omega arith), eq-eqb (componentAt cs (suc d) .parent) (componentAt cs (suc d) .parent) refl)) l in
           rw (lt-ltb (componentAt cs (suc d) .parent) (length cs) (omega arith))
@@ -246,4 +222,4 @@ up-by-coupling ks cs r c d q e l =
     to-one : (g : ℕ → ℕ) (ks : List Coupling) → sumOf g (portsTo ks d c q) ≡ sumOf (λ k. cond (eqb (k .source) d && eqb (k .target) c && eqb (k .sourcePort) q) (g (k .targetPort)) 0) ks
     to-one g [] = refl
     to-one g (k ∷ ks) =
-        cond-split g (eqb (k .source) d && eqb (k .target) c && eqb (k .sourcePort) q) (k .targetPort) (portsTo ks d c q) ∙ ap (λ n. cond (eqb (k .source) d && eqb (k .target) c && eqb (k .sourcePort) q) (g (k .targetPort)) 0 + n) (to-one g ks)
+        sum-cons g (eqb (k .source) d && eqb (k .target) c && eqb (k .sourcePort) q) (k .targetPort) (portsTo ks d c q) ∙ ap (λ n. cond (eqb (k .source) d && eqb (k .target) c && eqb (k .sourcePort) q) (g (k .targetPort)) 0 + n) (to-one g ks)

@@ -12,7 +12,7 @@ use borrow.Author.Tests.{eqb-true, eq-eqb, ne-eqb, lt-ltb, ltb-true, ltb-false}
 use Rattle.definition.specs.Lists.{all}
 use Rattle.definition.specs.Model.{Component, Coupling, componentAt, isAtomic, isChild, isSibling}
 use Rattle.definition.specs.Pinned.Decoder.{related, couplingFields}
-use Rattle.laws.proofs.Sorting.{clash, and-left, and-right}
+use Rattle.laws.proofs.Tests.{clash, and-left, and-right}
 use Rattle.laws.proofs.Sums.{sumOf, sum-zero}
 use Rattle.laws.proofs.Lists.{sum-cong-if}
 use Rattle.route_laws.specs.Nodes.{portNodes, inputNode, outputNode, sourceNumber, targetNumber}

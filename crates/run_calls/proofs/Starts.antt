@@ -2,17 +2,18 @@
 use mathlib.Core.Path.{_≡_, sym, ap, _∙_}
 use mathlib.Core.List.{[]}
 use Prim.Native.Nat.{ℕ, _≤_, _<_}
-use lib.ListN.{length, length-map, getD}
+use lib.ListN.{length, getD}
 use borrow.Author.Tests.{lt-ltb, le-ltb}
 use Rattle.definition.specs.Bytes.{Bytes, ok, refused, stored}
 use Rattle.definition.specs.Limits.{maxComponents}
 use Rattle.definition.specs.Model.{atomics}
 use Rattle.definition.specs.Pinned.Decoder.{accepted}
-use Rattle.definition.specs.SavedRun.{runLength, runBytes}
+use Rattle.definition.specs.SavedRun.{runLength, runBytes, atomicCount}
 use Rattle.definition.specs.Engine.{wrote, startRun, start}
 use Rattle.byte_laws.proofs.Slices.{all-bytes}
 use Rattle.model_laws.proofs.Reading.{accepted-sound}
-use Rattle.model_laws.proofs.RunBack.{length-run}
+use Rattle.model_laws.proofs.Answers.{start-model}
+use Rattle.model_laws.proofs.Answers as Answers
 use Rattle.model_records.specs.Values.{componentsIn, modelIn}
 use Rattle.model.specs.Checked.{modelOf, componentsPart}
 use Rattle.model.specs.declared.Counts.{Counts}
@@ -27,8 +28,7 @@ unfolding modelOf modelIn
 few-components file n h e = accepted-sound file (modelOf file n) (all-bytes file h) (sym e) .sound .components .few
 
 pub start-refused : (file buffer : Bytes) (n : ℕ) → refused n ≡ accepted file → record { number = n; written = 0; buffer = buffer } ≡ start file buffer
-unfolding start wrote
-start-refused file buffer n e = rw (← e)
+start-refused file buffer n e = sym (start-model file buffer n (sym e))
 
 pub start-accepted : (file buffer : Bytes) (n : Counts) → ok (modelOf file n) ≡ accepted file
     → wrote buffer (ok (runBytes (startRun (bare (componentsPart file n) [])))) ≡ start file buffer
@@ -49,8 +49,8 @@ module _ (buffer b : Bytes) where
 
 module _ (components : Bytes) (n : ℕ) (count : n ≡ length (atomics (componentsIn components))) where
   pub start-length : length (runBytes (startRun (bare components []))) ≡ runLength n
-  unfolding startRun bare modelIn
-  start-length = length-run _ ∙ ap runLength (length-map (atomics (componentsIn components)) _ ∙ sym count)
+  unfolding atomicCount bare modelIn
+  start-length = Answers.start-length (bare components []) ∙ ap runLength (sym count)
 
   pub start-run-is : (st : State) → entriesOf (length (atomics (componentsIn components))) st ≡ startEntries (componentsIn components)
       → runIn 0 n st ≡ startRun (bare components [])

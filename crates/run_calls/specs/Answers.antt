@@ -1,4 +1,4 @@
--- What the answers of start and reading stand for, with the whole content of the lent buffer. Assumes nothing.
+-- What the answer of a start or a flatten stands for, with the whole content of the lent buffer. Assumes nothing.
 use Rattle.definition.specs.Bytes.{Bytes}
 use Rattle.definition.specs.Engine.{Wrote}
 use Rattle.run_calls.specs.declared.Written as W

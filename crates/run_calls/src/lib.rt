@@ -1,4 +1,4 @@
-// The calls start and reading, whole: the check of the model, the checks of the arguments, and the answer.
+// The call start, whole: the check of the model, the room, and the first run at the front of the lent buffer.
 ghost use mathlib.Core.Path.{_≡_};
 ghost use Prim.Native.Nat.{_≤_};
 ghost use mathlib.Core.List.{[]};

@@ -2,4 +2,3 @@ pub mod Laws
 pub mod Worked
 pub mod Fits
 pub mod Fronts
-pub mod Pages

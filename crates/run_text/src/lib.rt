@@ -17,6 +17,7 @@ use limits::MAX_PHASES;
 use limits::MAX_RULES;
 use limits::MESSAGE_SIZE;
 use limits::PHASE_SIZE;
+use limits::RECORD_HEAD;
 use limits::RULE_SIZE;
 use little_endian::byte_at;
 use little_endian::front;
@@ -31,8 +32,6 @@ const RUN_ROOM: usize = 577;
 const TRACE_ROOM: usize = 16384;
 
 const MAX_DIGITS: usize = 20;
-
-const RECORD_HEAD: usize = 12;
 
 const MOMENT_SIZE: usize = 8;
 

@@ -3,7 +3,7 @@
 use mathlib.Core.Path.{_≡_, refl, sym, ap, ap₂, _∙_}
 use mathlib.Core.List.{List, [], _∷_, map}
 use mathlib.Core.Bool.{Bool, true, false, _&&_, _||_, not, cond}
-use Prim.Native.Nat.{ℕ, zero, suc, _+_, _*_, _-_, _≤_, _<_}
+use Prim.Native.Nat.{ℕ, suc, _+_, _*_, _-_, _≤_, _<_}
 use native.Mathlib.Omega.{arith}
 use native.Mathlib.Nat.{sub-zero}
 use lib.Dec.{leb, ltb, eqb}
@@ -17,7 +17,8 @@ use Rattle.definition.specs.Devs.{Time}
 use Rattle.definition.specs.Atomic.{advanceOf}
 use Rattle.definition.specs.SavedRun.{Entry, toEntry, toRun, atomicCount, runOf, dueOf, notBefore, runLength, entryFits, entriesFit, runFits}
 use Rattle.byte_laws.specs.Parts.{row}
-use Rattle.laws.proofs.Sorting.{clash}
+use Rattle.laws.proofs.Tests.{clash}
+use Rattle.laws.proofs.Lists.{length-up}
 use Rattle.model_records.specs.Values.{componentsIn, phasesIn, modelIn}
 use Rattle.clock.specs.Times.{latest}
 use Rattle.due.specs.After.{dueAfter}
@@ -166,11 +167,6 @@ kept-most p (a ∷ l) = go (p a) (kept-most p l)
     go : (b : Bool) → length (keep p l) ≤ length l → length (cond b (a ∷ keep p l) (keep p l)) ≤ suc (length l)
     go true h = omega arith
     go false h = omega arith
-
-length-up : (k n : ℕ) → length (upFrom k n) ≡ n
-unfolding upFrom
-length-up k zero = refl
-length-up k (suc n) = ap suc (length-up (suc k) n)
 
 -- There are no more atomics than components.
 pub atomics-most : (cs : List Component) → length (atomics cs) ≤ length cs

@@ -1,7 +1,7 @@
 -- The bytes of a run as they are put one after the other, and the whole buffer afterwards. Assumes nothing.
-use mathlib.Core.Path.{_≡_, refl, sym, ap, ap₂, _∙_}
-use mathlib.Core.List.{[], _∷_, _++_, map, map-map}
-use Prim.Native.Nat.{ℕ, zero, suc, _+_, _*_, _-_, _≤_, _<_}
+use mathlib.Core.Path.{_≡_, sym, ap, ap₂, _∙_}
+use mathlib.Core.List.{_++_, map, map-map}
+use Prim.Native.Nat.{ℕ, suc, _+_, _*_, _-_, _≤_, _<_}
 use native.Mathlib.Omega.{arith}
 use lib.ListN.{length, length-append, length-map}
 use lib.Seq.{sets, sets-eq}
@@ -9,19 +9,16 @@ use Rattle.definition.specs.Lists.{concat, upFrom}
 use Rattle.definition.specs.Bytes.{Bytes, bytesOf, stored}
 use Rattle.definition.specs.Limits.{headSize, entrySize}
 use Rattle.definition.specs.SavedRun.{Entry, runLength, entryBytes, runBytes}
+use Rattle.laws.proofs.Lists.{length-up}
 use Rattle.model_laws.proofs.Codec.{length-bytes}
-use Rattle.model_laws.proofs.RunBack.{length-run}
+use Rattle.model_laws.proofs.RunBack.{entry-size, length-run}
+use Rattle.store_laws.proofs.Stores.{sets-append}
 use Rattle.run_state.specs.declared.State.{State}
 use Rattle.run_state.specs.Held.{entriesOf}
 use Rattle.saved_run.specs.Runs.{heldAt, entryRows, runIn}
 
--- Two stores in a row are one.
-sets-append : (x y d : Bytes) (at : ℕ) → sets (sets d at x) (at + length x) y ≡ sets d at (x ++ y)
-sets-append [] y d at = let e : at + 0 ≡ at = omega arith in rw e
-sets-append (a ∷ x) y d at = let e : at + suc (length x) ≡ suc at + length x = omega arith in rw e (sets-append x y _ (suc at))
-
 pub sets-on : (x y d : Bytes) (at k : ℕ) → at + length x ≡ k → sets (sets d at x) k y ≡ sets d at (x ++ y)
-sets-on x y d at k e = ap (λ k. sets (sets d at x) k y) (sym e) ∙ sets-append x y d at
+sets-on x y d at k e = ap (λ k. sets (sets d at x) k y) (sym e) ∙ sym (sets-append x y d at)
 
 -- An entry: its phase, then its last moment.
 pub entry-put : (d : Bytes) (i : ℕ) (e : Entry)
@@ -31,10 +28,6 @@ entry-put d i e =
     let at = headSize + entrySize * i in
     sets-on (bytesOf 1 (e .phase)) (bytesOf 8 (e .last)) d at (at + 1) (omega (arith, length-bytes 1 (e .phase)))
 
-length-entry : (e : Entry) → length (entryBytes e) ≡ entrySize
-unfolding entryBytes
-length-entry e = length-append (bytesOf 1 (e .phase)) (bytesOf 8 (e .last)) ∙ omega (arith, length-bytes 1 (e .phase), length-bytes 8 (e .last))
-
 -- One entry more is put, and the rest from the next position on.
 pub rows-put : (st : State) (n i : ℕ) (d : Bytes) → i < n
     → sets (sets d (runLength i) (entryBytes (heldAt st i))) (runLength (i + 1)) (entryRows st (i + 1) (n - (i + 1))) ≡ sets d (runLength i) (entryRows st i (n - i))
@@ -42,19 +35,14 @@ unfolding runLength entryRows concat upFrom
 rows-put st n i d h =
     let z : n - i ≡ suc (n - (i + 1)) = omega arith in
     let s : i + 1 ≡ suc i = omega arith in
-    let f : headSize + entrySize * (i + 1) ≡ headSize + entrySize * i + length (entryBytes (heldAt st i)) = omega (arith, length-entry (heldAt st i)) in
-    rw (f, z, s) (sets-append (entryBytes (heldAt st i)) _ d (headSize + entrySize * i))
+    let f : headSize + entrySize * (i + 1) ≡ headSize + entrySize * i + length (entryBytes (heldAt st i)) = omega (arith, entry-size (heldAt st i)) in
+    rw (f, z, s) (sym (sets-append (entryBytes (heldAt st i)) _ d (headSize + entrySize * i)))
 
 pub rows-none : (st : State) (i m at : ℕ) (d : Bytes) → m ≡ 0 → sets d at (entryRows st i m) ≡ d
 unfolding entryRows concat upFrom
 rows-none st i m at d e = rw e
 
 -- ---- the whole run
-
-length-up : (k n : ℕ) → length (upFrom k n) ≡ n
-unfolding upFrom
-length-up k zero = refl
-length-up k (suc n) = ap suc (length-up (suc k) n)
 
 pub length-entries : (n : ℕ) (st : State) → length (entriesOf n st) ≡ n
 unfolding entriesOf

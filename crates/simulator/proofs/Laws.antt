@@ -25,7 +25,8 @@ use Rattle.collect.proofs.Laws.{unreached}
 use Rattle.marks.proofs.Laws.{raised-any, flags-any}
 use Rattle.pull_laws.specs.Carried.{Carried, endMarked}
 use Rattle.pull_laws.proofs.Carried.{marked-carried, carried-put, changed-elsewhere}
-use Rattle.pull_laws.proofs.Putting.{Front, bag-front}
+use Rattle.pull_laws.proofs.Putting.{bag-front}
+use Rattle.store_laws.proofs.Fronts.{Front}
 
 module _ (ps : List Phase) (t es fs : List ℕ) where
   -- an atomic's bag in a buffer

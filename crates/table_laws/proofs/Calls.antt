@@ -6,11 +6,11 @@ use mathlib.Core.List.{List, map}
 use mathlib.Core.Bool.{Bool, true, false, _&&_, _||_, not}
 use native.Mathlib.Omega.{arith}
 use lib.Dec.{ltb, leb, eqb}
-use lib.ListN.{length, take, length-map}
+use lib.ListN.{length, take}
 use borrow.Author.Tests.{leb-true, lt-ltb, ltb-true}
 use Rattle.definition.specs.Lists.{all}
 use Rattle.definition.specs.Bytes.{Bytes, AllBytes, none, more, littleEndian, numberAt, chunks, ok, _>>=_, refuseIf, numberOf}
-use Rattle.definition.specs.Limits.{maxComponents, messageSize, maxGiven, maxMoment}
+use Rattle.definition.specs.Limits.{messageSize, maxGiven, maxMoment}
 use Rattle.definition.specs.Model.{Bag, Model, atomics}
 use Rattle.definition.specs.Records.{portFits, messageAt}
 use Rattle.definition.specs.Routes.{routes}
@@ -18,12 +18,10 @@ use Rattle.definition.specs.SavedRun.{Entry, runOf, runFits, nextDue}
 use Rattle.definition.specs.Step.{nested}
 use Rattle.definition.specs.Advance.{Ended, advanceFrom}
 use Rattle.definition.specs.Engine.{toBag, bagFits, advanceChecks}
-use Rattle.laws.proofs.Sorting.{and-left, and-right}
-use Rattle.laws.proofs.Lists.{and-true}
+use Rattle.laws.proofs.Tests.{and-left, and-right, and-true}
 use Rattle.model_laws.proofs.WellFormed.{WellFormed}
-use Rattle.model_laws.proofs.Codec.{take-bytes, drop-bytes, length-chunks}
+use Rattle.model_laws.proofs.Codec.{take-bytes, drop-bytes, bag-length}
 use Rattle.nest_laws.proofs.Stepping.{Good}
-use Rattle.flat_laws.proofs.FlatComponents.{few-atomics}
 use Rattle.flat_laws.proofs.Checks.{fits-good, advance-ok}
 use Rattle.theory.proofs.Lift.{EndsAlike}
 use Rattle.theory.proofs.Kept.{Fit}
@@ -78,12 +76,11 @@ unfolding toBag
 bag-values {b} a = rows-values (length b / messageSize) a
 
 pub bag-few : (b : Bytes) → bagFits b ≡ true → length (toBag b) ≤ maxGiven
-unfolding bagFits toBag
+unfolding bagFits
 bag-few b h =
-    let n = length b / messageSize in
     let e = eqb (length b % messageSize) 0 in
     let l = leb-true (length b) (messageSize * maxGiven) (and-right e _ (and-left (e && leb (length b) (messageSize * maxGiven)) _ h)) in
-    omega (arith, length-map (chunks n messageSize b) (messageAt 0), length-chunks n messageSize b)
+    omega (arith, bag-length b)
 
 -- ---- a call
 
@@ -97,10 +94,6 @@ checked-bag true false true h = refl
 pub bag-fits : (m : Model) (run : Bytes) (t : ℕ) (bag : Bytes) → advanceChecks m run t bag ≡ ok tt → bagFits bag ≡ true
 unfolding advanceChecks
 bag-fits m run t bag h = checked-bag (runFits m run) (ltb t (runOf m run .opening) || ltb maxMoment t) (bagFits bag) h
-
--- The code's state has room for every atomic.
-pub atomics-few : (m : Model) → WellFormed m → length (atomics (m .components)) ≤ maxComponents
-atomics-few m w = omega (arith, few-atomics m w, w .components .few)
 
 module _ (m : Model) (w : WellFormed m) (tables : List ℕ) (h : Tabled m tables) (run : Bytes) (st : State)
     (same : entriesOf (length (atomics (m .components))) st ≡ runOf m run .entries)

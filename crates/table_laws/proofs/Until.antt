@@ -14,7 +14,7 @@ use Rattle.definition.specs.Devs.{Time, finite, never, ticks}
 use Rattle.definition.specs.Step.{Simulator}
 use Rattle.definition.specs.Instant.{goesOn, isDue, stepsAt, instant}
 use Rattle.definition.specs.Advance.{Progress, Ended, tried, continued, succeeded, isBefore, advancing, advanceFrom}
-use Rattle.laws.proofs.Sorting.{clash}
+use Rattle.laws.proofs.Tests.{clash}
 
 -- a simulator that stands still after a limit
 abbrev pub until : {S : Type 0} → ℕ → Simulator S → Simulator S

@@ -70,12 +70,6 @@ module _ (at : ℕ) (f : ℕ → ℕ) where
   pub column-at : (n : ℕ) (t : List ℕ) (k : ℕ) → at + n ≤ length t → k < n → getD (column at f n 0 t) (at + k) 0 ≡ f k
   column-at n t k l h = column-from n 0 t k (omega arith) (omega arith) (omega arith)
 
-  -- only the rows that are written count
-  pub column-cong : (g : ℕ → ℕ) (m i : ℕ) (t : List ℕ) → ((k : ℕ) → i ≤ k → k < i + m → f k ≡ g k) → column at f m i t ≡ column at g m i t
-  unfolding column
-  column-cong g zero i t h = refl
-  column-cong g (suc m) i t h = rw (h i (omega arith) (omega arith)) (column-cong g m (i + 1) (set t (at + i) (g i)) (λ k a b. h k (omega arith) (omega arith)))
-
 -- the rows of a column that begins its table
 pub column-rows : (f : ℕ → ℕ) (n : ℕ) (s t : List ℕ) → s ≡ column 0 f n 0 t → n ≤ length t → (k : ℕ) → k < n → getD s k 0 ≡ f k
 column-rows f n s t e l k h = let z : 0 + k ≡ k = omega arith in ap (λ s. getD s k 0) e ∙ rw z at (column-at 0 f n t k (omega arith) h)

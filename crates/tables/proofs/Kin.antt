@@ -8,7 +8,7 @@ use native.Mathlib.Omega.{arith}
 use lib.ListN.{length, getD}
 use Rattle.definition.specs.Model.{Component, Coupling, noCoupling, isChild}
 use Rattle.definition.specs.Pinned.Decoder.{couplingFits}
-use Rattle.laws.proofs.Sorting.{clash}
+use Rattle.laws.proofs.Tests.{clash}
 use Rattle.route_laws.specs.Nodes.{sourceNumber, targetNumber}
 use Rattle.route_laws.specs.Ways.{Rising}
 use Rattle.route_laws.proofs.Placed.{Kept, by-source}

@@ -10,7 +10,7 @@ use lib.ListN.{length, getD}
 use lib.Dec.{eqb}
 use borrow.Author.Tests.{eqb-true, eqb-false, eq-eqb, ne-eqb}
 use Rattle.definition.specs.Limits.{maxComponents}
-use Rattle.laws.proofs.Sorting.{clash}
+use Rattle.laws.proofs.Tests.{clash}
 use Rattle.pull_laws.specs.Tables.{isOutput, liveAt}
 use Rattle.pull_laws.specs.Tabled.{isLive}
 use Rattle.table_words.specs.Writes.{putIn}

@@ -2,17 +2,16 @@
 -- that. Assumes nothing.
 use mathlib.Core.Path.{_≡_, refl, sym, ap, _∙_, subst}
 use Prim.Native.Nat.{ℕ, zero, suc, _+_, _-_, _*_, _<_, _≤_}
-use mathlib.Core.List.{List, [], _∷_, map}
-use mathlib.Core.Bool.{Bool, true, false, cond, true≢false}
+use mathlib.Core.List.{List}
+use mathlib.Core.Bool.{Bool, true, false, cond}
 use native.Mathlib.Omega.{arith}
 use lib.ListN.{length, getD, set}
 use lib.Dec.{eqb, ltb}
 use borrow.Author.Tests.{eqb-true, ltb-true, ltb-false}
 use Rattle.definition.specs.Limits.{maxComponents, maxCouplings}
-use Rattle.definition.specs.Model.{Model, Component, Rule, Coupling, componentAt, isAtomic, atomics}
+use Rattle.definition.specs.Model.{Model, Component, Rule, componentAt, isAtomic, atomics}
 use Rattle.definition.specs.Pinned.Decoder.{kindFields, rootFields, componentFits}
-use Rattle.definition.specs.Flatten.{placeIn}
-use Rattle.laws.proofs.Sorting.{and-right}
+use Rattle.laws.proofs.Tests.{and-right}
 use Rattle.model_laws.proofs.WellFormed.{WellFormed}
 use Rattle.nest_laws.proofs.Places.{place-below}
 use Rattle.nest_laws.proofs.Components.{atomic-once}

@@ -11,7 +11,7 @@ use Rattle.definition.specs.Limits.{maxComponents, maxCouplings, portCount}
 use Rattle.definition.specs.Lists.{keep}
 use Rattle.definition.specs.Model.{Component, Rule, Coupling, noCoupling, isAtomic, componentAt}
 use Rattle.definition.specs.Pinned.Decoder.{couplingFits}
-use Rattle.laws.proofs.Sorting.{clash}
+use Rattle.laws.proofs.Tests.{clash}
 use Rattle.route_laws.specs.Nodes.{portNodes, inputNode, sourceNumber, targetNumber}
 use Rattle.route_laws.specs.Ways.{Rising}
 use Rattle.pull_laws.specs.Tables.{nodeComponent, isOutput, isRootNode, kindsAt, liveAt, chainRows, atomicAt, atomicNode}

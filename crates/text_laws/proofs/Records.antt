@@ -1,26 +1,19 @@
 -- Trace records read back: a record's count and where it ends, how much of the trace its messages take, and that all of it is bytes. Assumes
 -- nothing.
 use mathlib.Core.Path.{_≡_, refl, ap, _∙_}
-use Prim.Native.Nat.{ℕ, zero, suc, _+_, _*_, _^_, _≤_, _<_}
+use Prim.Native.Nat.{ℕ, _+_, _*_, _^_, _≤_, _<_}
 use mathlib.Core.List.{List, [], _∷_, _++_, map, append-assoc}
 use native.Mathlib.Omega.{arith}
-use lib.ListN.{length, take, length-append}
-use borrow.Author.Tests.{ltb-true}
+use lib.ListN.{length, length-append}
 use Rattle.definition.specs.Lists.{concat}
-use Rattle.definition.specs.Bytes.{Bytes, AllBytes, none, more, littleEndian, numberAt, bytesOf, laidOut}
+use Rattle.definition.specs.Bytes.{Bytes, AllBytes, none, numberAt, bytesOf, laidOut}
 use Rattle.definition.specs.Limits.{messageSize, maxRootBag}
 use Rattle.definition.specs.Model.{Bag, Message}
 use Rattle.definition.specs.Records.{messageBytes}
 use Rattle.definition.specs.Instant.{TraceRecord, recordBytes, traceBytes}
-use Rattle.model_laws.proofs.Codec.{append-bytes, drop-bytes, length-bytes, number-bytes, number-front, number-behind, rows-length}
+use Rattle.model_laws.proofs.Codec.{append-bytes, drop-bytes, le-small, length-bytes, number-bytes, number-front, number-behind, rows-length}
 
 -- ---- a number read of bytes
-
-le-small : (w : ℕ) {s : Bytes} → AllBytes s → littleEndian (take w s) < 256 ^ w
-unfolding littleEndian
-le-small zero h = omega arith
-le-small (suc w) none = let i = le-small w none in omega arith
-le-small (suc w) (more {b = b} h t) = let i = le-small w t in omega (arith, ltb-true b 256 h)
 
 pub number-small : (w at : ℕ) (s : Bytes) → AllBytes s → numberAt w at s < 256 ^ w
 unfolding numberAt

@@ -1,7 +1,7 @@
 -- What an advance writes into the lent trace: whole records of at most 4,096 messages each, within its room. Assumes nothing.
 use mathlib.Core.Path.{_≡_, refl, sym, ap, _∙_, subst}
 use Prim.Native.Nat.{ℕ, zero, suc, _≤_}
-use mathlib.Core.List.{List, [], _∷_, _++_, append-assoc}
+use mathlib.Core.List.{List, [], _∷_, _++_}
 use mathlib.Core.Bool.{Bool, true, false, cond}
 use native.Mathlib.Omega.{arith}
 use lib.Dec.{ltb, leb}
@@ -16,10 +16,11 @@ use Rattle.definition.specs.Pinned.Decoder.{accepted}
 use Rattle.definition.specs.Devs.{ticks}
 use Rattle.definition.specs.SavedRun.{Entry, runOf}
 use Rattle.definition.specs.Step.{Simulator, nested}
-use Rattle.definition.specs.Instant.{Instant, done, jammed, instant, over, TraceRecord, recordBytes, traceBytes, recordsFrom, instantTrace}
+use Rattle.definition.specs.Instant.{Instant, done, jammed, instant, over, TraceRecord, traceBytes, recordsFrom, instantTrace}
 use Rattle.definition.specs.Advance.{Progress, Ended, ended, tried, continued, succeeded, isBefore, advancing, advanceFrom}
 use Rattle.definition.specs.Engine.{Advanced, toBag, advanceChecks, advanced, advance}
 use Rattle.laws.proofs.Lists.{all-append, all-head, all-tail, all-cons, length-perm, sort-permutes}
+use Rattle.laws.proofs.Turns.{traces-append}
 
 -- A bag, and a record, of at most 4,096 messages.
 abbrev pub smallBag : Bag → Bool
@@ -34,11 +35,6 @@ pub record Traced (room : ℕ) (trace : Bytes) : Type 0 where
   pub bytes : trace ≡ traceBytes records
   pub small : all smallRecord records ≡ true
   pub within : length trace ≤ room
-
-traces-append : (rs qs : List TraceRecord) → traceBytes (rs ++ qs) ≡ traceBytes rs ++ traceBytes qs
-unfolding traceBytes concat
-traces-append [] qs = refl
-traces-append (r ∷ rs) qs = ap (λ b. recordBytes r ++ b) (traces-append rs qs) ∙ sym (append-assoc (recordBytes r) (traceBytes rs) (traceBytes qs))
 
 traced-none : (room : ℕ) → Traced room []
 unfolding traceBytes concat all

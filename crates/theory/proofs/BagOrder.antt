@@ -12,10 +12,9 @@ use Rattle.definition.specs.Atomic.{devsOf, partsOf}
 use Rattle.definition.specs.SavedRun.{Entry, entryOf}
 use Rattle.definition.specs.Step.{nested}
 use Rattle.definition.specs.FlatMachine.{dueNow}
-use Rattle.laws.proofs.Bags.{count-append, message-perm}
+use Rattle.laws.proofs.Bags.{count-append, message-perm, same-length}
 use Rattle.laws.proofs.Lists.{sum-perm, count-sum}
 use Rattle.model_laws.proofs.WellFormed.{WellFormed}
-use Rattle.nest_laws.proofs.Numbers.{same-length}
 use Rattle.nest_laws.proofs.Pairs.{paired}
 use Rattle.nest_laws.proofs.Components.{root}
 use Rattle.nest_laws.proofs.Nest.{bagAt}

@@ -6,20 +6,19 @@ use mathlib.Core.Bool.{Bool, true, false}
 use native.Mathlib.Omega.{arith}
 use lib.Dec.{ltb, leb}
 use lib.ListN.{length}
-use borrow.Author.Tests.{lt-ltb, le-ltb, ltb-true, ltb-false, leb-true}
+use borrow.Author.Tests.{ltb-true, ltb-false, leb-true}
 use Rattle.definition.specs.Bytes.{Bytes, AllBytes, Result, ok, refused, numberOf}
 use Rattle.definition.specs.Model.{Model}
 use Rattle.definition.specs.File.{modelBytes}
 use Rattle.definition.specs.Pinned.Decoder.{accepted, checkModel}
 use Rattle.definition.specs.Refusals.{Judged}
 use Rattle.definition.specs.SavedRun.{runLength, atomicCount, runFits}
-use Rattle.definition.specs.Engine.{Wrote, start, wrote, advanceChecks, advanced, advance, reading, readingChecks, readAt, wasRead}
+use Rattle.definition.specs.Engine.{Wrote, start, advance, reading, readingChecks, readAt, wasRead}
 use Rattle.definition.specs.Flatten.{flat, flatten}
 use Rattle.definition.specs.Demands.{refusedWrite, refusedAdvance, refusedReading, WriterRefusal, StartRefusal, FlattenRefusal, ReadingRefusal, AdvanceRefusal, writer-refuses-model, writer-refuses-buffer, reading-refuses-model, reading-refuses-run, reading-refuses-position, advance-refuses-model, advance-refuses-run, advance-refuses-time, advance-refuses-bag}
 use Rattle.model_laws.proofs.Refusals.{Positive, accepted-positive}
 use Rattle.refusal_laws.proofs.Judged.{judged, judged-only}
-use Rattle.theory.proofs.Answering.{start-short, start-done, reading-position}
-use Rattle.theory.proofs.Advancing.{advance-time, advance-bag}
+use Rattle.model_laws.proofs.Answers.{start-short, start-done, reading-position, advance-time, advance-bag, start-model, flatten-model, flatten-short, flatten-done, reading-model, reading-run, advance-model, advance-run}
 
 -- ---- the model's number
 
@@ -61,55 +60,34 @@ module _ (long : Model → ℕ) (file buffer : Bytes) (w : Wrote) (model : (n : 
           room false f = absurd (omega (arith, l, done m e (ltb-false (length buffer) (long m) f)))
 
 module _ (file buffer : Bytes) where
-  start-model : (n : ℕ) → accepted file ≡ refused n → start file buffer ≡ refusedWrite n buffer
-  unfolding start wrote
-  start-model n e = rw e
-
   start-long : (m : Model) → accepted file ≡ ok m → runLength (atomicCount m) ≤ length buffer → start file buffer .number ≡ 0
   start-long m e l = ap (λ w. w .number) (start-done file buffer m e l)
 
   pub start-refused : (n : ℕ) → StartRefusal file buffer n → start file buffer ≡ refusedWrite n buffer
-  start-refused = writer-refused _ file buffer (start file buffer) start-model (start-short file buffer) start-long
+  start-refused = writer-refused _ file buffer (start file buffer) (start-model file buffer) (start-short file buffer) start-long
 
   pub start-number : AllBytes file → 0 < start file buffer .number → StartRefusal file buffer (start file buffer .number)
-  start-number = writer-number _ file buffer (start file buffer) start-model (start-short file buffer) start-long
-
-  flatten-model : (n : ℕ) → accepted file ≡ refused n → flatten file buffer ≡ refusedWrite n buffer
-  unfolding flatten wrote
-  flatten-model n e = rw e
-
-  flatten-short : (m : Model) → accepted file ≡ ok m → length buffer < length (modelBytes (flat m)) → flatten file buffer ≡ refusedWrite 15 buffer
-  unfolding flatten wrote
-  flatten-short m e l = rw (e, lt-ltb _ _ l)
+  start-number = writer-number _ file buffer (start file buffer) (start-model file buffer) (start-short file buffer) start-long
 
   flatten-long : (m : Model) → accepted file ≡ ok m → length (modelBytes (flat m)) ≤ length buffer → flatten file buffer .number ≡ 0
-  unfolding flatten wrote
-  flatten-long m e l = rw (e, le-ltb _ _ l)
+  flatten-long m e l = ap (λ w. w .number) (flatten-done file buffer m e l)
 
   pub flatten-refused : (n : ℕ) → FlattenRefusal file buffer n → flatten file buffer ≡ refusedWrite n buffer
-  flatten-refused = writer-refused _ file buffer (flatten file buffer) flatten-model flatten-short flatten-long
+  flatten-refused = writer-refused _ file buffer (flatten file buffer) (flatten-model file buffer) (flatten-short file buffer) flatten-long
 
   pub flatten-number : AllBytes file → 0 < flatten file buffer .number → FlattenRefusal file buffer (flatten file buffer .number)
-  flatten-number = writer-number _ file buffer (flatten file buffer) flatten-model flatten-short flatten-long
+  flatten-number = writer-number _ file buffer (flatten file buffer) (flatten-model file buffer) (flatten-short file buffer) flatten-long
 
 -- ---- reading
 
 module _ (file run : Bytes) (at : ℕ) where
-  reading-model : (n : ℕ) → accepted file ≡ refused n → reading file run at ≡ refusedReading n
-  unfolding reading wasRead
-  reading-model n e = rw e
-
-  reading-run : (m : Model) → accepted file ≡ ok m → runFits m run ≡ false → reading file run at ≡ refusedReading 10
-  unfolding reading wasRead readingChecks
-  reading-run m e f = rw (e, f)
-
   reading-fine : (m : Model) → accepted file ≡ ok m → runFits m run ≡ true → leb (atomicCount m) at ≡ false → reading file run at .number ≡ 0
   unfolding reading wasRead readingChecks readAt
   reading-fine m e f l = rw (e, f, l)
 
   pub reading-refused : (n : ℕ) → ReadingRefusal file run at n → reading file run at ≡ refusedReading n
-  reading-refused n (reading-refuses-model k l j) = reading-model k (by-row file k l j)
-  reading-refused n (reading-refuses-run m e f) = reading-run m e f
+  reading-refused n (reading-refuses-model k l j) = reading-model file run at k (by-row file k l j)
+  reading-refused n (reading-refuses-run m e f) = reading-run file run at m e f
   reading-refused n (reading-refuses-position m e f l) = reading-position file run at m e f l
 
   pub reading-number : AllBytes file → 0 < reading file run at .number → ReadingRefusal file run at (reading file run at .number)
@@ -119,27 +97,19 @@ module _ (file run : Bytes) (at : ℕ) where
       refusal r e h = subst (ReadingRefusal file run at) (sym e) h
 
       go : (r : Result Model) → accepted file ≡ r → ReadingRefusal file run at (reading file run at .number)
-      go (refused n) e = let h = row-of file n b e in refusal n (ap (λ w. w .number) (reading-model n e)) (reading-refuses-model n (h .0) (h .1))
+      go (refused n) e = let h = row-of file n b e in refusal n (ap (λ w. w .number) (reading-model file run at n e)) (reading-refuses-model n (h .0) (h .1))
       go (ok m) e = rows (runFits m run) refl (leb (atomicCount m) at) refl
         where
           rows : (c : Bool) → runFits m run ≡ c → (d : Bool) → leb (atomicCount m) at ≡ d → ReadingRefusal file run at (reading file run at .number)
-          rows false f d g = refusal 10 (ap (λ w. w .number) (reading-run m e f)) (reading-refuses-run m e f)
+          rows false f d g = refusal 10 (ap (λ w. w .number) (reading-run file run at m e f)) (reading-refuses-run m e f)
           rows true f true g = let s = leb-true (atomicCount m) at g in refusal 16 (ap (λ w. w .number) (reading-position file run at m e f s)) (reading-refuses-position m e f s)
           rows true f false g = absurd (omega (arith, l, reading-fine m e f g))
 
 -- ---- advance, before any instant
 
 module _ (file run : Bytes) (t : ℕ) (given trace : Bytes) where
-  advance-model : (n : ℕ) → accepted file ≡ refused n → advance file run t given trace ≡ refusedAdvance n run trace
-  unfolding advance advanced
-  advance-model n e = rw e
-
-  advance-run : (m : Model) → accepted file ≡ ok m → runFits m run ≡ false → advance file run t given trace ≡ refusedAdvance 10 run trace
-  unfolding advance advanced advanceChecks
-  advance-run m e f = rw (e, f)
-
   pub advance-refused : (n : ℕ) → AdvanceRefusal file run t given n → advance file run t given trace ≡ refusedAdvance n run trace
-  advance-refused n (advance-refuses-model k l j) = advance-model k (by-row file k l j)
-  advance-refused n (advance-refuses-run m e f) = advance-run m e f
+  advance-refused n (advance-refuses-model k l j) = advance-model file run t given trace k (by-row file k l j)
+  advance-refused n (advance-refuses-run m e f) = advance-run file run t given trace m e f
   advance-refused n (advance-refuses-time m e f l) = advance-time file run t given trace m e f l
   advance-refused n (advance-refuses-bag m e f o l g) = advance-bag file run t given trace m e f o l g

@@ -31,8 +31,7 @@ use Rattle.flat_laws.proofs.Checks.{advance-ok}
 use Rattle.refusal_laws.proofs.Judged.{judged, judged-only, judged-number, sound-accepted, accepted-sound as sound-of}
 use Rattle.theory.proofs.BagOrder.{agree-order}
 use Rattle.theory.proofs.CallRows.{row-of, start-refused, start-number, flatten-refused, flatten-number, reading-refused, reading-number, advance-refused}
-use Rattle.theory.proofs.Answering.{start-done, reading-done}
-use Rattle.theory.proofs.Advancing.{endOf, advance-done}
+use Rattle.model_laws.proofs.Answers.{start-done, reading-done, endOf, advance-done}
 use Rattle.theory.proofs.Fitting.{fits-run, start-fits, advance-fits}
 use Rattle.theory.proofs.Ending.{ends, only, undone}
 

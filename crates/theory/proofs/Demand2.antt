@@ -26,7 +26,7 @@ use Rattle.theory.proofs.Lift.{advance-alike, ends-equal}
 use Rattle.theory.proofs.Kept.{BetweenSame}
 use Rattle.theory.proofs.BagOrder.{external-order, confluent-order, agree-order}
 use Rattle.theory.proofs.Fitting.{fits-run}
-use Rattle.theory.proofs.Advancing.{endOf}
+use Rattle.model_laws.proofs.Answers.{endOf}
 use Rattle.theory.proofs.Shown.{carried-ends, as-defined}
 use Rattle.theory.proofs.Standing.{start-stands}
 use Rattle.theory.proofs.Through.{start-saves, through-calls, from-start}

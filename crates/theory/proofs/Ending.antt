@@ -8,8 +8,7 @@ use mathlib.Core.Bool.{Bool, true, false}
 use native.Mathlib.Omega.{arith}
 use lib.Dec.{ltb}
 use lib.ListN.{length}
-use borrow.Author.Tests.{leb-true, le-leb, ltb-true, ltb-false, lt-ltb, le-ltb, eq-eqb}
-use Rattle.definition.specs.Lists.{all}
+use borrow.Author.Tests.{leb-true, le-leb, ltb-true, ltb-false, lt-ltb, eq-eqb}
 use Rattle.definition.specs.Bytes.{Result, ok, refused}
 use Rattle.definition.specs.Model.{Bag}
 use Rattle.definition.specs.Devs.{Time, finite, never, sameTime, ticks}
@@ -18,7 +17,8 @@ use Rattle.definition.specs.Step.{Simulator}
 use Rattle.definition.specs.Instant.{Instant, done, jammed, isDue, goesOn, instant, over, instantTrace}
 use Rattle.definition.specs.Advance.{Progress, Ended, ended, tried, continued, succeeded, isBefore, advancing}
 use Rattle.definition.specs.AdvanceRelation.{Whole, Next, before, at-end, withInstant, Ends, jams, oversize, overruns, goes-on, succeeds, idle}
-use Rattle.laws.proofs.Sorting.{clash}
+use Rattle.laws.proofs.Tests.{clash}
+use Rattle.laws.proofs.Turns.{tried-jams, tried-over, tried-full, tried-stands, last-turn}
 use Rattle.theory.proofs.Lift.{before-t, Agree, SameInstant, instant-same}
 use Rattle.theory.proofs.Instants.{Settled, settled, whole-instant, jams-instant}
 
@@ -26,10 +26,6 @@ at-moment : (t : ℕ) (u : Time) → isBefore u t ≡ true → u ≡ finite (tic
 unfolding isBefore ticks
 at-moment t (finite a) e = refl
 at-moment t never e = absurd (clash e refl)
-
-not-over : over [] ≡ false
-unfolding over all
-not-over = refl
 
 module _ {S : Type 0} (k : Simulator S) where
   goes-due : (u : ℕ) (s : S) → k .next s ≡ finite u → goesOn k u [] s ≡ true
@@ -48,32 +44,6 @@ module _ {S : Type 0} (k : Simulator S) where
     unfolding advancing isBefore ticks
     turn-before n p u e l = rw (e, lt-ltb u t l)
 
-    turn-end : (n : ℕ) (p : Progress S) → isBefore (k .next (p .state)) t ≡ false
-        → advancing k room t x (suc n) p ≡ continued (succeeded t) p (tried room t p (instant k t x (p .state)))
-    unfolding advancing
-    turn-end n p e = rw e
-
-    -- ---- the verdict
-
-    tried-jam : (now : ℕ) (p : Progress S) → tried room now p jammed ≡ refused 13
-    unfolding tried
-    tried-jam now p = refl
-
-    tried-over : (now : ℕ) (p : Progress S) (xs : List Bag) (s : S) → over xs ≡ true → tried room now p (done xs s) ≡ refused 14
-    unfolding tried
-    tried-over now p [] s e = absurd (clash e not-over)
-    tried-over now p (y ∷ ys) s e = rw e
-
-    tried-full : (now : ℕ) (p : Progress S) (y : Bag) (ys : List Bag) (s : S) → over (y ∷ ys) ≡ false → room < length (p .trace ++ instantTrace now (y ∷ ys))
-        → tried room now p (done (y ∷ ys) s) ≡ refused 15
-    unfolding tried
-    tried-full now p y ys s e l = rw (e, lt-ltb room _ l)
-
-    tried-stands : (now : ℕ) (p : Progress S) (y : Bag) (ys : List Bag) (s : S) → over (y ∷ ys) ≡ false → length (p .trace ++ instantTrace now (y ∷ ys)) ≤ room
-        → tried room now p (done (y ∷ ys) s) ≡ ok (withInstant k room t x p now (y ∷ ys) s)
-    unfolding tried
-    tried-stands now p y ys s e l = rw (e, le-ltb room _ l)
-
     refused-ends : (f : Progress S → Ended S) (p : Progress S) (r : Result (Progress S)) (n : ℕ) → r ≡ refused n → continued f p r ≡ ended n p
     unfolding continued
     refused-ends f p r n e = rw e
@@ -86,7 +56,7 @@ module _ {S : Type 0} (k : Simulator S) where
     turn-next : (n : ℕ) (p : Progress S) (now : ℕ) (y : Bag) → Next k room t x (p .state) now y → (j : ℕ) → tried room now p (instant k now y (p .state)) ≡ refused j
         → advancing k room t x (suc n) p ≡ ended j p
     turn-next n p now y (before u e l) j r = turn-before n p u e l ∙ refused-ends _ p _ j r
-    turn-next n p now y (at-end e) j r = turn-end n p e ∙ refused-ends _ p _ j r
+    turn-next n p now y (at-end e) j r = last-turn k room t x n p e ∙ refused-ends _ p _ j r
 
 module _ {S : Type 0} {At Between : ℕ → S → S → Type 0} {Fine : Bag → Bag → Type 0} {k : Simulator S} (a : Agree At Between Fine k k) (room t : ℕ) (x : Bag) where
   -- what an instant leaves is kept
@@ -116,23 +86,23 @@ module _ {S : Type 0} {At Between : ℕ → S → S → Type 0} {Fine : Bag → 
       → ((q : Progress S) → Between (q .opening) (q .state) (q .state) → q .opening ≤ t → t < q .opening + n → Ends k room t x q (advancing k room t x n q))
       → (i : Instant S) → instant k u [] (p .state) ≡ i → Settled k u [] (p .state) i → Ends k room t x p (advancing k room t x (suc n) p)
   ends-before n p u b l f g ih jammed q h =
-      subst (Ends k room t x p) (sym (turn-next k room t x n p u [] (before u f g) 13 (ap (tried room u p) q ∙ tried-jam k room t x u p))) (jams p u [] (before u f g) h)
+      subst (Ends k room t x p) (sym (turn-next k room t x n p u [] (before u f g) 13 (ap (tried room u p) q ∙ tried-jams room u p))) (jams p u [] (before u f g) h)
   ends-before n p u b l f g ih (done [] s′) q h = absurd (some-step k u (p .state) s′ f h)
   ends-before n p u b l f g ih (done (y ∷ ys) s′) q h = go (over (y ∷ ys)) refl (ltb room (length (p .trace ++ instantTrace u (y ∷ ys)))) refl
     where
       go : (c : Bool) → over (y ∷ ys) ≡ c → (d : Bool) → ltb room (length (p .trace ++ instantTrace u (y ∷ ys))) ≡ d → Ends k room t x p (advancing k room t x (suc n) p)
       go true c d r =
-          subst (Ends k room t x p) (sym (turn-next k room t x n p u [] (before u f g) 14 (ap (tried room u p) q ∙ tried-over k room t x u p (y ∷ ys) s′ c)))
+          subst (Ends k room t x p) (sym (turn-next k room t x n p u [] (before u f g) 14 (ap (tried room u p) q ∙ tried-over room u p (y ∷ ys) s′ c)))
           (oversize p u [] (y ∷ ys) s′ (before u f g) h c)
       go false c true r =
           let v = ltb-true room _ r in
-          subst (Ends k room t x p) (sym (turn-next k room t x n p u [] (before u f g) 15 (ap (tried room u p) q ∙ tried-full k room t x u p y ys s′ c v)))
+          subst (Ends k room t x p) (sym (turn-next k room t x n p u [] (before u f g) 15 (ap (tried room u p) q ∙ tried-full room u p (y ∷ ys) s′ c (λ z. omega arith) v)))
           (overruns p u [] y ys s′ (before u f g) h c v)
       go false c false r =
           let v = ltb-false room _ r in
           let o = kept-on p u s′ (y ∷ ys) b f h in
           let next = withInstant k room t x p u (y ∷ ys) s′ in
-          subst (Ends k room t x p) (sym (turn-before k room t x n p u f g ∙ ok-ends k room t x _ p next _ (ap (tried room u p) q ∙ tried-stands k room t x u p y ys s′ c v)))
+          subst (Ends k room t x p) (sym (turn-before k room t x n p u f g ∙ ok-ends k room t x _ p next _ (ap (tried room u p) q ∙ tried-stands room u p (y ∷ ys) s′ c (λ z. omega arith) v)))
           (goes-on p u (y ∷ ys) s′ _ f g h (record { bags = c; trace = v }) (ih next (o .1) g (omega (arith, o .0))))
 
   -- and where t is next
@@ -140,24 +110,24 @@ module _ {S : Type 0} {At Between : ℕ → S → S → Type 0} {Fine : Bag → 
       → (i : Instant S) → instant k t x (p .state) ≡ i → Settled k t x (p .state) i → Ends k room t x p (advancing k room t x (suc n) p)
   unfolding tried
   ends-last n p f jammed q h =
-      subst (Ends k room t x p) (sym (turn-next k room t x n p t x (at-end f) 13 (ap (tried room t p) q ∙ tried-jam k room t x t p))) (jams p t x (at-end f) h)
+      subst (Ends k room t x p) (sym (turn-next k room t x n p t x (at-end f) 13 (ap (tried room t p) q ∙ tried-jams room t p))) (jams p t x (at-end f) h)
   ends-last n p f (done [] s′) q h =
-      subst (Ends k room t x p) (sym (turn-end k room t x n p f ∙ ok-ends k room t x (succeeded t) p p _ (ap (tried room t p) q)))
+      subst (Ends k room t x p) (sym (last-turn k room t x n p f ∙ ok-ends k room t x (succeeded t) p p _ (ap (tried room t p) q)))
       (idle p f (ap (goesOn k t x) (h .steps) ∙ h .finished))
   ends-last n p f (done (y ∷ ys) s′) q h = go (over (y ∷ ys)) refl (ltb room (length (p .trace ++ instantTrace t (y ∷ ys)))) refl
     where
       go : (c : Bool) → over (y ∷ ys) ≡ c → (d : Bool) → ltb room (length (p .trace ++ instantTrace t (y ∷ ys))) ≡ d → Ends k room t x p (advancing k room t x (suc n) p)
       go true c d r =
-          subst (Ends k room t x p) (sym (turn-next k room t x n p t x (at-end f) 14 (ap (tried room t p) q ∙ tried-over k room t x t p (y ∷ ys) s′ c)))
+          subst (Ends k room t x p) (sym (turn-next k room t x n p t x (at-end f) 14 (ap (tried room t p) q ∙ tried-over room t p (y ∷ ys) s′ c)))
           (oversize p t x (y ∷ ys) s′ (at-end f) h c)
       go false c true r =
           let v = ltb-true room _ r in
-          subst (Ends k room t x p) (sym (turn-next k room t x n p t x (at-end f) 15 (ap (tried room t p) q ∙ tried-full k room t x t p y ys s′ c v)))
+          subst (Ends k room t x p) (sym (turn-next k room t x n p t x (at-end f) 15 (ap (tried room t p) q ∙ tried-full room t p (y ∷ ys) s′ c (λ z. omega arith) v)))
           (overruns p t x y ys s′ (at-end f) h c v)
       go false c false r =
           let v = ltb-false room _ r in
           subst (Ends k room t x p)
-          (sym (turn-end k room t x n p f ∙ ok-ends k room t x (succeeded t) p _ _ (ap (tried room t p) q ∙ tried-stands k room t x t p y ys s′ c v)))
+          (sym (last-turn k room t x n p f ∙ ok-ends k room t x (succeeded t) p _ _ (ap (tried room t p) q ∙ tried-stands room t p (y ∷ ys) s′ c (λ z. omega arith) v)))
           (succeeds p y ys s′ f h (record { bags = c; trace = v }))
 
   pub ends : (n : ℕ) (p : Progress S) → Between (p .opening) (p .state) (p .state) → p .opening ≤ t → t < p .opening + n → Ends k room t x p (advancing k room t x n p)
@@ -189,25 +159,25 @@ module _ {S : Type 0} {At Between : ℕ → S → S → Type 0} {Fine : Bag → 
       → advancing k room t x n p ≡ e
   unfolding tried
   only (jams p now y next v) n b o l =
-      one-turn n p _ o l (λ j f. turn-next k room t x j p now y next 13 (ap (tried room now p) (jams-instant k now y (p .state) v) ∙ tried-jam k room t x now p))
+      one-turn n p _ o l (λ j f. turn-next k room t x j p now y next 13 (ap (tried room now p) (jams-instant k now y (p .state) v) ∙ tried-jams room now p))
   only (oversize p now y xs s′ next w v) n b o l =
-      one-turn n p _ o l (λ j f. turn-next k room t x j p now y next 14 (ap (tried room now p) (whole-instant k now y (p .state) s′ xs w) ∙ tried-over k room t x now p xs s′ v))
+      one-turn n p _ o l (λ j f. turn-next k room t x j p now y next 14 (ap (tried room now p) (whole-instant k now y (p .state) s′ xs w) ∙ tried-over room now p xs s′ v))
   only (overruns p now y z zs s′ next w v r) n b o l =
-      one-turn n p _ o l (λ j f. turn-next k room t x j p now y next 15 (ap (tried room now p) (whole-instant k now y (p .state) s′ (z ∷ zs) w) ∙ tried-full k room t x now p z zs s′ v r))
+      one-turn n p _ o l (λ j f. turn-next k room t x j p now y next 15 (ap (tried room now p) (whole-instant k now y (p .state) s′ (z ∷ zs) w) ∙ tried-full room now p (z ∷ zs) s′ v (λ z. omega arith) r))
   only (goes-on p u [] s′ e f g w v rest) n b o l = absurd (some-step k u (p .state) s′ f w)
   only (goes-on p u (y ∷ ys) s′ e f g w v rest) n b o l =
       let c = kept-on p u s′ (y ∷ ys) b f w in
       one-turn n p e o l (λ j q.
       turn-before k room t x j p u f g
-      ∙ ok-ends k room t x _ p _ _ (ap (tried room u p) (whole-instant k u [] (p .state) s′ (y ∷ ys) w) ∙ tried-stands k room t x u p y ys s′ (v .bags) (v .trace))
+      ∙ ok-ends k room t x _ p _ _ (ap (tried room u p) (whole-instant k u [] (p .state) s′ (y ∷ ys) w) ∙ tried-stands room u p (y ∷ ys) s′ (v .bags) (λ z. omega arith) (v .trace))
       ∙ only rest j (c .1) g (omega (arith, c .0, l, q)))
   only (succeeds p y ys s′ f w v) n b o l =
       one-turn n p _ o l (λ j q.
-      turn-end k room t x j p f
-      ∙ ok-ends k room t x (succeeded t) p _ _ (ap (tried room t p) (whole-instant k t x (p .state) s′ (y ∷ ys) w) ∙ tried-stands k room t x t p y ys s′ (v .bags) (v .trace)))
+      last-turn k room t x j p f
+      ∙ ok-ends k room t x (succeeded t) p _ _ (ap (tried room t p) (whole-instant k t x (p .state) s′ (y ∷ ys) w) ∙ tried-stands room t p (y ∷ ys) s′ (v .bags) (λ z. omega arith) (v .trace)))
   only (idle p f g) n b o l =
       one-turn n p _ o l (λ j q.
-      turn-end k room t x j p f
+      last-turn k room t x j p f
       ∙ ok-ends k room t x (succeeded t) p p _ (ap (tried room t p) (whole-instant k t x (p .state) (p .state) [] (record { steps = refl; few = omega arith; finished = g }))))
 
 -- Where an advance that did not succeed has done no instant, it stands where it began.

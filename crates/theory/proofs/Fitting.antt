@@ -5,7 +5,7 @@ use mathlib.Core.List.{List, [], _∷_, _++_, map}
 use mathlib.Core.Bool.{true, _&&_}
 use native.Mathlib.Omega.{arith}
 use lib.Dec.{leb, ltb, eqb}
-use lib.ListN.{length, length-append, length-map}
+use lib.ListN.{length, length-append}
 use borrow.Author.Tests.{ltb-true, leb-true, le-leb, lt-ltb, le-ltb, eq-eqb, eqb-true}
 use Rattle.definition.specs.Lists.{all}
 use Rattle.definition.specs.Bytes.{Bytes, AllBytes, Result, ok, refused, _>>=_, numberAt, stored}
@@ -17,11 +17,12 @@ use Rattle.definition.specs.Step.{nested}
 use Rattle.definition.specs.Advance.{advanceFrom}
 use Rattle.definition.specs.Pinned.Decoder.{atomicFields, accepted}
 use Rattle.definition.specs.Engine.{startRun, start, wrote, advanceChecks, advanced, advance, toBag}
-use Rattle.laws.proofs.Sorting.{and-left, and-right}
-use Rattle.laws.proofs.Lists.{and-true, all-head, all-tail}
+use Rattle.laws.proofs.Tests.{and-left, and-right, and-true}
+use Rattle.laws.proofs.Lists.{all-head, all-tail}
 use Rattle.model_laws.proofs.WellFormed.{WellFormed}
 use Rattle.model_laws.proofs.Reading.{accepted-sound}
 use Rattle.model_laws.proofs.RunBack.{entry-back, length-run, count-back, run-back}
+use Rattle.model_laws.proofs.Answers.{start-length}
 use Rattle.nest_laws.proofs.Pairs.{Pairs, pairs-length}
 use Rattle.nest_laws.proofs.Components.{atomic-fields, atomics-atomic}
 use Rattle.flat_laws.proofs.Checks.{entry-fresh, run-length, advance-ok}
@@ -149,10 +150,6 @@ advance-fits file run t bag trace m b e h = rw e (go (advanceChecks m run t bag)
         → runFits m (advanced run trace (advanceChecks m run t bag >>= λ _. ok (advanceFrom (nested m) (length trace) t (toBag bag) (runOf m run .opening) (runOf m run .entries))) .run) ≡ true
     go (refused n) f = rw f h
     go (ok u) f = let c = advance-ok m run t bag f in rw f (fit-written m w _ _ (advance-fit m w run t (length trace) (toBag bag) h (c .from-opening) (c .low-moment)) .0)
-
-pub start-length : (m : Model) → length (runBytes (startRun m)) ≡ runLength (atomicCount m)
-unfolding startRun atomicCount
-start-length m = length-run (startRun m) ∙ ap runLength (length-map (atomics (m .components)) _)
 
 pub start-fits : (file buffer : Bytes) (m : Model) → AllBytes file → accepted file ≡ ok m → runLength (atomicCount m) ≤ length buffer
     → runFits m (start file buffer .buffer) ≡ true

@@ -28,7 +28,7 @@ use Rattle.flat_laws.proofs.FlatSound.{flat-sound}
 use Rattle.nest_laws.proofs.Pairs.{pairs-length}
 use Rattle.theory.proofs.Buffers.{stored-again, stored-front, stored-behind}
 use Rattle.theory.proofs.Fitting.{FitRun, fits-run, fit-written, advance-fit}
-use Rattle.theory.proofs.Advancing.{endOf, advance-done}
+use Rattle.model_laws.proofs.Answers.{endOf, advance-done}
 use Rattle.theory.proofs.CallRows.{advance-refused}
 use Rattle.theory.proofs.Demand1.{advance-ends, advance-only}
 use Rattle.theory.proofs.Lengths.{model-long, run-long}

@@ -12,8 +12,7 @@ use Rattle.definition.specs.Model.{Bag, Model, componentAt, atomics}
 use Rattle.definition.specs.SavedRun.{Entry, notBefore, entryFits, nextDue}
 use Rattle.definition.specs.Step.{Simulator, step, nested}
 use Rattle.definition.specs.Instant.{isDue}
-use Rattle.laws.proofs.Sorting.{and-left}
-use Rattle.laws.proofs.Lists.{and-true, or-left}
+use Rattle.laws.proofs.Tests.{and-left, and-true, or-left}
 use Rattle.model_laws.proofs.WellFormed.{WellFormed}
 use Rattle.model_laws.proofs.PhaseRange.{moved-own}
 use Rattle.nest_laws.proofs.Pairs.{Pairs, pairs-if, pairs-both, pairs-paired}

@@ -1,27 +1,17 @@
 -- The longest model file and the longest saved run: each section's count is within its limit and its records have one size, and the root is
 -- no atomic. Assumes nothing.
-use mathlib.Core.Path.{_≡_}
-use Prim.Native.Nat.{ℕ, _+_, _*_, _≤_}
-use mathlib.Core.List.{List, _++_, map}
+use Prim.Native.Nat.{_≤_}
+use mathlib.Core.List.{_++_}
 use native.Mathlib.Omega.{arith}
 use lib.ListN.{length, length-append}
-use Rattle.definition.specs.Lists.{concat}
-use Rattle.definition.specs.Bytes.{Bytes, bytesOf}
-use Rattle.definition.specs.Limits.{countSize, componentSize, phaseSize, ruleSize, couplingSize, longestModel, longestRun}
+use Rattle.definition.specs.Limits.{componentSize, phaseSize, ruleSize, couplingSize, longestModel, longestRun}
 use Rattle.definition.specs.Model.{Model}
 use Rattle.definition.specs.Records.{componentBytes, phaseBytes, ruleBytes, couplingBytes}
 use Rattle.definition.specs.File.{sectionBytes, modelBytes}
 use Rattle.definition.specs.SavedRun.{runLength, atomicCount}
-use Rattle.model_laws.proofs.Codec.{length-bytes, rows-length}
-use Rattle.model_laws.proofs.Writing.{component-size, phase-size, rule-size, coupling-size}
+use Rattle.model_laws.proofs.Writing.{component-size, phase-size, rule-size, coupling-size, section-length}
 use Rattle.model_laws.proofs.WellFormed.{WellFormed}
 use Rattle.flat_laws.proofs.FlatComponents.{few-atomics}
-
-section-length : {A : Type 0} (size : ℕ) (bytes : A → Bytes) → ((x : A) → length (bytes x) ≡ size) → (xs : List A)
-    → length (sectionBytes bytes xs) ≡ countSize + length xs * size
-unfolding sectionBytes
-section-length size bytes sized xs =
-    omega (arith, length-append (bytesOf countSize (length xs)) (concat (map bytes xs)), length-bytes countSize (length xs), rows-length size bytes sized xs)
 
 module _ (m : Model) (w : WellFormed m) where
   pub model-long : length (modelBytes m) ≤ longestModel

@@ -9,8 +9,6 @@ pub mod Carrying
 pub mod Fitting
 pub mod Instants
 pub mod Ending
-pub mod Advancing
-pub mod Answering
 pub mod CallRows
 pub mod Demand1
 pub mod Lengths

@@ -17,7 +17,7 @@ use Rattle.definition.specs.SavedRun.{notBefore}
 use Rattle.definition.specs.Step.{Simulator}
 use Rattle.definition.specs.Instant.{Instant, done, jammed, stepped, isDue, goesOn, stepsAt, instant, over, instantTrace}
 use Rattle.definition.specs.Advance.{Progress, Ended, ended, tried, continued, succeeded, isBefore, advancing, advanceFrom}
-use Rattle.laws.proofs.Sorting.{clash}
+use Rattle.laws.proofs.Tests.{clash}
 use Rattle.theory.proofs.SameBags.{SameAll, records-same, over-same, length-same}
 
 -- ---- the next moment: where it lies before t, and where it does not

@@ -21,8 +21,7 @@ use Rattle.definition.specs.Advance.{Progress, Ended, ended, succeeded}
 use Rattle.definition.specs.AdvanceRelation.{Steps, Whole, Next, before, at-end, Ends, jams, oversize, overruns, goes-on, succeeds, idle}
 use Rattle.definition.specs.Engine.{advanced, advance, toBag}
 use Rattle.definition.specs.Demands.{MayAdvance}
-use Rattle.laws.proofs.Sorting.{clash}
-use Rattle.laws.proofs.Lists.{and-true}
+use Rattle.laws.proofs.Tests.{clash, and-true}
 use Rattle.model_laws.proofs.WellFormed.{WellFormed}
 use Rattle.model_laws.proofs.Reading.{accepted-sound}
 use Rattle.nest_laws.proofs.StepOf.{step-out}

@@ -10,8 +10,7 @@ use Rattle.definition.specs.Lists.{all, isEmpty, Same}
 use Rattle.definition.specs.Limits.{maxRootBag}
 use Rattle.definition.specs.Model.{Bag}
 use Rattle.definition.specs.Instant.{over, traceBytes, recordsFrom, instantTrace}
-use Rattle.laws.proofs.Bags.{sort-same}
-use Rattle.nest_laws.proofs.Numbers.{same-length}
+use Rattle.laws.proofs.Bags.{sort-same, same-length}
 
 pub empty-same : (x y : Bag) → Same x y → isEmpty x ≡ isEmpty y
 unfolding isEmpty

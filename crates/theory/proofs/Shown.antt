@@ -20,7 +20,7 @@ use Rattle.theory.proofs.Lift.{EndsAlike, advance-alike}
 use Rattle.theory.proofs.Carrying.{BetweenStands, agree-self, agree-carried}
 use Rattle.theory.proofs.Fitting.{FitRun, fits-run, fit-written, advance-fit}
 use Rattle.theory.proofs.Ending.{ends, only}
-use Rattle.theory.proofs.Advancing.{endOf, advance-done}
+use Rattle.model_laws.proofs.Answers.{endOf, advance-done}
 
 -- the run that an advance saves
 abbrev pub runAfter : Model → Bytes → ℕ → Bytes → Bytes → Run

@@ -25,8 +25,7 @@ use Rattle.model_laws.proofs.RunBack.{length-run}
 use Rattle.nest_laws.proofs.Pairs.{pairs-length}
 use Rattle.theory.proofs.Fitting.{FitRun, fits-run, fit-written, start-run}
 use Rattle.theory.proofs.Carrying.{due-between}
-use Rattle.theory.proofs.Advancing.{advance-time, advance-bag, advance-done}
-use Rattle.theory.proofs.Answering.{start-short, start-done, reading-position, reading-done}
+use Rattle.model_laws.proofs.Answers.{start-short, start-done, reading-position, reading-done, advance-time, advance-bag, advance-done}
 use Rattle.theory.proofs.Standing.{start-stands}
 use Rattle.theory.proofs.Shown.{runAfter, after-fits, carried-ends, carried-alike}
 

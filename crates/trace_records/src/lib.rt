@@ -11,12 +11,9 @@ ghost use Rattle.definition.specs.Instant.{recordBytes};
 ghost use Rattle.laws.specs.Keys.{messageOf};
 ghost use Rattle.trace_records.specs.Written.{recordHead, recordOf, stepSize, stepPut, wordMax};
 use clock::Moment;
+use limits::MESSAGE_SIZE;
+use limits::RECORD_HEAD;
 use little_endian::put_number;
-
-pub const MESSAGE_SIZE: usize = 3;
-
-// Moment (8), step (2) and message count (2) of a record.
-pub const RECORD_HEAD: usize = 12;
 
 // "a step's root bag over 4,096 messages"
 pub const MAX_ROOT_BAG: usize = 4096;

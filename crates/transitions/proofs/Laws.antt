@@ -6,18 +6,13 @@ use Prim.Native.Nat.{ℕ, _-_, _<_}
 use native.Mathlib.Omega.{arith}
 use lib.ListN.{length, getD, set}
 use lib.Seq.{getD-set-same}
-use Rattle.definition.specs.Model.{Bag, Phase, Rule}
+use Rattle.definition.specs.Model.{Phase, Rule}
 use Rattle.run_state.specs.declared.State.{State}
 use Rattle.run_state.specs.Held.{changedAt}
 use Rattle.laws.specs.Keys.{messageOf}
 use Rattle.pull_laws.specs.TableStep.{phaseIn, decidedIn, confluentIn, changedBy}
 
 module _ (ps : List Phase) (t : List ℕ) (rs : List Rule) (now : ℕ) (st : State) (i c : ℕ) where
-  -- which rule decides does not depend on the phases
-  pub decided-any : (p e : ℕ) (x : Bag) → decidedIn [] t rs c p e x ≡ decidedIn ps t rs c p e x
-  unfolding decidedIn
-  decided-any p e x = refl
-
   pub internal-case : (l : List ℕ) → length l ≡ 0
       → changedAt st i (phaseIn ps t c (getD (st .phase) i 0) .next) now ≡ changedBy ps t rs now st i c true (map messageOf l)
   unfolding changedBy

@@ -71,14 +71,14 @@ fn take_link(x: usize, y: usize, ways: &mut [u16; MAX_NODES])
     ways[x] = capped(ways[x], ways[y]);
 }
 
-// A link from an input leads down.
+// Output nodes stand behind the four input nodes of their component. A link that begins at an input leads down.
 fn is_output(x: usize) -> bool
     ensures { λ r. ⌜ r ≡ isOutput x ⌝ }
 {
     !(x % PORT_NODES < size(PORT_COUNT))
 }
 
-// Link j, where it leads down.
+// Link j, where it leads down: it is left out where it begins at an output.
 fn take_down(
     tables: &[u16; TABLE_SIZE],
     targets: &[u16; LINKS],
@@ -95,7 +95,7 @@ fn take_down(
     take_link(x, size16(targets[j]), ways);
 }
 
-// Where it does not.
+// Link j, where it leads up or across: it is left out where it begins at an input.
 fn take_up(
     tables: &[u16; TABLE_SIZE],
     targets: &[u16; LINKS],
@@ -113,7 +113,7 @@ fn take_up(
 
 // ---- all links
 
-// Those that lead down, from the last to the first.
+// The links that lead down, from the last to the first: a child's links stand behind its parent's.
 fn ways_down(
     tables: &[u16; TABLE_SIZE],
     targets: &[u16; LINKS],
@@ -130,7 +130,7 @@ fn ways_down(
     }
 }
 
-// The others, from the first to the last.
+// The links that lead up or across, from the first to the last.
 fn ways_up(
     tables: &[u16; TABLE_SIZE],
     targets: &[u16; LINKS],

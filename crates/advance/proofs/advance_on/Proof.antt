@@ -9,7 +9,8 @@ use mathlib.Core.Path.{_≡_, _∙_, refl, sym, subst}
 use Prim.Native.Nat.{ℕ, suc, _≤_, _*_, _+_}
 use lib.ListN.{length, take}
 use lib.Seq.{take-length}
-use Rattle.advance.proofs.Turns.{nextOf, next-as, no-turn, ends-last, ends-stop, goes-on}
+use Rattle.advance.proofs.Turns.{nextOf, next-as, ends-last, ends-stop, goes-on}
+use Rattle.laws.proofs.Turns.{no-turn}
 use Rattle.attempt.specs.Progress.{progressOf, Beyond, Attempted}
 use Rattle.instant.proofs.Steps.{bag-none}
 use Rattle.instant.specs.Sim.{simOf, Ready}

@@ -10,7 +10,7 @@ use lib.Dec.{ltb}
 use denote.Ref.{now}
 use borrow.Author.Tests.{ltb-true}
 use Rattle.definition.specs.Limits.{maxComponents, neverMoment}
-use Rattle.laws.proofs.Sorting.{and-left, and-right}
+use Rattle.laws.proofs.Tests.{and-left, and-right}
 use Rattle.pull_laws.specs.Carried.{leastEnd, endBelow}
 use Rattle.pull_laws.proofs.Carried.{levels-enough}
 use Rattle.dues.proofs.Laws.{levelsLeft, childrenFrom, least-more, least-end, end-atomic, end-coupled}

@@ -10,7 +10,7 @@ use lib.Seq.{length-take-le, set-getD}
 use mathlib.Core.Path.{_≡_, _∙_, sym, ap}
 use lib.Dec.{eqb}
 use lib.ListN.{length, take, getD, set, length-take}
-use Rattle.laws.proofs.Sorting.{and-left, and-right}
+use Rattle.laws.proofs.Tests.{and-left, and-right}
 use Rattle.run_state.specs.Held.{held}
 use Rattle.transitions.proofs.Laws.{still-case}
 use Rattle.dues.proofs.Laws.{due-named}

@@ -9,8 +9,8 @@ use lib.Seq.{length-take-le, take-add}
 use Rattle.definition.specs.Lists.{concat}
 use Rattle.definition.specs.Bytes.{Bytes, AllBytes, chunks, Layout, laidOut}
 use Rattle.definition.specs.Sound.{Held, Every}
 use Rattle.model_laws.proofs.Codec.{take-bytes, drop-bytes, rows-back}
-use Rattle.refusal_laws.proofs.Layouts.{Spelled, record-size, record-back, record-held, record-written}
+use Rattle.model_laws.proofs.Layouts.{Spelled, record-size, record-back, record-held, record-written}
 
 module _ {A : Type 0} {size : ℕ} {layout : A → Layout} {to : Bytes → A} (k : Spelled size layout to) where
   -- ---- read of bytes

@@ -1,15 +1,17 @@
--- The four kinds of record are spelled by their layouts: the facts that reading and writing of a section take of them. Assumes nothing.
+-- The four kinds of record of a model, a bag's messages and a run's entries are spelled by their layouts: the facts that reading and
+-- writing take of them. Assumes nothing.
 use mathlib.Core.Path.{_≡_, refl, ap}
 use Prim.Native.Nat.{ℕ}
 use mathlib.Core.List.{[], _∷_}
 use lib.ListN.{getD}
 use Rattle.definition.specs.Lists.{concat, sum}
 use Rattle.definition.specs.Bytes.{Layout}
-use Rattle.definition.specs.Limits.{componentSize, phaseSize, ruleSize, couplingSize}
+use Rattle.definition.specs.Limits.{componentSize, phaseSize, ruleSize, couplingSize, messageSize, entrySize}
 use Rattle.definition.specs.Model.{slots}
-use Rattle.definition.specs.Records.{messageAt, componentLayout, phaseLayout, ruleLayout, couplingLayout}
+use Rattle.definition.specs.Records.{messageAt, messageLayout, componentLayout, phaseLayout, ruleLayout, couplingLayout}
 use Rattle.definition.specs.Pinned.Decoder.{toComponent, toPhase, toRule, toCoupling}
-use Rattle.refusal_laws.proofs.Layouts.{fieldsAt, Spelled}
+use Rattle.definition.specs.SavedRun.{Entry, toEntry}
+use Rattle.model_laws.proofs.Layouts.{fieldsAt, Spelled}
 
 -- The number in the field at a place of a layout.
 field : ℕ → Layout → ℕ
@@ -79,4 +81,32 @@ coupling-spelled = record {
   apart = λ x y e.
       let at : (i : ℕ) → field i (couplingLayout x) ≡ field i (couplingLayout y) = λ i. ap (field i) e in
       λ i. record { source = at 0 i; sourcePort = at 1 i; target = at 2 i; targetPort = at 3 i };
+}
+
+pub message-spelled : Spelled messageSize messageLayout (messageAt 0)
+unfolding sum fieldsAt messageAt field
+message-spelled = record {
+  widths = 1 ∷ 2 ∷ [];
+  total = refl;
+  as-laid = λ x. refl;
+  as-read = λ r. refl;
+  apart = λ x y e.
+      let at : (i : ℕ) → field i (messageLayout x) ≡ field i (messageLayout y) = λ i. ap (field i) e in
+      λ i. record { port = at 0 i; value = at 1 i };
+}
+
+-- An entry of a run: its phase (1) and its last moment (8).
+abbrev pub entryLayout : Entry → Layout
+entryLayout r = (1, r .phase) ∷ (8, r .last) ∷ []
+
+pub entry-spelled : Spelled entrySize entryLayout toEntry
+unfolding sum fieldsAt toEntry field
+entry-spelled = record {
+  widths = 1 ∷ 8 ∷ [];
+  total = refl;
+  as-laid = λ x. refl;
+  as-read = λ r. refl;
+  apart = λ x y e.
+      let at : (i : ℕ) → field i (entryLayout x) ≡ field i (entryLayout y) = λ i. ap (field i) e in
+      λ i. record { phase = at 0 i; last = at 1 i };
 }

@@ -1,5 +1,5 @@
--- Fields written and read back, and fields read of bytes and written again, whatever the layout: what a section needs of its kind of
--- record, from four facts on that kind. Assumes nothing.
+-- Fields written and read back, and fields read of bytes and written again, whatever the layout: what reading and writing need of a kind
+-- of record, from four facts on that kind. Assumes nothing.
 use mathlib.Core.Path.{_≡_, refl, ap, ap₂, sym, _∙_}
 use Prim.Native.Nat.{ℕ, _+_, _≤_}
 use mathlib.Core.List.{List, [], _∷_, _++_, map, append-assoc}
@@ -45,7 +45,7 @@ unfolding fieldsAt numberAt
 fields-held [] at h = tt
 fields-held (w ∷ ws) at h = (le-small w (drop-bytes at h), fields-held ws (at + w) h)
 
-fields-written : (ws : List ℕ) (at : ℕ) {r : Bytes} → at + sum ws ≤ length r → AllBytes r → laidOut (fieldsAt ws at r) ≡ take (sum ws) (drop at r)
+pub fields-written : (ws : List ℕ) (at : ℕ) {r : Bytes} → at + sum ws ≤ length r → AllBytes r → laidOut (fieldsAt ws at r) ≡ take (sum ws) (drop at r)
 unfolding fieldsAt laidOut sum
 fields-written [] at l h = refl
 fields-written (w ∷ ws) at {r} l h =
@@ -75,6 +75,10 @@ module _ {A : Type 0} {size : ℕ} {layout : A → Layout} {to : Bytes → A} (k
   -- a record read of bytes is held by its widths, and written as the same bytes
   pub record-held : {r : Bytes} → AllBytes r → Held (layout (to r))
   record-held {r} h = rw (k .as-read r) (fields-held (k .widths) 0 h)
+
+  -- .. so that writing it and reading it again changes nothing
+  pub record-kept : {r : Bytes} → AllBytes r → to (laidOut (layout (to r))) ≡ to r
+  record-kept {r} h = record-back (to r) (record-held h)
 
   pub record-written : {r : Bytes} → length r ≡ size → AllBytes r → laidOut (layout (to r)) ≡ r
   record-written {r} e h =
