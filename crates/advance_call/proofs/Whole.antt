@@ -59,7 +59,7 @@ module _ (file : Bytes) (n : Counts) (bytes : (i : ℕ) → getD file i 0 < 256)
   checked-room run t bag count c e tables h =
       let k = advance-ok (modelOf file n) run t bag c in
       let fit : Fit count tables = record { few = omega (arith, e, h .few); in-range = h .in-range; seated = subst (λ k. Seated k tables) (sym e) (h .seated) } in
-      (k .low-moment, fit, rw e (fits-long (modelOf file n) run (k .run-fits)))
+      (k .not-late, fit, rw e (fits-long (modelOf file n) run (k .run-fits)))
 
   -- The call by what the code has: the parts, the model's tables, the open moment and the state.
   pub call-parts : (run : Bytes) (t : ℕ) (bag trace : Bytes) → ((i : ℕ) → getD bag i 0 < 256) → advanceChecks (modelOf file n) run t bag ≡ ok tt

@@ -15,7 +15,8 @@ use Rattle.definition.specs.Model.{Model, componentAt, atomics}
 use Rattle.definition.specs.SavedRun.{Entry, runLength, entryFits, entriesFit, atomicCount, runOf, runFits}
 use Rattle.definition.specs.Engine.{advanceChecks, bagFits, toBag}
 use Rattle.definition.specs.Records.{portFits}
-use Rattle.laws.proofs.Tests.{clash, and-left, and-right}
+use Rattle.definition.specs.Demands.{MayAdvance}
+use Rattle.laws.proofs.Tests.{and-left, and-right, or-none}
 use Rattle.model_laws.proofs.RunBack.{entry-count}
 use Rattle.laws.proofs.Results.{refuse-ok}
 use Rattle.nest_laws.proofs.Pairs.{Pairs}
@@ -54,34 +55,25 @@ fits-good m s h =
     entries-fresh m (runOf m s .opening) (atomics (m .components)) (runOf m s .entries) (run-length m s) (and-right a _ h)
 
 -- the bag that the checks let in
-bag-fine : (b : Bytes) → bagFits b ≡ true → all portFits (toBag b) ≡ true
+pub bag-fine : (b : Bytes) → bagFits b ≡ true → all portFits (toBag b) ≡ true
 unfolding bagFits
 bag-fine b h = and-right (eqb (length b % messageSize) 0 && leb (length b) (messageSize * maxGiven)) _ h
 
 -- an advance that the checks let through
-pub record LetIn (m : Model) (run : Bytes) (t : ℕ) (bag : Bytes) : Type 0 where
-  pub run-fits : runFits m run ≡ true
-  pub from-opening : runOf m run .opening ≤ t
-  pub low-moment : t ≤ maxMoment
-  pub bag-ports : all portFits (toBag bag) ≡ true
-
-pub advance-ok : (m : Model) (run : Bytes) (t : ℕ) (bag : Bytes) → advanceChecks m run t bag ≡ ok tt → LetIn m run t bag
+pub advance-ok : (m : Model) (run : Bytes) (t : ℕ) (bag : Bytes) → advanceChecks m run t bag ≡ ok tt → MayAdvance m run t bag
 unfolding advanceChecks
 advance-ok m run t bag h =
     let early = ltb t (runOf m run .opening) in
     let x = refuse-ok (not (runFits m run)) 10 _ tt h in
     let y = refuse-ok (early || ltb maxMoment t) 11 _ tt (x .1) in
+    let z = or-none early (ltb maxMoment t) (y .0) in
     record {
       run-fits = not-false (runFits m run) (x .0);
-      from-opening = ltb-false t (runOf m run .opening) (neither early (ltb maxMoment t) (y .0) .0);
-      low-moment = ltb-false maxMoment t (neither early (ltb maxMoment t) (y .0) .1);
-      bag-ports = bag-fine bag (passed (bagFits bag) (y .1));
+      not-early = ltb-false t (runOf m run .opening) (z .0);
+      not-late = ltb-false maxMoment t (z .1);
+      bag-fits = passed (bagFits bag) (y .1);
     }
   where
-    neither : (b c : Bool) → b || c ≡ false → (b ≡ false) × (c ≡ false)
-    neither true c h = absurd (clash refl h)
-    neither false c h = (refl, h)
-
     passed : (b : Bool) → refuseIf (not b) 12 ≡ ok tt → b ≡ true
     passed true h = refl
     passed false h = absurd (let z : _≡_ {A = ℕ} 0 1 = cc in omega arith)

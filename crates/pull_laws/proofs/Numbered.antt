@@ -1,21 +1,23 @@
 -- The number of a node says which it is, and the tables of a model have the same rows by number as the model has by node. With this the account on
 -- numbers, which the code follows, is the account on the model's ports. Assumes nothing.
 use mathlib.Core.Path.{_≡_, refl, sym, ap, _∙_}
-use Prim.Native.Nat.{ℕ, _+_, _*_, _/_, _%_, _≤_, _<_}
+use Prim.Native.Nat.{ℕ, _+_, _*_, _/_, _%_, _<_}
 use mathlib.Core.List.{List, [], _∷_, map, map-map}
-use mathlib.Core.Bool.{Bool, true, false, _&&_, not, cond}
+use mathlib.Core.Bool.{Bool, true, false, _&&_, not, cond, and-false}
+use mathlib.Core.Bool as B
 use native.Mathlib.Omega.{arith}
 use lib.Dec.{eqb, ltb}
 use lib.ListN.{length, getD}
-use borrow.Author.Tests.{eqb-true, eqb-false, eq-eqb, ne-eqb, ltb-true, lt-ltb, le-ltb}
+use borrow.Author.Tests.{eqb-true, eqb-false, ltb-true, lt-ltb, le-ltb}
 use Rattle.definition.specs.Lists.{all, keep}
 use Rattle.definition.specs.Limits.{portCount}
 use Rattle.definition.specs.Model.{Component, Coupling, Model, isAtomic, isChild}
 use Rattle.definition.specs.Pinned.Decoder.{couplingFields}
-use Rattle.laws.proofs.Tests.{and-left, and-right, and-true}
+use Rattle.laws.proofs.Tests.{and-left, and-right, and-true, eqb-sym}
 use Rattle.laws.proofs.Lists.{all-if, all-and, all-every, all-keep, all-map, map-cong-if}
 use Rattle.model_laws.proofs.WellFormed.{WellFormed, couplings-fit}
 use Rattle.route_laws.proofs.Placed.{kept}
+use Rattle.route_laws.proofs.PortNodes.{inputs-same, outputs-same, input-output, output-input}
 use Rattle.route_laws.specs.Nodes.{portNodes, inputNode, outputNode, sourceNumber, targetNumber}
 use Rattle.pull_laws.specs.Tables.{nodeComponent, nodePort, isOutput, isRootNode, kindsAt, chainRows, atomicAt, atomicNode}
 use Rattle.pull_laws.specs.Tabled.{Tabled}
@@ -61,18 +63,6 @@ code-root y l = go (y .output) (eqb (y .component) 0) refl
     go true false e = let c = eqb-false (y .component) 0 e in rw e (le-ltb (portNodes * y .component + (portCount + y .port)) portNodes (omega arith))
     go false false e = let c = eqb-false (y .component) 0 e in rw e (le-ltb (portNodes * y .component + y .port) portNodes (omega arith))
 
--- one number, one node
-same-side : (o t p c q : ℕ) → o ≤ portCount → p < portCount → q < portCount → eqb (portNodes * t + (o + p)) (portNodes * c + (o + q)) ≡ eqb t c && eqb q p && true
-same-side o t p c q small a b = go (eqb t c) (eqb q p) refl refl
-  where
-    go : (x y : Bool) → eqb t c ≡ x → eqb q p ≡ y → eqb (portNodes * t + (o + p)) (portNodes * c + (o + q)) ≡ eqb t c && eqb q p && true
-    go true true e f = let u = eqb-true t c e in let v = eqb-true q p f in rw (e, f) (eq-eqb (portNodes * t + (o + p)) (portNodes * c + (o + q)) (omega arith))
-    go true false e f = let v = eqb-false q p f in rw (e, f) (ne-eqb (portNodes * t + (o + p)) (portNodes * c + (o + q)) (λ z. v (omega (arith, eqb-true t c e))))
-    go false y e f = let u = eqb-false t c e in rw e (ne-eqb (portNodes * t + (o + p)) (portNodes * c + (o + q)) (λ z. u (omega arith)))
-
-two-sides : (t p c q : ℕ) → p < portCount → q < portCount → eqb (portNodes * t + (portCount + p)) (portNodes * c + q) ≡ false
-two-sides t p c q a b = ne-eqb (portNodes * t + (portCount + p)) (portNodes * c + q) (λ z. omega arith)
-
 -- ---- rows by number
 
 pub keep-cong-if : {A : Type 0} (q f g : A → Bool) (l : List A) → all q l ≡ true → ((a : A) → q a ≡ true → f a ≡ g a) → keep f l ≡ keep g l
@@ -89,11 +79,6 @@ all-kept q f (a ∷ l) e = go (f a) (all-kept q f l (and-right (q a) _ e))
     go true h = and-true (q a) _ (and-left (q a) _ e) h
     go false h = h
 
--- the ports and components of a coupling that fits
-pub coupling-ends : (cs : List Component) (k : Coupling) → couplingFields cs k ≡ true
-    → (k .source < length cs) × (k .target < length cs) × (k .sourcePort < portCount) × (k .targetPort < portCount)
-coupling-ends cs k h = let e = kept cs k h in (e .source, e .target, e .source-port, e .target-port)
-
 source-code : (cs : List Component) (k : Coupling) → sourceNumber cs k ≡ code (sourceNode cs k)
 unfolding sourceNumber sourceNode code
 source-code cs k = go (isChild cs (k .source) (k .target))
@@ -104,28 +89,24 @@ source-code cs k = go (isChild cs (k .source) (k .target))
     go false = refl
 
 target-code : (cs : List Component) (x : Node) → x .port < portCount → (k : Coupling) → couplingFields cs k ≡ true → eqb (targetNumber cs k) (code x) ≡ endsAt cs x k
-unfolding targetNumber endsAt code inputNode outputNode
+unfolding targetNumber endsAt code
 target-code cs x l k h = go (isChild cs (k .target) (k .source)) (x .output)
   where
     p : k .targetPort < portCount
     p = kept cs k h .target-port
 
-    none : (a b : Bool) → a && b && false ≡ false
-    none true true = refl
-    none true false = refl
-    none false b = refl
+    test : Bool
+    test = eqb (k .target) (x .component) && eqb (x .port) (k .targetPort)
 
-    go : (b o : Bool) → eqb (cond b (portNodes * k .target + (portCount + k .targetPort)) (portNodes * k .target + k .targetPort))
-        (cond o (portNodes * x .component + (portCount + x .port)) (portNodes * x .component + x .port))
-        ≡ eqb (k .target) (x .component) && eqb (x .port) (k .targetPort) && cond o b (not b)
-    go true true = same-side portCount (k .target) (k .targetPort) (x .component) (x .port) (omega arith) p l
-    go true false = two-sides (k .target) (k .targetPort) (x .component) (x .port) p l ∙ sym (none (eqb (k .target) (x .component)) (eqb (x .port) (k .targetPort)))
-    go false true =
-        ne-eqb (portNodes * k .target + k .targetPort) (portNodes * x .component + (portCount + x .port)) (λ z. omega (arith, p)) ∙ sym (none (eqb (k .target) (x .component)) (eqb (x .port) (k .targetPort)))
-    go false false =
-        let a : portNodes * k .target + k .targetPort ≡ portNodes * k .target + (0 + k .targetPort) = omega arith in
-        let b : portNodes * x .component + x .port ≡ portNodes * x .component + (0 + x .port) = omega arith in
-        rw (a, b) (same-side 0 (k .target) (k .targetPort) (x .component) (x .port) (omega arith) p l)
+    both : eqb (k .target) (x .component) && eqb (k .targetPort) (x .port) ≡ test && true
+    both = ap (λ b. eqb (k .target) (x .component) && b) (eqb-sym (k .targetPort) (x .port)) ∙ sym (B.and-true test)
+
+    go : (b o : Bool) → eqb (cond b (outputNode (k .target) (k .targetPort)) (inputNode (k .target) (k .targetPort))) (cond o (outputNode (x .component) (x .port)) (inputNode (x .component) (x .port)))
+        ≡ test && cond o b (not b)
+    go true true = outputs-same (k .target) (k .targetPort) (x .component) (x .port) p l ∙ both
+    go true false = output-input (k .target) (k .targetPort) (x .component) (x .port) p l ∙ sym (and-false test)
+    go false true = input-output (k .target) (k .targetPort) (x .component) (x .port) p l ∙ sym (and-false test)
+    go false false = inputs-same (k .target) (k .targetPort) (x .component) (x .port) p l ∙ both
 
 module _ (m : Model) (w : WellFormed m) where
   -- the nodes that there are

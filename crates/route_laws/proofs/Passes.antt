@@ -14,7 +14,7 @@ use borrow.Author.Tests.{eqb-true, eqb-false, lt-ltb, le-ltb, ltb-true, ltb-fals
 use Rattle.definition.specs.Lists.{upFrom}
 use Rattle.definition.specs.Model.{Component, Coupling, noCoupling, isChild}
 use Rattle.definition.specs.Pinned.Decoder.{componentFits, couplingFits}
-use Rattle.laws.proofs.Sums.{sumOf, sum-add, sum-zero, sum-cong}
+use Rattle.laws.proofs.Sums.{sumOf, sum-add, sum-zero, sum-cong, if-zero}
 use Rattle.route_laws.specs.Nodes.{portNodes, inputNode, outputNode, sourceNumber, targetNumber}
 use Rattle.route_laws.specs.Ways.{waysOn, endAt, waysCap, Counted, Rising}
 use Rattle.route_laws.specs.Taken.{taken, takenDown, takenUp, gain, Filled, leadsDown, downFrom, upTo}
@@ -87,11 +87,7 @@ module _ (cs : List Component) (ks : List Coupling) (fit : (i : ℕ) → i < len
     where
       each : (j : ℕ) → j < length ks → (b : Bool) → eqb (from j) x ≡ b → cond (done j) (cond b (waysOn cs ks (to j)) 0) 0 ≡ cond b (waysOn cs ks (to j)) 0
       each j l true e = rw (h j l e)
-      each j l false e = none (done j)
-        where
-          none : (b : Bool) → cond {A = ℕ} b 0 0 ≡ 0
-          none true = refl
-          none false = refl
+      each j l false e = if-zero (done j)
 
   filled-all : (done : ℕ → Bool) (table : List ℕ) → ((j : ℕ) → j < length ks → done j ≡ true) → Filled cs ks done table → Counted cs ks table
   filled-all done table h p x l = p x l ∙ ap (min waysCap) (settled done x l (λ j b e. h j b))

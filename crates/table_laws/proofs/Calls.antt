@@ -3,13 +3,13 @@
 use mathlib.Core.Path.{_≡_, refl, sym, ap, _∙_, subst}
 use Prim.Native.Nat.{ℕ, zero, suc, _*_, _/_, _%_, _≤_, _<_}
 use mathlib.Core.List.{List, map}
-use mathlib.Core.Bool.{Bool, true, false, _&&_, _||_, not}
+use mathlib.Core.Bool.{true, _&&_}
 use native.Mathlib.Omega.{arith}
-use lib.Dec.{ltb, leb, eqb}
+use lib.Dec.{leb, eqb}
 use lib.ListN.{length, take}
 use borrow.Author.Tests.{leb-true, lt-ltb, ltb-true}
 use Rattle.definition.specs.Lists.{all}
-use Rattle.definition.specs.Bytes.{Bytes, AllBytes, none, more, littleEndian, numberAt, chunks, ok, _>>=_, refuseIf, numberOf}
+use Rattle.definition.specs.Bytes.{Bytes, AllBytes, none, more, littleEndian, numberAt, chunks, ok}
 use Rattle.definition.specs.Limits.{messageSize, maxGiven, maxMoment}
 use Rattle.definition.specs.Model.{Bag, Model, atomics}
 use Rattle.definition.specs.Records.{portFits, messageAt}
@@ -22,7 +22,7 @@ use Rattle.laws.proofs.Tests.{and-left, and-right, and-true}
 use Rattle.model_laws.proofs.WellFormed.{WellFormed}
 use Rattle.model_laws.proofs.Codec.{take-bytes, drop-bytes, bag-length}
 use Rattle.nest_laws.proofs.Stepping.{Good}
-use Rattle.flat_laws.proofs.Checks.{fits-good, advance-ok}
+use Rattle.flat_laws.proofs.Checks.{fits-good, advance-ok, bag-fine}
 use Rattle.theory.proofs.Lift.{EndsAlike}
 use Rattle.theory.proofs.Kept.{Fit}
 use Rattle.theory.proofs.Fitting.{fits-run}
@@ -84,17 +84,6 @@ bag-few b h =
 
 -- ---- a call
 
--- what the checks let through has a bag that fits
-checked-bag : (a b c : Bool) → (refuseIf (not a) 10 >>= λ _. refuseIf b 11 >>= λ _. refuseIf (not c) 12) ≡ ok tt → c ≡ true
-checked-bag false b c h = absurd (let e = ap numberOf h in omega arith)
-checked-bag true true c h = absurd (let e = ap numberOf h in omega arith)
-checked-bag true false false h = absurd (let e = ap numberOf h in omega arith)
-checked-bag true false true h = refl
-
-pub bag-fits : (m : Model) (run : Bytes) (t : ℕ) (bag : Bytes) → advanceChecks m run t bag ≡ ok tt → bagFits bag ≡ true
-unfolding advanceChecks
-bag-fits m run t bag h = checked-bag (runFits m run) (ltb t (runOf m run .opening) || ltb maxMoment t) (bagFits bag) h
-
 module _ (m : Model) (w : WellFormed m) (tables : List ℕ) (h : Tabled m tables) (run : Bytes) (st : State)
     (same : entriesOf (length (atomics (m .components))) st ≡ runOf m run .entries)
     (phases : length (atomics (m .components)) ≤ length (st .phase)) (lasts : length (atomics (m .components)) ≤ length (st .last)) where
@@ -116,5 +105,5 @@ module _ (m : Model) (w : WellFormed m) (tables : List ℕ) (h : Tabled m tables
   advance-on-tables room enough t bag trace bytes ok-call =
       let k = advance-ok m run t bag ok-call in
       ap (λ rs. advanceFrom (nested m) trace t (toBag bag) (runOf m run .opening) rs) (sym same)
-      ∙ advance-held m w tables h room enough (runOf m run .opening) trace t (toBag bag) st (bag-few bag (bag-fits m run t bag ok-call)) (k .bag-ports) (bag-values bytes)
-      (fit-held (k .run-fits)) phases lasts (k .from-opening) (k .low-moment)
+      ∙ advance-held m w tables h room enough (runOf m run .opening) trace t (toBag bag) st (bag-few bag (k .bag-fits)) (bag-fine bag (k .bag-fits)) (bag-values bytes)
+      (fit-held (k .run-fits)) phases lasts (k .not-early) (k .not-late)

@@ -83,7 +83,7 @@ nothing-done file run t bag trace m bf br e = rw e (go (advanceChecks m run t ba
     go (refused n) f = rw f (λ u v. (refl, refl))
     go (ok z) f =
         let c = advance-ok m run t bag f in
-        rw f (as-before run t bag trace m (accepted-sound file m bf e .sound) (c .run-fits) (c .from-opening) br)
+        rw f (as-before run t bag trace m (accepted-sound file m bf e .sound) (c .run-fits) (c .not-early) br)
 
 -- ---- the number of any advance
 

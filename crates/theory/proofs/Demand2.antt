@@ -52,7 +52,7 @@ given-order file run t b c trace bytes e s = accept (accepted file) refl
         let k = advance-ok m run t c h in
         ends-equal {Between = BetweenSame m w} {t = t} _ _ (λ o rs qs z. z .0)
         (advance-alike (agree-order m w) (length trace) t (toBag b) (toBag c) s (openingOf m run) (runOf m run .entries) (runOf m run .entries)
-        (refl, fits-run m run (k .run-fits) .0 .0) (k .from-opening))
+        (refl, fits-run m run (k .run-fits) .0 .0) (k .not-early))
 
     check : (m : Model) → WellFormed m → (r : Result (Unit {0})) → advanceChecks m run t c ≡ r
         → advanced run trace (advanceChecks m run t c >>= λ _. ok (endOf m run t b trace)) ≡ advanced run trace (advanceChecks m run t c >>= λ _. ok (endOf m run t c trace))

@@ -25,7 +25,7 @@ use Rattle.model_laws.proofs.WellFormed.{WellFormed, Accepted}
 use Rattle.model_laws.proofs.Reading.{accepted-sound}
 use Rattle.model_laws.proofs.Refusals.{Positive, accepted-positive}
 use Rattle.flat_laws.proofs.FlatTwice.{flat-stays, flat-accepted, flat-twice}
-use Rattle.flat_laws.proofs.Checks.{run-length, advance-ok}
+use Rattle.flat_laws.proofs.Checks.{run-length, advance-ok, bag-fine}
 use Rattle.flat_laws.proofs.SameChecks.{same-run, same-fits, same-checks, same-reading, same-start}
 use Rattle.theory.proofs.Kept.{Fit}
 use Rattle.theory.proofs.Agreement.{levelled, due-same}
@@ -69,11 +69,11 @@ module _ (file : Bytes) (m : Model) (e : accepted file ≡ ok m) (a : Accepted m
       go (refused n) h = rw h
       go (ok u) h =
           let c = advance-ok m run t bag h in
-          let ports = c .bag-ports in
+          let ports = bag-fine bag (c .bag-fits) in
           let fit = subst (λ r. Fit (flat m) (r .opening) (r .entries)) (same-run m w run) (fits-run (flat m) run (same-fits m w run ∙ c .run-fits) .0 .0) in
           rw h (ap (λ x. advanced run trace (ok x))
-          (lifted m w o rs (length trace) t (toBag bag) (fits-run m run (c .run-fits) .0 .0) (c .from-opening) ports
-          ∙ sym (lifted (flat m) v o rs (length trace) t (toBag bag) fit (c .from-opening) ports ∙ ap (λ k. advanceFrom (levelled k) (length trace) t (toBag bag) o rs) twice)))
+          (lifted m w o rs (length trace) t (toBag bag) (fits-run m run (c .run-fits) .0 .0) (c .not-early) ports
+          ∙ sym (lifted (flat m) v o rs (length trace) t (toBag bag) fit (c .not-early) ports ∙ ap (λ k. advanceFrom (levelled k) (length trace) t (toBag bag) o rs) twice)))
 
   next-same : (run : Bytes) → nextDue m (runOf m run .entries) ≡ nextDue (flat m) (runOf m run .entries)
   next-same run =

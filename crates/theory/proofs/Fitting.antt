@@ -149,7 +149,7 @@ advance-fits file run t bag trace m b e h = rw e (go (advanceChecks m run t bag)
     go : (r : Result (Unit {0})) → advanceChecks m run t bag ≡ r
         → runFits m (advanced run trace (advanceChecks m run t bag >>= λ _. ok (advanceFrom (nested m) (length trace) t (toBag bag) (runOf m run .opening) (runOf m run .entries))) .run) ≡ true
     go (refused n) f = rw f h
-    go (ok u) f = let c = advance-ok m run t bag f in rw f (fit-written m w _ _ (advance-fit m w run t (length trace) (toBag bag) h (c .from-opening) (c .low-moment)) .0)
+    go (ok u) f = let c = advance-ok m run t bag f in rw f (fit-written m w _ _ (advance-fit m w run t (length trace) (toBag bag) h (c .not-early) (c .not-late)) .0)
 
 pub start-fits : (file buffer : Bytes) (m : Model) → AllBytes file → accepted file ≡ ok m → runLength (atomicCount m) ≤ length buffer
     → runFits m (start file buffer .buffer) ≡ true

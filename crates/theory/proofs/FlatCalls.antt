@@ -22,7 +22,7 @@ use Rattle.definition.specs.Calls.{advanceAnswer, readingAnswer, Call, startCal
 use Rattle.model_laws.proofs.WellFormed.{WellFormed}
 use Rattle.model_laws.proofs.Codec.{append-bytes, drop-bytes, number-bytes}
 use Rattle.model_laws.proofs.RunBack.{run-written}
-use Rattle.flat_laws.proofs.Checks.{run-length, advance-ok}
+use Rattle.flat_laws.proofs.Checks.{run-length, advance-ok, bag-fine}
 use Rattle.theory.proofs.Lift.{advance-alike, ends-equal}
 use Rattle.theory.proofs.Kept.{Fit, BetweenSame}
 use Rattle.theory.proofs.Agreement.{levelled, due-same, agree-flat}
@@ -90,11 +90,11 @@ module _ (file : Bytes) (m : Model) (e : accepted file ≡ ok m) (w : WellFormed
     unfolding advanceFrom
     own-loops =
         let c = advance-ok m run t bag h in
-        let ports = c .bag-ports in
+        let ports = bag-fine bag (c .bag-fits) in
         let f = fits-run m run (c .run-fits) .0 .0 in
         ap (inTurn m t (toBag bag) (suc t)) (sym first-stage)
-        ∙ in-turn m w self run trace t (c .low-moment) (toBag bag) ports (suc t) first (f, c .from-opening, omega arith)
-        ∙ ap (answer m w self run trace) (sym (lifted m w (runOf m run .opening) (runOf m run .entries) (length trace) t (toBag bag) f (c .from-opening) ports
+        ∙ in-turn m w self run trace t (c .not-late) (toBag bag) ports (suc t) first (f, c .not-early, omega arith)
+        ∙ ap (answer m w self run trace) (sym (lifted m w (runOf m run .opening) (runOf m run .entries) (length trace) t (toBag bag) f (c .not-early) ports
         ∙ ap (λ k. advanceFrom (levelled k) (length trace) t (toBag bag) (runOf m run .opening) (runOf m run .entries)) self))
 
   answers : (run trace : Bytes) (a : Ended (List Entry)) → answered run trace (ok (answer m w self run trace a)) ≡ advanced run trace (ok a)

@@ -2,29 +2,26 @@
 use mathlib.Core.Path.{_≡_, refl, _∙_}
 use mathlib.Core.List.{List}
 use mathlib.Core.Bool.{Bool, true, false, cond}
-use Prim.Native.Nat.{ℕ, zero, suc, _+_, _-_, _*_, _/_, _%_, _<_}
+use Prim.Native.Nat.{ℕ, zero, suc, _+_, _-_, _*_, _<_}
 use native.Mathlib.Omega.{arith}
 use lib.Dec.{eqb}
 use lib.ListN.{length, length-set}
-use borrow.Author.Tests.{lt-ltb, le-ltb}
 use Rattle.definition.specs.Model.{Component, isAtomic}
+use Rattle.route_laws.specs.Nodes.{inputNode, outputNode}
 use Rattle.route_laws.specs.Ways.{endAt}
+use Rattle.route_laws.proofs.PortNodes.{end-input, end-output}
 use Rattle.pull_laws.specs.Tables.{isOutput}
 use Rattle.way_counts.specs.Words.{linkTaken, linkDown, linkUp, waysDown, waysUp}
 
 -- ---- the ports of component c
 
 pub input-end : (cs : List Component) (c k : ℕ) → k < 4 → endAt cs (8 * c + k) ≡ cond (isAtomic cs c) 1 0
-unfolding endAt
-input-end cs c k h =
-    let e : (8 * c + k) / 8 ≡ c = omega arith in
-    rw (lt-ltb ((8 * c + k) % 8) 4 (omega arith), e)
+unfolding inputNode
+input-end cs c k h = end-input cs c k h
 
 pub output-end : (cs : List Component) (c k : ℕ) → k < 4 → endAt cs (8 * c + 4 + k) ≡ cond (eqb c 0) 1 0
-unfolding endAt
-output-end cs c k h =
-    let e : (8 * c + 4 + k) / 8 ≡ c = omega arith in
-    rw (le-ltb ((8 * c + 4 + k) % 8) 4 (omega arith), e)
+unfolding outputNode
+output-end cs c k h = let e : 8 * c + 4 + k ≡ 8 * c + (4 + k) = omega arith in rw e (end-output cs c k h)
 
 -- ---- a link taken
 
