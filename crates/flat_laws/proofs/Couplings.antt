@@ -7,7 +7,7 @@ use mathlib.Core.Bool.{Bool, true, false, _&&_, _||_, not, cond, and-false}
 use native.Mathlib.Omega.{arith}
 use lib.Dec.{ltb, eqb}
 use lib.ListN.{length}
-use borrow.Author.Tests.{ltb-true, eqb-true, eqb-false, eq-eqb, ne-eqb}
+use borrow.Author.Tests.{eqb-true, eqb-false, eq-eqb, ne-eqb, lt-ltb}
 use Rattle.definition.specs.Lists.{all}
 use Rattle.definition.specs.Model.{Coupling, Component, isChild, isSibling, componentAt}
 use Rattle.definition.specs.Routes.{portsTo}
@@ -15,34 +15,9 @@ use Rattle.definition.specs.Pinned.Decoder.{couplingFields, related}
 use Rattle.definition.specs.Limits.{portCount}
 use Rattle.laws.proofs.Tests.{clash, and-left, and-right, and-true}
 use Rattle.nest_laws.proofs.Kin.{par, Rooted}
+use Rattle.route_laws.proofs.Placed.{kept}
 
 -- ---- the couplings of a sound model
-
--- the tests of a coupling, one by one
-pub record Fitting (cs : List Component) (k : Coupling) : Type 0 where
-  pub source-low : k .source < length cs
-  pub target-low : k .target < length cs
-  pub source-port : ltb (k .sourcePort) portCount ≡ true
-  pub target-port : ltb (k .targetPort) portCount ≡ true
-  pub kin : related cs (k .source) (k .target) ≡ true
-
-pub fitting : (cs : List Component) (k : Coupling) → couplingFields cs k ≡ true → Fitting cs k
-unfolding couplingFields
-fitting cs k h =
-    let a = ltb (k .source) (length cs) in
-    let b = ltb (k .target) (length cs) in
-    let c = ltb (k .sourcePort) portCount in
-    let d = ltb (k .targetPort) portCount in
-    let h₃ = and-left (a && b && c && d) _ h in
-    let h₂ = and-left (a && b && c) d h₃ in
-    let h₁ = and-left (a && b) c h₂ in
-    record {
-      source-low = ltb-true (k .source) (length cs) (and-left a b h₁);
-      target-low = ltb-true (k .target) (length cs) (and-right a b h₁);
-      source-port = and-right (a && b) c h₂;
-      target-port = and-right (a && b && c) d h₃;
-      kin = and-right (a && b && c && d) _ h;
-    }
 
 module _ (cs : List Component) (w : Rooted cs) where
   own : (c d : ℕ) → c ≡ d → c < length cs → isChild cs c d ≡ false
@@ -60,9 +35,9 @@ module _ (cs : List Component) (w : Rooted cs) where
   pub not-self : (k : Coupling) → couplingFields cs k ≡ true → eqb (k .source) (k .target) ≡ false
   unfolding related
   not-self k h =
-      let f = fitting cs k h in
+      let f = kept cs k h in
       ne-eqb (k .source) (k .target)
-      (λ e. three _ _ _ (own (k .source) (k .target) e (f .source-low)) (alone (k .source) (k .target) e) (own (k .target) (k .source) (sym e) (f .target-low)) (f .kin))
+      (λ e. three _ _ _ (own (k .source) (k .target) e (f .source)) (alone (k .source) (k .target) e) (own (k .target) (k .source) (sym e) (f .target)) (f .kin))
     where
       three : (x y z : Bool) → x ≡ false → y ≡ false → z ≡ false → x || y || z ≡ true → ⊥
       three x y z e f g h = clash h (rw (e, f, g))
@@ -86,5 +61,5 @@ module _ (cs : List Component) (w : Rooted cs) where
       go (eqb (k .source) i && eqb (k .target) d && eqb (k .sourcePort) n) (ports-reached ks (and-right (couplingFields cs k) _ h) i d n)
     where
       go : (b : Bool) → all (λ r. ltb r portCount) (portsTo ks i d n) ≡ true → all (λ r. ltb r portCount) (cond b (k .targetPort ∷ portsTo ks i d n) (portsTo ks i d n)) ≡ true
-      go true ih = and-true _ _ (fitting cs k (and-left (couplingFields cs k) _ h) .target-port) ih
+      go true ih = and-true _ _ (lt-ltb (k .targetPort) portCount (kept cs k (and-left (couplingFields cs k) _ h) .target-port)) ih
       go false ih = ih

@@ -17,7 +17,7 @@ use Rattle.definition.specs.Records.{componentBytes}
 use Rattle.definition.specs.Pinned.Decoder.{coupledFields, atomicFields, kindFields, componentFits, bounds, toComponent, placeFits, rootWithin, rootFields}
 use Rattle.definition.specs.Flatten.{renumbered, flatAtomic, flatComponents}
 use Rattle.definition.specs.Bytes.{numberAt, littleEndian, bytesOf, laidOut}
-use Rattle.laws.proofs.Lists.{getD-map, all-at, length-up}
+use Rattle.laws.proofs.Lists.{getD-map, all-at, length-up, length-keep}
 use Rattle.model_laws.proofs.WellFormed.{WellFormed, ComponentsFit, Checked}
 use Rattle.nest_laws.proofs.Places.{place-below, place-most, take-up}
 use Rattle.nest_laws.proofs.Components.{rooted, atomic-fields, atomics-atomic, no-phases}
@@ -38,15 +38,6 @@ listed-cases cs c h = go (eqb 0 c) refl
     go false e = inr (rw e at h)
 
 -- ---- fewer components
-
-length-keep : {A : Type 0} (p : A → Bool) (l : List A) → length (keep p l) ≤ length l
-unfolding keep
-length-keep p [] = omega arith
-length-keep p (a ∷ l) = go (p a) (length-keep p l)
-  where
-    go : (b : Bool) → length (keep p l) ≤ length l → length (cond b (a ∷ keep p l) (keep p l)) ≤ suc (length l)
-    go true h = omega arith
-    go false h = omega arith
 
 -- there is a component that is no atomic
 fewer : (cs : List Component) → 0 < length cs → isAtomic cs 0 ≡ false → length (atomics cs) < length cs

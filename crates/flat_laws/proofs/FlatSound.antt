@@ -8,9 +8,9 @@ use mathlib.Core.Bool.{Bool, true, false, _&&_, _||_, not}
 use native.Mathlib.Omega.{arith}
 use lib.Dec.{ltb, eqb}
 use lib.ListN.{length, getD, length-map}
-use borrow.Author.Tests.{ltb-true, lt-ltb, eqb-false, ne-eqb}
+use borrow.Author.Tests.{lt-ltb, eqb-false, ne-eqb}
 use Rattle.definition.specs.Lists.{all, rises}
-use Rattle.definition.specs.Limits.{maxCouplings, maxRoutes, portCount, maxPhases, maxRules}
+use Rattle.definition.specs.Limits.{maxCouplings, maxRoutes, maxPhases, maxRules}
 use Rattle.definition.specs.Model.{Component, Coupling, Rule, Model, isAtomic, atomics, isChild, isSibling, couplingLe, noRule, noCoupling}
 use Rattle.definition.specs.Records.{phaseBytes, ruleBytes, couplingBytes}
 use Rattle.definition.specs.Routes.{routes}
@@ -26,7 +26,7 @@ use Rattle.model_laws.proofs.Codec.{le-bytes}
 use Rattle.nest_laws.proofs.Renumber.{listed-atomic, new-root, new-atomic, new-eqb}
 use Rattle.flat_laws.proofs.FlatComponents.{listed-cases, flat-length, flat-bounds, new-low, new-byte, flat-kind, flat-parent, flat-phases, components-checked}
 use Rattle.flat_laws.proofs.RouteEnds.{routeFits, routes-fit, route-parts}
-use Rattle.flat_laws.proofs.Couplings.{fitting}
+use Rattle.route_laws.proofs.Placed.{kept}
 
 -- records changed so that their bytes still keep them
 held-map : {A : Type 0} (f g : A → A) → ((a : A) → f a ≡ a → f (g a) ≡ g a) → (xs : List A) → map f xs ≡ xs → map f (map g xs) ≡ map g xs
@@ -150,13 +150,13 @@ module _ (m : Model) (w : WellFormed m) where
   coupling-held : (k : Coupling) → couplingFields (flatComponents (m .components)) k ≡ true → toCoupling (couplingBytes k) ≡ k
   unfolding toCoupling couplingBytes numberAt littleEndian laidOut bytesOf
   coupling-held k h =
-      let f = fitting (flatComponents cs) k h in
+      let f = kept (flatComponents cs) k h in
       let few = components-checked m w .few in
       λ i. record {
-        source = le-bytes 1 (k .source) (omega (arith, f .source-low, few)) i;
-        sourcePort = le-bytes 1 (k .sourcePort) (omega (arith, ltb-true (k .sourcePort) portCount (f .source-port))) i;
-        target = le-bytes 1 (k .target) (omega (arith, f .target-low, few)) i;
-        targetPort = le-bytes 1 (k .targetPort) (omega (arith, ltb-true (k .targetPort) portCount (f .target-port))) i;
+        source = le-bytes 1 (k .source) (omega (arith, f .source, few)) i;
+        sourcePort = le-bytes 1 (k .sourcePort) (omega (arith, f .source-port)) i;
+        target = le-bytes 1 (k .target) (omega (arith, f .target, few)) i;
+        targetPort = le-bytes 1 (k .targetPort) (omega (arith, f .target-port)) i;
       }
 
   couplings-checked : length (routes m) ≤ maxRoutes → Checked maxCouplings toCoupling couplingBytes (couplingFits (flatComponents (m .components))) (flat m .couplings)

@@ -9,7 +9,7 @@ use native.Mathlib.Omega.{arith}
 use native.Mathlib.Nat.{add-zero}
 use lib.Dec.{eqb}
 use lib.ListN.{length}
-use borrow.Author.Tests.{ltb-true, eqb-true, eqb-false, eq-eqb, ne-eqb}
+use borrow.Author.Tests.{eqb-true, eqb-false, eq-eqb, ne-eqb}
 use Rattle.definition.specs.Lists.{concat, upFrom}
 use Rattle.definition.specs.Limits.{portCount}
 use Rattle.definition.specs.Model.{Component, Coupling, Model, isAtomic, atomics, couplingLe, leaf, node, forest}
@@ -26,7 +26,8 @@ use Rattle.nest_laws.proofs.Kin.{Rooted}
 use Rattle.nest_laws.proofs.Components.{rooted, atomic-once, atomics-atomic, partsOfRoot, tree-shape}
 use Rattle.nest_laws.proofs.Renumber.{isListed}
 use Rattle.flat_laws.proofs.FlatComponents.{listed-cases}
-use Rattle.flat_laws.proofs.Couplings.{fitting, not-self}
+use Rattle.flat_laws.proofs.Couplings.{not-self}
+use Rattle.route_laws.proofs.Placed.{kept}
 
 -- ---- a weight over the routes, as one over the couplings
 
@@ -141,7 +142,7 @@ module _ (m : Model) (w : WellFormed m) (level : partsOfRoot m ≡ forest (map l
     pick-port : sumOf (λ n. cond (eqb (k .sourcePort) n) (g k) 0) (upFrom 0 portCount) ≡ g k
     pick-port =
         pick-one (λ n. g k) (k .sourcePort) (upFrom 0 portCount)
-        (once-up (k .sourcePort) 0 portCount (omega arith) (omega (arith, ltb-true (k .sourcePort) portCount (fitting cs k h .source-port))))
+        (once-up (k .sourcePort) 0 portCount (omega arith) (omega (arith, kept cs k h .source-port)))
 
     across-one : (s : ℕ) → across g (atomics (m .components)) s k ≡ cond (eqb (k .source) s) (cond (isAtomic (m .components) (k .target)) (g k) 0) 0
     unfolding across here
@@ -160,11 +161,11 @@ module _ (m : Model) (w : WellFormed m) (level : partsOfRoot m ≡ forest (map l
     one-route : across g (atomics (m .components)) 0 k
         + sumOf (λ c. across g (atomics (m .components)) c k + up g c k) (atomics (m .components)) ≡ g k
     one-route =
-        let f = fitting cs k h in
+        let f = kept cs k h in
         ap₂ _+_ (across-one 0)
         (sum-cong _ (λ c. cond (eqb (k .source) c) there 0) (atomics cs) (λ c. ap₂ _+_ (across-one c) (up-one c) ∙ both (eqb (k .source) c))
         ∙ pick-atomic (λ c. there) (k .source))
-        ∙ go (listed-cases cs (k .source) (known (k .source) (f .source-low))) (listed-cases cs (k .target) (known (k .target) (f .target-low)))
+        ∙ go (listed-cases cs (k .source) (known (k .source) (f .source))) (listed-cases cs (k .target) (known (k .target) (f .target)))
       where
         there : ℕ
         there = cond (isAtomic cs (k .target)) (g k) 0 + cond (eqb (k .target) 0) (g k) 0

@@ -75,6 +75,11 @@ module _ {A : Type 0} where
   all-at p (a ∷ l) zero d h b = and-left (p a) _ h
   all-at p (a ∷ l) (suc i) d h b = all-at p l i d (and-right (p a) _ h) (omega arith)
 
+  pub all-places : (p : A → Bool) (d : A) (l : List A) → ((i : ℕ) → i < length l → p (getD l i d) ≡ true) → all p l ≡ true
+  unfolding all
+  all-places p d [] h = refl
+  all-places p d (a ∷ l) h = and-true (p a) _ (h 0 (omega arith)) (all-places p d l (λ i b. h (suc i) (omega arith)))
+
   pub all-keep : (p : A → Bool) (l : List A) → all p (keep p l) ≡ true
   unfolding all keep
   all-keep p [] = refl
@@ -106,6 +111,15 @@ module _ {A : Type 0} where
   unfolding all
   map-cong-if q f g [] h e = refl
   map-cong-if q f g (a ∷ l) h e = ap₂ _∷_ (e a (and-left (q a) _ h)) (map-cong-if q f g l (and-right (q a) _ h) e)
+
+  pub length-keep : (p : A → Bool) (l : List A) → length (keep p l) ≤ length l
+  unfolding keep
+  length-keep p [] = omega arith
+  length-keep p (a ∷ l) = go (p a) (length-keep p l)
+    where
+      go : (b : Bool) → length (keep p l) ≤ length l → length (cond b (a ∷ keep p l) (keep p l)) ≤ suc (length l)
+      go true h = omega arith
+      go false h = omega arith
 
   pub sum-map-of : (f : A → ℕ) (l : List A) → sum (map f l) ≡ sumOf f l
   unfolding sum sumOf

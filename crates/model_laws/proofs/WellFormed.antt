@@ -1,10 +1,9 @@
 -- What the decoder has checked of a model that it gave, said of the model itself: reading shows it, writing needs it, and the theory
 -- takes it in place of bytes. Assumes nothing.
-use mathlib.Core.Path.{_≡_, refl}
-use Prim.Native.Nat.{ℕ, suc, _≤_, _<_}
-use mathlib.Core.List.{List, [], _∷_, map}
+use mathlib.Core.Path.{_≡_}
+use Prim.Native.Nat.{ℕ, _≤_, _<_}
+use mathlib.Core.List.{List, map}
 use mathlib.Core.Bool.{Bool, true}
-use native.Mathlib.Omega.{arith}
 use lib.ListN.{length, getD}
 use Rattle.definition.specs.Lists.{all}
 use Rattle.definition.specs.Bytes.{Bytes}
@@ -14,7 +13,8 @@ use Rattle.definition.specs.Records.{componentBytes, phaseBytes, ruleBytes, cou
 use Rattle.definition.specs.File.{phaseTotal}
 use Rattle.definition.specs.Routes.{routes}
 use Rattle.definition.specs.Pinned.Decoder.{toComponent, componentFits, toPhase, phaseFits, toRule, ruleFields, ruleFits, toCoupling, couplingFields, couplingFits}
-use Rattle.laws.proofs.Tests.{and-left, and-true}
+use Rattle.laws.proofs.Tests.{and-left}
+use Rattle.laws.proofs.Lists.{all-places}
 
 -- The records of one section: no more than its limit, each spelled by its bytes, each keeping the lines of document 01.
 pub record Checked {A : Type 0} (limit : ℕ) (to : Bytes → A) (bytes : A → Bytes) (fits : List A → ℕ → Bool) (xs : List A) : Type 0 where
@@ -40,12 +40,6 @@ abbrev pub ComponentsFit : List Component → Type 0
 ComponentsFit cs = (i : ℕ) → i < length cs → componentFits cs i ≡ true
 
 -- ---- rules and couplings as lists
-
--- a test that the element at each place passes
-pub all-places : {A : Type 0} (p : A → Bool) (d : A) (xs : List A) → ((i : ℕ) → i < length xs → p (getD xs i d) ≡ true) → all p xs ≡ true
-unfolding all
-all-places p d [] h = refl
-all-places p d (x ∷ xs) h = and-true (p x) (all p xs) (h 0 (omega arith)) (all-places p d xs (λ i l. h (suc i) (omega arith)))
 
 module _ (m : Model) (w : WellFormed m) where
   pub rules-fit : all (ruleFields (m .components)) (m .rules) ≡ true

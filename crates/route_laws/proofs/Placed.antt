@@ -1,7 +1,7 @@
 -- What the checks of components and couplings let through, as far as ways go: children stand above their parents, parents are coupled,
 -- and every coupling joins two ports of kin, the rows by source. Assumes nothing.
 use mathlib.Core.Path.{_≡_, refl}
-use mathlib.Core.List.{List, [], _∷_}
+use mathlib.Core.List.{List}
 use mathlib.Core.Bool.{Bool, true, false, _&&_, _||_, not}
 use Prim.Native.Nat.{ℕ, zero, suc, _≤_, _<_}
 use native.Mathlib.Omega.{arith}
@@ -13,6 +13,7 @@ use Rattle.definition.specs.Limits.{portCount, maxAncestors}
 use Rattle.definition.specs.Model.{Component, Coupling, componentAt, noCoupling, isAtomic, isChild, couplingLe, couplingRow}
 use Rattle.definition.specs.Pinned.Decoder.{kindFields, rootWithin, placeFits, componentFits, related, couplingFields, notFalling, couplingFits}
 use Rattle.laws.proofs.Tests.{clash, and-left, and-right}
+use Rattle.laws.proofs.Lists.{all-places}
 use Rattle.route_laws.specs.Ways.{Rising}
 
 -- ---- components
@@ -66,11 +67,6 @@ kept cs k e =
       kin = and-right (a && b && c && d) r e;
     }
 
-all-by-number : {A : Type 0} (p : A → Bool) (l : List A) (d : A) → ((i : ℕ) → i < length l → p (getD l i d) ≡ true) → all p l ≡ true
-unfolding all
-all-by-number p [] d h = refl
-all-by-number p (a ∷ l) d h = rw (h 0 (omega arith), all-by-number p l d (λ i b. h (suc i) (omega arith)))
-
 le-source : (k l : Coupling) → couplingLe k l ≡ true → k .source ≤ l .source
 unfolding couplingLe couplingRow lexLe
 le-source k l e = go (ltb (k .source) (l .source)) refl (eqb (k .source) (l .source)) refl e
@@ -88,7 +84,7 @@ le-source k l e = go (ltb (k .source) (l .source)) refl (eqb (k .source) (l .sou
 module _ (cs : List Component) (ks : List Coupling) (fit : (i : ℕ) → i < length ks → couplingFits cs ks i ≡ true) where
   pub couplings-keep : all (couplingFields cs) ks ≡ true
   unfolding couplingFits
-  couplings-keep = all-by-number (couplingFields cs) ks noCoupling (λ i l. and-left _ _ (fit i l))
+  couplings-keep = all-places (couplingFields cs) noCoupling ks (λ i l. and-left _ _ (fit i l))
 
   pub kept-at : (i : ℕ) → i < length ks → Kept cs (getD ks i noCoupling)
   unfolding couplingFits

@@ -18,7 +18,7 @@ use Rattle.definition.specs.Atomic.{advanceOf}
 use Rattle.definition.specs.SavedRun.{Entry, toEntry, toRun, atomicCount, runOf, dueOf, notBefore, runLength, entryFits, entriesFit, runFits}
 use Rattle.byte_laws.specs.Parts.{row}
 use Rattle.laws.proofs.Tests.{clash}
-use Rattle.laws.proofs.Lists.{length-up}
+use Rattle.laws.proofs.Lists.{length-up, length-keep}
 use Rattle.model_records.specs.Values.{componentsIn, phasesIn, modelIn}
 use Rattle.clock.specs.Times.{latest}
 use Rattle.due.specs.After.{dueAfter}
@@ -159,16 +159,7 @@ pub fits-said : (components phases s : Bytes) (n : ℕ) → n ≡ length (atomic
 unfolding runFits runLength atomicCount entriesFitIn bare modelIn runOf toRun
 fits-said components phases s n e = rw e
 
-kept-most : (p : ℕ → Bool) (l : List ℕ) → length (keep p l) ≤ length l
-unfolding keep
-kept-most p [] = omega arith
-kept-most p (a ∷ l) = go (p a) (kept-most p l)
-  where
-    go : (b : Bool) → length (keep p l) ≤ length l → length (cond b (a ∷ keep p l) (keep p l)) ≤ suc (length l)
-    go true h = omega arith
-    go false h = omega arith
-
 -- There are no more atomics than components.
 pub atomics-most : (cs : List Component) → length (atomics cs) ≤ length cs
 unfolding atomics
-atomics-most cs = omega (arith, kept-most (isAtomic cs) (upFrom 0 (length cs)), length-up 0 (length cs))
+atomics-most cs = omega (arith, length-keep (isAtomic cs) (upFrom 0 (length cs)), length-up 0 (length cs))

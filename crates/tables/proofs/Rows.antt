@@ -13,6 +13,7 @@ use Rattle.definition.specs.Limits.{maxComponents}
 use Rattle.definition.specs.Lists.{keep, upFrom}
 use Rattle.definition.specs.Model.{Component, componentAt, noComponent, isAtomic, atomics, phasesBefore}
 use Rattle.definition.specs.Flatten.{placeIn}
+use Rattle.laws.proofs.Lists.{length-keep, length-up}
 use Rattle.pull_laws.specs.Tables.{numbersAt, positionsAt, kindsAt, ordersAt, phasesAt, parentsAt, rulesFromAt, tableSize}
 use Rattle.table_words.specs.Writes.{column}
 use Rattle.table_words.proofs.Columns.{Within, within-none, within-both, within-set, column-within, column-at}
@@ -21,13 +22,7 @@ use Rattle.component_tables.specs.Columns.{fieldAt, fieldsBefore, numberAt, num
 use Rattle.component_tables.proofs.Loops.{fields-more, fields-none}
 
 pub keep-long : (p : ℕ → Bool) (i m : ℕ) → length (keep p (upFrom i m)) ≤ m
-unfolding keep upFrom
-keep-long p i zero = omega arith
-keep-long p i (suc m) = go (p i) (keep-long p (suc i) m)
-  where
-    go : (b : Bool) → length (keep p (upFrom (suc i) m)) ≤ m → length (cond b (i ∷ keep p (upFrom (suc i) m)) (keep p (upFrom (suc i) m))) ≤ suc m
-    go true h = omega arith
-    go false h = omega arith
+keep-long p i m = omega (arith, length-keep p (upFrom i m), length-up i m)
 
 module _ (cs : List Component) where
   pub atomic-known : (c : ℕ) → isAtomic cs c ≡ true → c < length cs
