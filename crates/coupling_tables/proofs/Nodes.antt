@@ -9,7 +9,8 @@ use borrow.Author.Tests.{lt-ltb, le-ltb}
 use Rattle.definition.specs.Limits.{maxComponents, portCount}
 use Rattle.definition.specs.Model.{Component, Coupling, noCoupling, isChild}
 use Rattle.definition.specs.Pinned.Decoder.{couplingFits}
-use Rattle.route_laws.proofs.Placed.{Kept, kept-at}
+use Rattle.route_laws.proofs.Placed.{kept-at}
+use Rattle.model_laws.proofs.WellFormed.{Kept}
 use Rattle.route_laws.proofs.PortNodes.{target-at, source-below}
 use Rattle.pull_laws.specs.Tables.{portNodes, inputNode, outputNode, sourceNumber, targetNumber, nodeComponent, isOutput}
 use Rattle.coupling_tables.specs.declared.End.the-variants.{Source, Target}

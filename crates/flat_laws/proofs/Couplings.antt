@@ -15,7 +15,7 @@ use Rattle.definition.specs.Pinned.Decoder.{couplingFields, related}
 use Rattle.definition.specs.Limits.{portCount}
 use Rattle.laws.proofs.Tests.{clash, and-left, and-right, and-true}
 use Rattle.nest_laws.proofs.Kin.{par, Rooted}
-use Rattle.route_laws.proofs.Placed.{kept}
+use Rattle.model_laws.proofs.WellFormed.{kept}
 
 -- ---- the couplings of a sound model
 

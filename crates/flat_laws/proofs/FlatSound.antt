@@ -20,13 +20,12 @@ use Rattle.definition.specs.Bytes.{numberAt, littleEndian, bytesOf, laidOut}
 use Rattle.laws.proofs.Sorting.{rises-sort, coupling-order}
 use Rattle.laws.proofs.Tests.{clash, and-left, and-right, and-true, or-right}
 use Rattle.laws.proofs.Lists.{all-if, all-map, all-perm, map-cong-if, length-perm, sort-permutes, getD-map, all-at}
-use Rattle.model_laws.proofs.WellFormed.{WellFormed, ComponentsFit, Checked}
+use Rattle.model_laws.proofs.WellFormed.{WellFormed, ComponentsFit, Checked, kept}
 use Rattle.model_laws.proofs.PhaseRange.{length-bounds}
 use Rattle.model_laws.proofs.Codec.{le-bytes}
 use Rattle.nest_laws.proofs.Renumber.{listed-atomic, new-root, new-atomic, new-eqb}
 use Rattle.flat_laws.proofs.FlatComponents.{listed-cases, flat-length, flat-bounds, new-low, new-byte, flat-kind, flat-parent, flat-phases, components-checked}
 use Rattle.flat_laws.proofs.RouteEnds.{routeFits, routes-fit, route-parts}
-use Rattle.route_laws.proofs.Placed.{kept}
 
 -- records changed so that their bytes still keep them
 held-map : {A : Type 0} (f g : A → A) → ((a : A) → f a ≡ a → f (g a) ≡ g a) → (xs : List A) → map f xs ≡ xs → map f (map g xs) ≡ map g xs

@@ -20,14 +20,13 @@ use Rattle.laws.proofs.Tests.{clash, and-left, and-right}
 use Rattle.laws.proofs.Sums.{sumOf, sum-append, sum-map, sum-concat, sum-add, sum-cong, sum-swap, sum-if}
 use Rattle.laws.proofs.Bags.{points-perm}
 use Rattle.laws.proofs.Lists.{sum-cong-if, count-none, count-sum}
-use Rattle.model_laws.proofs.WellFormed.{WellFormed, couplings-fit}
+use Rattle.model_laws.proofs.WellFormed.{WellFormed, couplings-fit, kept}
 use Rattle.nest_laws.proofs.Occurs.{once-up, pick-none, pick-one}
 use Rattle.nest_laws.proofs.Kin.{Rooted}
 use Rattle.nest_laws.proofs.Components.{rooted, atomic-once, atomics-atomic, partsOfRoot, tree-shape}
 use Rattle.nest_laws.proofs.Renumber.{isListed}
 use Rattle.flat_laws.proofs.FlatComponents.{listed-cases}
 use Rattle.flat_laws.proofs.Couplings.{not-self}
-use Rattle.route_laws.proofs.Placed.{kept}
 
 -- ---- a weight over the routes, as one over the couplings
 

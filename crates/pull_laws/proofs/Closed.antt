@@ -15,9 +15,8 @@ use Rattle.definition.specs.Model.{Bag, Coupling, Model, Phase, noPhase, isChil
 use Rattle.definition.specs.Pinned.Decoder.{couplingFields}
 use Rattle.laws.proofs.Tests.{clash, and-left, and-right, and-true, or-none}
 use Rattle.laws.proofs.Lists.{all-and, all-if}
-use Rattle.model_laws.proofs.WellFormed.{WellFormed}
+use Rattle.model_laws.proofs.WellFormed.{WellFormed, kept}
 use Rattle.pull_laws.specs.Put.{valuesOn}
-use Rattle.route_laws.proofs.Placed.{kept}
 use Rattle.pull_laws.specs.Tables.{nodeComponent, nodePort, atomicNode}
 use Rattle.pull_laws.specs.TableStep.{anyOf, isUp, mayCome, isOpen, sentBy}
 use Rattle.pull_laws.specs.Tabled.{Tabled, isLive, mayLead}

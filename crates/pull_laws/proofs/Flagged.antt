@@ -18,14 +18,13 @@ use Rattle.definition.specs.SavedRun.{Entry, dueOf, dueAt}
 use Rattle.definition.specs.Flatten.{placeIn}
 use Rattle.laws.proofs.Tests.{clash, and-left, and-right}
 use Rattle.laws.proofs.Lists.{all-and, all-if}
-use Rattle.model_laws.proofs.WellFormed.{WellFormed}
+use Rattle.model_laws.proofs.WellFormed.{WellFormed, kept}
 use Rattle.nest_laws.proofs.Kin.{par}
 use Rattle.nest_laws.proofs.Places.{place-below, place-at}
 use Rattle.nest_laws.proofs.Components.{atomic-below, atomic-once, rooted}
 use Rattle.nest_laws.proofs.Nest.{due, outOf, outDue}
 use Rattle.clock.specs.Times.{latest}
 use Rattle.run_state.specs.declared.State.{State}
-use Rattle.route_laws.proofs.Placed.{kept}
 use Rattle.pull_laws.specs.Tables.{nodeComponent, nodePort, numbersAt, parentsAt, countAt}
 use Rattle.pull_laws.specs.Put.{valuesOn}
 use Rattle.pull_laws.specs.TableStep.{anyOf, isUp, recordOf, markOf, marked, raised, marks, mayCome, reached, sentBy}

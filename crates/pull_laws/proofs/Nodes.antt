@@ -20,7 +20,7 @@ use Rattle.nest_laws.proofs.Nest.{outDue}
 use Rattle.pull_laws.specs.Pull.{coupledOut, inputIn}
 use Rattle.pull_laws.specs.Put.{valuesOn}
 use Rattle.route_laws.specs.Ways.{Rising}
-use Rattle.route_laws.proofs.Placed.{kept}
+use Rattle.model_laws.proofs.WellFormed.{kept}
 
 -- A port of a component, for its output or its input.
 pub record Node : Type 0 where

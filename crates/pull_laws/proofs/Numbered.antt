@@ -15,8 +15,7 @@ use Rattle.definition.specs.Model.{Component, Coupling, Model, isAtomic, isChil
 use Rattle.definition.specs.Pinned.Decoder.{couplingFields}
 use Rattle.laws.proofs.Tests.{and-left, and-right, and-true, eqb-sym}
 use Rattle.laws.proofs.Lists.{all-if, all-and, all-every, all-keep, all-map, map-cong-if}
-use Rattle.model_laws.proofs.WellFormed.{WellFormed, couplings-fit}
-use Rattle.route_laws.proofs.Placed.{kept}
+use Rattle.model_laws.proofs.WellFormed.{WellFormed, couplings-fit, kept}
 use Rattle.route_laws.proofs.PortNodes.{inputs-same, outputs-same, input-output, output-input}
 use Rattle.route_laws.specs.Nodes.{portNodes, inputNode, outputNode, sourceNumber, targetNumber}
 use Rattle.pull_laws.specs.Tables.{nodeComponent, nodePort, isOutput, isRootNode, kindsAt, chainRows, atomicAt, atomicNode}

@@ -19,8 +19,7 @@ use Rattle.definition.specs.Devs.{translateOne, translate}
 use Rattle.definition.specs.SavedRun.{Entry}
 use Rattle.laws.proofs.Tests.{and-left, and-right, and-true}
 use Rattle.laws.proofs.Lists.{all-append, all-take, all-map, all-getD}
-use Rattle.model_laws.proofs.WellFormed.{WellFormed}
-use Rattle.route_laws.proofs.Placed.{kept}
+use Rattle.model_laws.proofs.WellFormed.{WellFormed, kept}
 use Rattle.nest_laws.proofs.Paths.{translate-ports}
 use Rattle.nest_laws.proofs.Nest.{due, outOf, outTo, bagAt, bagAtAll, outDue}
 use Rattle.pull_laws.specs.Pull.{joined, childOut, coupledOut, sourceIn, inputIn}

@@ -9,12 +9,13 @@ use lib.Dec.{ltb, eqb}
 use lib.ListN.{length, getD}
 use borrow.Author.Tests.{ltb-true, eqb-true, eqb-false, ne-eqb}
 use Rattle.definition.specs.Lists.{all, lexLe}
-use Rattle.definition.specs.Limits.{portCount, maxAncestors}
+use Rattle.definition.specs.Limits.{maxAncestors}
 use Rattle.definition.specs.Model.{Component, Coupling, componentAt, noCoupling, isAtomic, isChild, couplingLe, couplingRow}
-use Rattle.definition.specs.Pinned.Decoder.{kindFields, rootWithin, placeFits, componentFits, related, couplingFields, notFalling, couplingFits}
+use Rattle.definition.specs.Pinned.Decoder.{kindFields, rootWithin, placeFits, componentFits, couplingFields, notFalling, couplingFits}
 use Rattle.laws.proofs.Tests.{clash, and-left, and-right}
 use Rattle.laws.proofs.Lists.{all-places}
 use Rattle.route_laws.specs.Ways.{Rising}
+use Rattle.model_laws.proofs.WellFormed.{Kept, kept}
 
 -- ---- components
 
@@ -40,32 +41,6 @@ module _ (cs : List Component) (fit : (i : ℕ) → i < length cs → componentF
   coupled-parents c d e l = let a = child-of c d e in rw (← a .1) (parents d (a .0) l .1)
 
 -- ---- couplings
-
-pub record Kept (cs : List Component) (k : Coupling) : Type 0 where
-  pub source : k .source < length cs
-  pub target : k .target < length cs
-  pub source-port : k .sourcePort < portCount
-  pub target-port : k .targetPort < portCount
-  pub kin : related cs (k .source) (k .target) ≡ true
-
-pub kept : (cs : List Component) (k : Coupling) → couplingFields cs k ≡ true → Kept cs k
-unfolding couplingFields
-kept cs k e =
-    let a = ltb (k .source) (length cs) in
-    let b = ltb (k .target) (length cs) in
-    let c = ltb (k .sourcePort) portCount in
-    let d = ltb (k .targetPort) portCount in
-    let r = related cs (k .source) (k .target) in
-    let abcd = and-left (a && b && c && d) r e in
-    let abc = and-left (a && b && c) d abcd in
-    let ab = and-left (a && b) c abc in
-    record {
-      source = ltb-true _ _ (and-left a b ab);
-      target = ltb-true _ _ (and-right a b ab);
-      source-port = ltb-true _ _ (and-right (a && b) c abc);
-      target-port = ltb-true _ _ (and-right (a && b && c) d abcd);
-      kin = and-right (a && b && c && d) r e;
-    }
 
 le-source : (k l : Coupling) → couplingLe k l ≡ true → k .source ≤ l .source
 unfolding couplingLe couplingRow lexLe

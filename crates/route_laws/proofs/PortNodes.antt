@@ -11,7 +11,7 @@ use Rattle.definition.specs.Model.{Component, Coupling, isAtomic, isChild}
 use Rattle.laws.proofs.Tests.{clash, and-left}
 use Rattle.route_laws.specs.Nodes.{portNodes, inputNode, outputNode, sourceNumber, targetNumber}
 use Rattle.route_laws.specs.Ways.{down, up, waysOn, endAt}
-use Rattle.route_laws.proofs.Placed.{Kept}
+use Rattle.model_laws.proofs.WellFormed.{Kept}
 
 -- ---- nodes told apart
 

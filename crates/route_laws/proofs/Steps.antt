@@ -20,7 +20,7 @@ use Rattle.route_laws.specs.Ways.{down, up, waysOn, endAt, Rising}
 use Rattle.route_laws.proofs.Counts.{leads}
 use Rattle.route_laws.proofs.Nests.{down-step}
 use Rattle.route_laws.proofs.Routed.{up-root, up-by-coupling}
-use Rattle.route_laws.proofs.Placed.{Kept, kept}
+use Rattle.model_laws.proofs.WellFormed.{Kept, kept}
 use Rattle.route_laws.proofs.PortNodes.{inputs-same, outputs-same, input-output, output-input, node-in, node-out, ways-input, ways-output, end-input, end-output}
 
 -- ---- one coupling

@@ -11,7 +11,8 @@ use Rattle.definition.specs.Pinned.Decoder.{couplingFits}
 use Rattle.laws.proofs.Tests.{clash}
 use Rattle.route_laws.specs.Nodes.{sourceNumber, targetNumber}
 use Rattle.route_laws.specs.Ways.{Rising}
-use Rattle.route_laws.proofs.Placed.{Kept, by-source}
+use Rattle.route_laws.proofs.Placed.{by-source}
+use Rattle.model_laws.proofs.WellFormed.{Kept}
 use Rattle.pull_laws.specs.Tables.{nodeComponent, isOutput}
 use Rattle.coupling_tables.specs.declared.End.the-variants.{Source, Target}
 use Rattle.coupling_tables.specs.Links.{linkEnd}

@@ -12,7 +12,8 @@ use Rattle.definition.specs.Model.{Component, Coupling, noCoupling, isChild}
 use Rattle.route_laws.specs.Nodes.{portNodes, sourceNumber, targetNumber}
 use Rattle.route_laws.specs.Ways.{endAt, Counted, Placed}
 use Rattle.route_laws.specs.Taken.{taken, takenDown, takenUp, Filled, downFrom, upTo}
-use Rattle.route_laws.proofs.Placed.{Kept, kept-at}
+use Rattle.route_laws.proofs.Placed.{kept-at}
+use Rattle.model_laws.proofs.WellFormed.{Kept}
 use Rattle.route_laws.proofs.Passes.{down-start, down-turn, up-start, up-turn, up-end}
 use Rattle.table_words.specs.Writes.{column}
 use Rattle.table_words.proofs.Columns.{column-within, column-rows}

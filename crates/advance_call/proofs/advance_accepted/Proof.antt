@@ -10,7 +10,7 @@ use Rattle.model.specs.Checked.{modelOf}
 use Rattle.model_records.specs.Values.{componentsIn}
 use Rattle.saved_run.specs.Runs.{bare}
 use Rattle.run_calls.proofs.Starts.{few-components}
-use Rattle.reading.proofs.Whole.{not-true, not-false}
+use borrow.Author.Tests.{not-true, not-false}
 use Rattle.reading.proofs.Answering.{fits-file, count-file}
 use Rattle.advance_call.proofs.Checks.{run-unfit, too-early, too-late, bag-unfit, let-in}
 use Rattle.advance_call.proofs.Whole.{opens-after, opens-by}

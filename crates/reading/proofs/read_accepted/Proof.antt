@@ -2,7 +2,7 @@
 -- (`answered`, `read-done`).
 use borrow.Author.Needs.{needs}
 use native.Mathlib.Omega.{arith}
-use Rattle.reading.proofs.Whole.{not-true, not-false}
+use borrow.Author.Tests.{not-true, not-false}
 use Rattle.model_tables.proofs.Accepted.{few-atomics}
 use Rattle.reading.proofs.Answering.{fits-file, count-file, read-unfit, read-past, read-done, answered}
 use Rattle.run_calls.proofs.Starts.{few-components}
