@@ -215,7 +215,7 @@ pub fn advance(file: &[u8], run: &mut [u8], t: u64, bag: &[u8], trace: &mut [u8]
     let counted = model_tables::open_model(file, &mut tables);
     let checked = counted.checked;
     let Checked::Accepted(n) = checked else {
-        return refused(wide16(model::checked_number(checked)));
+        return refused(wide16(checked.refusal()));
     };
     advance_accepted(file, n, counted.routes, &tables, run, t, bag, trace)
 }

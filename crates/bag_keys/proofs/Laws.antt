@@ -7,7 +7,7 @@ use native.Mathlib.Omega.{arith}
 use native.Mathlib.Nat.{add-zero}
 use native.Mathlib.Numerals.{add-one}
 use lib.Dec.{eqb}
-use lib.ListN.{length, take, drop, getD, length-take}
+use lib.ListN.{length, drop, getD, length-take}
 use lib.Seq.{drop-cons, drop-length, getD-take}
 use Rattle.definition.specs.Bytes.{Bytes, numberAt}
 use Rattle.definition.specs.Limits.{messageSize}
@@ -15,11 +15,10 @@ use Rattle.definition.specs.Model.{Message, Bag, noMessage, noPhase, slots, out
 use Rattle.definition.specs.Records.{messageAt}
 use Rattle.definition.specs.Pinned.Decoder.{toPhase}
 use Rattle.definition.specs.Engine.{toBag}
-use Rattle.byte_laws.specs.Parts.{recordsIn}
+use Rattle.byte_laws.specs.Parts.{recordsIn, row}
 use Rattle.byte_laws.proofs.Rows.{number-row}
 use Rattle.byte_laws.proofs.Records.{record-in, record-out}
 use Rattle.model_records.specs.Values.{phasesIn}
-use Rattle.model_records.proofs.Fields.{record-cut}
 use Rattle.pull_laws.specs.Put.{put1, puts, valuesOn}
 use Rattle.bag_keys.specs.Sent.{wantedValue}
 use Rattle.model_laws.proofs.Codec.{bag-length}
@@ -82,10 +81,10 @@ pub slot-more : (r : Bytes) (q port j : ℕ) (st : List ℕ × ℕ) → j < leng
     ≡ puts port (valuesOn q (drop j (outputs (toPhase r)))) st
 slot-more r q port j st h = bag-more (outputs (toPhase r)) q port j st _ h (output-at r j h)
 
--- The record cut out of the slice is the phase of that number.
-pub sent-in : (s : Bytes) (i : ℕ) → i < length s / 18 → toPhase (take (18 * i + 18 - 18 * i) (drop (18 * i) s)) ≡ getD (phasesIn s) i noPhase
+-- The bytes of a record are the phase of its number.
+pub sent-in : (s : Bytes) (i : ℕ) {bytes : Bytes} → i < length s / 18 → bytes ≡ row 18 i s → toPhase bytes ≡ getD (phasesIn s) i noPhase
 unfolding phasesIn
-sent-in s i h = record-cut 18 toPhase s i noPhase h
+sent-in s i h e = rw e (sym (record-in 18 toPhase s i noPhase h))
 
 pub sent-out : (s : Bytes) (q i port : ℕ) (st : List ℕ × ℕ) → length s / 18 ≤ i → puts port (valuesOn q (outputs (getD (phasesIn s) i noPhase))) st ≡ st
 unfolding phasesIn noPhase outputs valuesOn puts

@@ -67,8 +67,7 @@ fn put_slots(phase: &[u8], q: u8, own: u8, buf: &mut [u32], at: usize) -> usize
     next
 }
 
-// What an atomic with this mark puts out on port q. Its phase record is cut out as a slice of a known length, so that a field is read
-// without a test of where the slice ends.
+// What an atomic with this mark puts out on port q.
 pub fn put_sent(phases: &[u8], mark: u32, q: u8, own: u8, buf: &mut [u32], at: usize) -> usize
     ensures { λ r. ⌜ (now (buf .exit), r) ≡ puts own (sentOn (phasesIn (now (phases .entry))) mark q) (now (buf .entry), at) ⌝ }
 {
@@ -79,8 +78,7 @@ pub fn put_sent(phases: &[u8], mark: u32, q: u8, own: u8, buf: &mut [u32], at: u
     if phases.len() / PHASE_SIZE <= i {
         return at;
     }
-    let from = PHASE_SIZE * i;
-    let phase = &phases[from..from + PHASE_SIZE];
+    let phase = model_records::record_bytes(phases, PHASE_SIZE, i);
     put_slots(phase, q, own, buf, at)
 }
 

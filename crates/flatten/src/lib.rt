@@ -76,7 +76,7 @@ pub fn flatten(file: &[u8], out: &mut [u8]) -> Written
     let checked = counted.checked;
     let Checked::Accepted(n) = checked else {
         return Written {
-            number: wide16(model::checked_number(checked)),
+            number: wide16(checked.refusal()),
             bytes: 0,
         };
     };

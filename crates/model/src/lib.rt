@@ -10,7 +10,6 @@ use limits::PHASE_SIZE;
 use limits::RULE_SIZE;
 use model_sections::SectionRead;
 use model_sections::section_part;
-use model_sections::section_refusal;
 use model_sections::section_rest;
 
 // How many records each section has.
@@ -26,12 +25,14 @@ pub enum Checked {
     Refused(u16),
 }
 
-pub fn checked_number(r: Checked) -> u16
-    ensures { λ n. ⌜ n ≡ checkedNumber r ⌝ }
-{
-    match r {
-        Checked::Accepted(_) => 0,
-        Checked::Refused(n) => n,
+impl Checked {
+    pub fn refusal(self) -> u16
+        ensures { λ r. ⌜ r ≡ checkedNumber self ⌝ }
+    {
+        match self {
+            Checked::Accepted(_) => 0,
+            Checked::Refused(number) => number,
+        }
     }
 }
 
@@ -43,23 +44,23 @@ pub fn decode_model(file: &[u8]) -> Checked
     let mut phase_counts = [0u8; MAX_COMPONENTS];
     let first = model_sections::read_components(file, &mut parents, &mut phase_counts);
     let SectionRead::Are(components) = first else {
-        return Checked::Refused(section_refusal(first));
+        return Checked::Refused(first.refusal());
     };
-    let owners = section_part(file, components, COMPONENT_SIZE);
+    let component_records = section_part(file, components, COMPONENT_SIZE);
     let after_components = section_rest(file, components, COMPONENT_SIZE);
-    let second = model_sections::read_phases(owners, &phase_counts, after_components);
+    let second = model_sections::read_phases(component_records, &phase_counts, after_components);
     let SectionRead::Are(phases) = second else {
-        return Checked::Refused(section_refusal(second));
+        return Checked::Refused(second.refusal());
     };
     let after_phases = section_rest(after_components, phases, PHASE_SIZE);
-    let third = model_sections::read_rules(owners, &phase_counts, after_phases);
+    let third = model_sections::read_rules(component_records, &phase_counts, after_phases);
     let SectionRead::Are(rules) = third else {
-        return Checked::Refused(section_refusal(third));
+        return Checked::Refused(third.refusal());
     };
     let after_rules = section_rest(after_phases, rules, RULE_SIZE);
-    let fourth = model_sections::read_couplings(owners, &parents, after_rules);
+    let fourth = model_sections::read_couplings(component_records, &parents, after_rules);
     let SectionRead::Are(couplings) = fourth else {
-        return Checked::Refused(section_refusal(fourth));
+        return Checked::Refused(fourth.refusal());
     };
     let end = section_rest(after_rules, couplings, COUPLING_SIZE);
     if 0 < end.len() {
@@ -75,44 +76,44 @@ pub fn decode_model(file: &[u8]) -> Checked
 
 // ---- the parts of a file with so many records
 
-fn after_components<'a>(file: &'a [u8], n: Counts) -> &'a [u8]
-    ensures { λ r. ⌜ now r ≡ afterComponents (now (file .entry)) n ⌝ }
+fn after_components<'a>(file: &'a [u8], counts: Counts) -> &'a [u8]
+    ensures { λ r. ⌜ now r ≡ afterComponents (now (file .entry)) counts ⌝ }
 {
-    section_rest(file, n.components, COMPONENT_SIZE)
+    section_rest(file, counts.components, COMPONENT_SIZE)
 }
 
-fn after_phases<'a>(file: &'a [u8], n: Counts) -> &'a [u8]
-    ensures { λ r. ⌜ now r ≡ afterPhases (now (file .entry)) n ⌝ }
+fn after_phases<'a>(file: &'a [u8], counts: Counts) -> &'a [u8]
+    ensures { λ r. ⌜ now r ≡ afterPhases (now (file .entry)) counts ⌝ }
 {
-    section_rest(after_components(file, n), n.phases, PHASE_SIZE)
+    section_rest(after_components(file, counts), counts.phases, PHASE_SIZE)
 }
 
-fn after_rules<'a>(file: &'a [u8], n: Counts) -> &'a [u8]
-    ensures { λ r. ⌜ now r ≡ afterRules (now (file .entry)) n ⌝ }
+fn after_rules<'a>(file: &'a [u8], counts: Counts) -> &'a [u8]
+    ensures { λ r. ⌜ now r ≡ afterRules (now (file .entry)) counts ⌝ }
 {
-    section_rest(after_phases(file, n), n.rules, RULE_SIZE)
+    section_rest(after_phases(file, counts), counts.rules, RULE_SIZE)
 }
 
-pub fn components_of<'a>(file: &'a [u8], n: Counts) -> &'a [u8]
-    ensures { λ r. ⌜ now r ≡ componentsPart (now (file .entry)) n ⌝ }
+pub fn components_of<'a>(file: &'a [u8], counts: Counts) -> &'a [u8]
+    ensures { λ r. ⌜ now r ≡ componentsPart (now (file .entry)) counts ⌝ }
 {
-    section_part(file, n.components, COMPONENT_SIZE)
+    section_part(file, counts.components, COMPONENT_SIZE)
 }
 
-pub fn phases_of<'a>(file: &'a [u8], n: Counts) -> &'a [u8]
-    ensures { λ r. ⌜ now r ≡ phasesPart (now (file .entry)) n ⌝ }
+pub fn phases_of<'a>(file: &'a [u8], counts: Counts) -> &'a [u8]
+    ensures { λ r. ⌜ now r ≡ phasesPart (now (file .entry)) counts ⌝ }
 {
-    section_part(after_components(file, n), n.phases, PHASE_SIZE)
+    section_part(after_components(file, counts), counts.phases, PHASE_SIZE)
 }
 
-pub fn rules_of<'a>(file: &'a [u8], n: Counts) -> &'a [u8]
-    ensures { λ r. ⌜ now r ≡ rulesPart (now (file .entry)) n ⌝ }
+pub fn rules_of<'a>(file: &'a [u8], counts: Counts) -> &'a [u8]
+    ensures { λ r. ⌜ now r ≡ rulesPart (now (file .entry)) counts ⌝ }
 {
-    section_part(after_phases(file, n), n.rules, RULE_SIZE)
+    section_part(after_phases(file, counts), counts.rules, RULE_SIZE)
 }
 
-pub fn couplings_of<'a>(file: &'a [u8], n: Counts) -> &'a [u8]
-    ensures { λ r. ⌜ now r ≡ couplingsPart (now (file .entry)) n ⌝ }
+pub fn couplings_of<'a>(file: &'a [u8], counts: Counts) -> &'a [u8]
+    ensures { λ r. ⌜ now r ≡ couplingsPart (now (file .entry)) counts ⌝ }
 {
-    section_part(after_rules(file, n), n.couplings, COUPLING_SIZE)
+    section_part(after_rules(file, counts), counts.couplings, COUPLING_SIZE)
 }

@@ -12,7 +12,7 @@ use Rattle.definition.specs.Bytes.{ok, refused}
 use Rattle.definition.specs.Model.{Component, Coupling, componentAt, noCoupling}
 use Rattle.definition.specs.Pinned.Decoder.{rootWithin, notFalling}
 use Rattle.sort.proofs.Keys.{coupling-key-order}
-use Rattle.model_checks.specs.Reads.{rowOf, checked}
+use Rattle.model_checks.specs.Reads.{couplingOfKey, checked}
 use Rattle.model_checks.specs.Known.{Behind}
 
 pub keeps : {A : Type 0} (b : Bool) (n : ℕ) (a : A) → b ≡ true → checked b n a ≡ ok a
@@ -47,10 +47,10 @@ root-up (suc n) cs c l h = let e : suc n - 1 ≡ n = omega arith in rw (ne-eqb c
 
 -- ---- the row before
 
-pub behind-falls : (ks : List Coupling) (i before key : ℕ) → Behind ks i before → rowOf key ≡ getD ks i noCoupling → notFalling ks i ≡ leb before key
+pub behind-falls : (ks : List Coupling) (i before key : ℕ) → Behind ks i before → couplingOfKey key ≡ getD ks i noCoupling → notFalling ks i ≡ leb before key
 unfolding notFalling
 behind-falls ks zero before key h e = rw h (sym (le-leb 0 key (omega arith)))
 behind-falls ks (suc i) before key h e = rw (← h, ← e) (coupling-key-order before key)
 
-pub behind-next : (ks : List Coupling) (i key : ℕ) → rowOf key ≡ getD ks i noCoupling → Behind ks (i + 1) key
+pub behind-next : (ks : List Coupling) (i key : ℕ) → couplingOfKey key ≡ getD ks i noCoupling → Behind ks (i + 1) key
 behind-next ks i key e = rw (add-one i) e

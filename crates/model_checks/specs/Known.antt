@@ -2,11 +2,11 @@
 -- record. Assumes nothing.
 use mathlib.Core.Path.{_≡_}
 use mathlib.Core.List.{List}
-use mathlib.Core.Bool.{true}
-use Prim.Native.Nat.{ℕ, zero, suc, _≤_, _<_}
-use lib.Dec.{leb}
-use lib.ListN.{length, getD}
-use Rattle.definition.specs.Limits.{maxComponents}
+use mathlib.Core.Bool.{true, cond}
+use Prim.Native.Nat.{ℕ, zero, suc, _+_, _≤_, _<_}
+use lib.Dec.{leb, eqb}
+use lib.ListN.{length, getD, set}
+use Rattle.definition.specs.Limits.{maxComponents, maxAncestors}
 use Rattle.definition.specs.Model.{Component, Coupling, componentAt, noCoupling}
 use Rattle.definition.specs.Pinned.Decoder.{rootWithin, componentFits}
 use Rattle.laws.specs.Keys as Keys
@@ -30,6 +30,34 @@ PhaseCounts cs n array = Each (λ c count. count ≡ componentAt cs c .phases) n
 abbrev pub Depths : List Component → ℕ → List ℕ → Type 0
 Depths cs n array = Each (λ c depth. (most : ℕ) → rootWithin most cs c ≡ leb depth most) n array
 
+-- ---- one more component
+
+-- Record i is the next to be read: it is there, and this is known of those before it.
+pub record Next (cs : List Component) (i : ℕ) (counts depths : List ℕ) : Type 0 where
+  pub there : i < length cs
+  pub accepted : Accepted cs i
+  pub counted : PhaseCounts cs i counts
+  pub deep : Depths cs i depths
+
+-- One more than its parent's depth; 0 for the root.
+abbrev pub depthOf : Component → ℕ → List ℕ → ℕ
+depthOf k i depths = cond (eqb i 0) 0 (getD depths (k .parent) 0 + 1)
+
+-- Each array has a place for component k, of number i, and its depth is a byte.
+pub record Keepable (k : Component) (i : ℕ) (parents counts depths : List ℕ) : Type 0 where
+  pub few : i < maxComponents
+  pub parentsRoom : length parents ≡ maxComponents
+  pub countsRoom : length counts ≡ maxComponents
+  pub depthsRoom : length depths ≡ maxComponents
+  pub below : (i ≡ 0 → ⊥) → k .parent < i
+  pub shallow : (i ≡ 0 → ⊥) → getD depths (k .parent) 0 < maxAncestors
+
+-- It is kept there.
+pub record Keeps (k : Component) (i : ℕ) (parents counts depths parents' counts' depths' : List ℕ) : Type 0 where
+  pub parent : parents' ≡ set parents i (k .parent)
+  pub count : counts' ≡ set counts i (k .phases)
+  pub depth : depths' ≡ set depths i (depthOf k i depths)
+
 -- ---- all components
 
 abbrev pub Counted : List Component → List ℕ → Type 0
@@ -38,9 +66,21 @@ Counted cs counts = Accepted cs (length cs) × PhaseCounts cs (length cs) counts
 abbrev pub Placed : List Component → List ℕ → Type 0
 Placed cs parents = Accepted cs (length cs) × Parents cs (length cs) parents
 
+-- Two components, and where all stand.
+pub record Two (cs : List Component) (source target : ℕ) (parents : List ℕ) : Type 0 where
+  pub fromThere : source < length cs
+  pub toThere : target < length cs
+  pub placed : Placed cs parents
+
 -- ---- couplings
 
 -- The key of the row before row i; the lowest key before the first.
 abbrev pub Behind : List Coupling → ℕ → ℕ → Type 0
 Behind ks zero key = key ≡ 0
 Behind ks (suc i) key = Keys.couplingOf key ≡ getD ks i noCoupling
+
+-- Row i is the next to be read, behind a row of that key.
+pub record NextRow (cs : List Component) (parents : List ℕ) (ks : List Coupling) (i before : ℕ) : Type 0 where
+  pub there : i < length ks
+  pub behind : Behind ks i before
+  pub placed : Placed cs parents

@@ -3,7 +3,7 @@
 use Prim.Native.Nat.{ℕ}
 use mathlib.Core.Bool.{Bool, not}
 use Rattle.definition.specs.Bytes.{Result, ok, refused, _>>=_, refuseIf}
-use Rattle.definition.specs.Model.{Component, Phase, Rule, Coupling}
+use Rattle.definition.specs.Model.{Component, Message, Phase, Rule, Coupling}
 use Rattle.model_records.specs.Values.{componentOf, phaseOf, ruleOf, couplingOf}
 use Rattle.laws.specs.Keys as Keys
 use Rattle.model_checks.specs.declared.ComponentRead as C
@@ -15,9 +15,12 @@ use Rattle.model_checks.specs.declared.RuleRead.the-variants as RV
 use Rattle.model_checks.specs.declared.CouplingRead as K
 use Rattle.model_checks.specs.declared.CouplingRead.the-variants as KV
 
--- The coupling whose row of four bytes a number spells.
-abbrev pub rowOf : ℕ → Coupling
-rowOf n = Keys.couplingOf n
+-- The message, and the coupling, that a key stands for.
+abbrev pub messageOfKey : ℕ → Message
+messageOfKey n = Keys.messageOf n
+
+abbrev pub couplingOfKey : ℕ → Coupling
+couplingOfKey n = Keys.couplingOf n
 
 -- The record where its lines are kept, or the number of those that are not.
 unfoldable pub checked : {A : Type 0} → Bool → ℕ → A → Result A

@@ -7,11 +7,13 @@ ghost use lib.ListN.{length, getD};
 ghost use Rattle.definition.specs.Bytes.{numberOf};
 ghost use Rattle.definition.specs.Limits.{maxOutputs};
 ghost use Rattle.definition.specs.Model.{noPhase, noRule, noCoupling, componentAt};
-ghost use Rattle.definition.specs.Pinned.Decoder.{kindFields, componentFits, advanceFits, usedFit, unusedFit, phaseFields, ruleFields, related, couplingFields, couplingFits};
-ghost use Rattle.model_records.specs.Values.{componentOf, phaseOf, ruleOf, couplingOf, componentsIn, phasesIn, rulesIn, couplingsIn};
-ghost use Rattle.laws.specs.Keys.{messageOf};
-ghost use Rattle.model_checks.specs.Reads.{rowOf, checked, componentRead, phaseRead, ruleRead, couplingRead};
-ghost use Rattle.model_checks.specs.Known.{Accepted, Parents, PhaseCounts, Depths, Counted, Placed, Behind};
+ghost use Rattle.definition.specs.Pinned.Decoder.{kindFields, componentFits, advanceFits, phaseFields, ruleFields, related, couplingFields, couplingFits};
+ghost use Rattle.model_records.specs.Values.{componentOf, ruleOf, couplingOf, componentsIn, phasesIn, rulesIn, couplingsIn};
+ghost use Rattle.model_checks.specs.Reads.{couplingOfKey, checked, componentRead, phaseRead, ruleRead, couplingRead};
+ghost use Rattle.model_checks.specs.Known.{Next, Keepable, Keeps, Counted, Placed, Two, NextRow};
+
+mod phase_slots;
+
 use limits::MAX_ADVANCE;
 use limits::MAX_ANCESTORS;
 use limits::MAX_COMPONENTS;
@@ -20,15 +22,12 @@ use limits::MAX_OWN_PHASES;
 use limits::NEVER_FIELD;
 use limits::PORT_COUNT;
 use little_endian::size;
-use little_endian::size16;
 use model_records::Component;
 use model_records::Coupling;
 use model_records::Phase;
 use model_records::Rule;
 use model_records::component_in;
-
-// Keys of messages with a port lie below this one.
-const KEYS_END: usize = 262144;
+use phase_slots::slots_fit;
 
 // ---- the answers; a number is one byte, since one that is laid over two fields of a record makes the compiler join these
 
@@ -37,9 +36,31 @@ pub enum ComponentRead {
     Refused(u8),
 }
 
+impl ComponentRead {
+    pub fn refusal(self) -> u16
+        ensures { λ r. ⌜ r ≡ numberOf (componentRead self) ⌝ }
+    {
+        match self {
+            ComponentRead::Is(_) => 0,
+            ComponentRead::Refused(number) => number as u16,
+        }
+    }
+}
+
 pub enum PhaseRead {
     Is(Phase),
     Refused(u8),
+}
+
+impl PhaseRead {
+    pub fn refusal(self) -> u16
+        ensures { λ r. ⌜ r ≡ numberOf (phaseRead self) ⌝ }
+    {
+        match self {
+            PhaseRead::Is(_) => 0,
+            PhaseRead::Refused(number) => number as u16,
+        }
+    }
 }
 
 pub enum RuleRead {
@@ -47,46 +68,71 @@ pub enum RuleRead {
     Refused(u8),
 }
 
+impl RuleRead {
+    pub fn refusal(self) -> u16
+        ensures { λ r. ⌜ r ≡ numberOf (ruleRead self) ⌝ }
+    {
+        match self {
+            RuleRead::Is(_) => 0,
+            RuleRead::Refused(number) => number as u16,
+        }
+    }
+}
+
 pub enum CouplingRead {
     Is(Coupling),
     Refused(u8),
 }
 
-// ---- components
-
-fn kind_fields(k: Component) -> bool
-    ensures { λ r. ⌜ r ≡ kindFields (componentOf k) ⌝ }
-{
-    if k.kind == 0 {
-        return (k.phases == 0) & (k.initial == 0) & (k.order == 0);
+impl CouplingRead {
+    pub fn refusal(self) -> u16
+        ensures { λ r. ⌜ r ≡ numberOf (couplingRead self) ⌝ }
+    {
+        match self {
+            CouplingRead::Is(_) => 0,
+            CouplingRead::Refused(number) => number as u16,
+        }
     }
-    (k.kind == 1)
-        & ((1 <= k.phases) & (k.phases <= MAX_OWN_PHASES) & (k.initial < k.phases) & (k.order <= 1))
 }
 
-// Record i, given what is known of those before it. A parent without phases is coupled.
+// ---- components
+
+fn kind_fields(component: Component) -> bool
+    ensures { λ r. ⌜ r ≡ kindFields (componentOf component) ⌝ }
+{
+    if component.kind == 0 {
+        return (component.phases == 0) & (component.initial == 0) & (component.order == 0);
+    }
+    (component.kind == 1)
+        & ((1 <= component.phases)
+            & (component.phases <= MAX_OWN_PHASES)
+            & (component.initial < component.phases)
+            & (component.order <= 1))
+}
+
+// Record i, given what is known of those before it, which are accepted: so a parent without phases is coupled, since an atomic that is
+// accepted has a phase.
 fn component_fits(
     components: &[u8],
     i: usize,
     phase_counts: &[u8; MAX_COMPONENTS],
     depths: &[u8; MAX_COMPONENTS],
 ) -> bool
-    requires { ⌜ (i < length (componentsIn (now components))) × Accepted (componentsIn (now components)) i × PhaseCounts (componentsIn (now components)) i (now «phase_counts»)
-        × Depths (componentsIn (now components)) i (now depths) ⌝ }
+    requires { ⌜ Next (componentsIn (now components)) i (now «phase_counts») (now depths) ⌝ }
     ensures { λ r. ⌜ r ≡ componentFits (componentsIn (now (components .entry))) i ⌝ }
 {
-    let k = component_in(components, i);
+    let component = component_in(components, i);
     if i == 0 {
-        return kind_fields(k) & ((k.kind == 0) & (k.parent == 0));
+        return kind_fields(component) & ((component.kind == 0) & (component.parent == 0));
     }
-    let parent = size(k.parent);
+    let parent = size(component.parent);
     if i <= parent {
         return false;
     }
     if !((phase_counts[parent] == 0) & (size(depths[parent]) < MAX_ANCESTORS)) {
         return false;
     }
-    kind_fields(k)
+    kind_fields(component)
 }
 
 pub fn read_component(
@@ -95,8 +141,7 @@ pub fn read_component(
     phase_counts: &[u8; MAX_COMPONENTS],
     depths: &[u8; MAX_COMPONENTS],
 ) -> ComponentRead
-    requires { ⌜ (i < length (componentsIn (now components))) × Accepted (componentsIn (now components)) i × PhaseCounts (componentsIn (now components)) i (now «phase_counts»)
-        × Depths (componentsIn (now components)) i (now depths) ⌝ }
+    requires { ⌜ Next (componentsIn (now components)) i (now «phase_counts») (now depths) ⌝ }
     ensures { λ r. ⌜ componentRead r ≡ checked (componentFits (componentsIn (now (components .entry))) i) 4 (componentAt (componentsIn (now (components .entry))) i) ⌝ }
 {
     if component_fits(components, i, phase_counts, depths) {
@@ -106,87 +151,35 @@ pub fn read_component(
     }
 }
 
-// What is known of accepted component i is kept beside what is known of those before it.
+// What is known of component i, once it is accepted, is kept beside what is known of those before it.
 pub fn keep_component(
-    components: &[u8],
+    component: Component,
     i: usize,
     parents: &mut [u8; MAX_COMPONENTS],
     phase_counts: &mut [u8; MAX_COMPONENTS],
     depths: &mut [u8; MAX_COMPONENTS],
 )
-    requires { ⌜ (i < length (componentsIn (now components))) × Accepted (componentsIn (now components)) (i + 1) × Parents (componentsIn (now components)) i (now parents)
-        × PhaseCounts (componentsIn (now components)) i (now «phase_counts») × Depths (componentsIn (now components)) i (now depths) ⌝ }
-    ensures { λ _. ⌜ Parents (componentsIn (now (components .entry))) (i + 1) (now (parents .exit))
-        × PhaseCounts (componentsIn (now (components .entry))) (i + 1) (now («phase_counts» .exit)) × Depths (componentsIn (now (components .entry))) (i + 1) (now (depths .exit)) ⌝ }
+    requires { ⌜ Keepable (componentOf component) i (now parents) (now «phase_counts») (now depths) ⌝ }
+    ensures { λ _. ⌜ Keeps (componentOf component) i (now (parents .entry)) (now («phase_counts» .entry)) (now (depths .entry)) (now (parents .exit)) (now («phase_counts» .exit)) (now (depths .exit)) ⌝ }
 {
-    let k = component_in(components, i);
-    parents[i] = k.parent;
-    phase_counts[i] = k.phases;
+    parents[i] = component.parent;
+    phase_counts[i] = component.phases;
     if i == 0 {
         depths[i] = 0;
         return;
     }
-    depths[i] = depths[size(k.parent)] + 1;
-}
-
-pub fn component_refusal(r: ComponentRead) -> u16
-    ensures { λ n. ⌜ n ≡ numberOf (componentRead r) ⌝ }
-{
-    match r {
-        ComponentRead::Is(_) => 0,
-        ComponentRead::Refused(n) => n as u16,
-    }
+    depths[i] = depths[size(component.parent)] + 1;
 }
 
 // ---- phases
 
-// A message as one number: two messages stand in the order of their keys.
-fn message_key(p: u8, v: u16) -> usize
-    ensures { λ r. ⌜ messageOf r ≡ record { port = p; value = v } ⌝ }
-{
-    size(p) * 65536 + size16(v)
-}
-
-// Slots that are not used are zero, and used ones never fall; so they have ports if the last one has.
-fn slots_fit(k: Phase) -> bool
-    ensures { λ r. ⌜ r ≡ (usedFit (phaseOf k) && unusedFit (phaseOf k)) ⌝ }
-{
-    let n = k.count;
-    let a = message_key(k.port0, k.value0);
-    let b = message_key(k.port1, k.value1);
-    let c = message_key(k.port2, k.value2);
-    let d = message_key(k.port3, k.value3);
-    if 3 < n {
-        return (a <= b) & (b <= c) & (c <= d) & (d < KEYS_END);
-    }
-    if 0 < d {
-        return false;
-    }
-    if 2 < n {
-        return (a <= b) & (b <= c) & (c < KEYS_END);
-    }
-    if 0 < c {
-        return false;
-    }
-    if 1 < n {
-        return (a <= b) & (b < KEYS_END);
-    }
-    if 0 < b {
-        return false;
-    }
-    if 0 < n {
-        return a < KEYS_END;
-    }
-    a == 0
-}
-
 // The fields before the slots.
-fn phase_numbers(bound: u8, k: Phase) -> bool
-    ensures { λ r. ⌜ r ≡ (advanceFits (k .advance) && ltb (k .next) bound && leb (k .count) maxOutputs) ⌝ }
+fn phase_numbers(bound: u8, phase: Phase) -> bool
+    ensures { λ r. ⌜ r ≡ (advanceFits (phase .advance) && ltb (phase .next) bound && leb (phase .count) maxOutputs) ⌝ }
 {
-    ((k.advance <= MAX_ADVANCE) | (k.advance == NEVER_FIELD))
-        & (k.next < bound)
-        & (k.count <= MAX_OUTPUTS)
+    ((phase.advance <= MAX_ADVANCE) | (phase.advance == NEVER_FIELD))
+        & (phase.next < bound)
+        & (phase.count <= MAX_OUTPUTS)
 }
 
 // Phase record i, whose atomic has `bound` phases.
@@ -194,42 +187,34 @@ pub fn read_phase(phases: &[u8], i: usize, bound: u8) -> PhaseRead
     requires { ⌜ i < length (phasesIn (now phases)) ⌝ }
     ensures { λ r. ⌜ phaseRead r ≡ checked (phaseFields bound (getD (phasesIn (now (phases .entry))) i noPhase)) 6 (getD (phasesIn (now (phases .entry))) i noPhase) ⌝ }
 {
-    let k = model_records::phase_in(phases, i);
-    if !phase_numbers(bound, k) {
+    let phase = model_records::phase_in(phases, i);
+    if !phase_numbers(bound, phase) {
         return PhaseRead::Refused(6);
     }
-    if !slots_fit(k) {
+    if !slots_fit(phase) {
         return PhaseRead::Refused(6);
     }
-    PhaseRead::Is(k)
-}
-
-pub fn phase_refusal(r: PhaseRead) -> u16
-    ensures { λ n. ⌜ n ≡ numberOf (phaseRead r) ⌝ }
-{
-    match r {
-        PhaseRead::Is(_) => 0,
-        PhaseRead::Refused(n) => n as u16,
-    }
+    PhaseRead::Is(phase)
 }
 
 // ---- rules
 
-// A component with phases is atomic.
-fn rule_fields(components: &[u8], phase_counts: &[u8; MAX_COMPONENTS], k: Rule) -> bool
+// Whether the component is atomic needs no test of its own: all components are accepted, so that a coupled one has no phase, and the
+// rule's phase lies below the component's phase count.
+fn rule_fields(components: &[u8], phase_counts: &[u8; MAX_COMPONENTS], rule: Rule) -> bool
     requires { ⌜ Counted (componentsIn (now components)) (now «phase_counts») ⌝ }
-    ensures { λ r. ⌜ r ≡ ruleFields (componentsIn (now (components .entry))) (ruleOf k) ⌝ }
+    ensures { λ r. ⌜ r ≡ ruleFields (componentsIn (now (components .entry))) (ruleOf rule) ⌝ }
 {
-    let own = size(k.component);
-    if model_records::component_count(components) <= own {
+    let component = size(rule.component);
+    if model_records::component_count(components) <= component {
         return false;
     }
-    let phases = phase_counts[own];
-    (k.phase < phases)
-        & (k.next < phases)
-        & (k.port < PORT_COUNT)
-        & (k.low <= k.high)
-        & (k.low_elapsed <= k.high_elapsed)
+    let phases = phase_counts[component];
+    (rule.phase < phases)
+        & (rule.next < phases)
+        & (rule.port < PORT_COUNT)
+        & (rule.low <= rule.high)
+        & (rule.low_elapsed <= rule.high_elapsed)
 }
 
 pub fn read_rule(
@@ -241,59 +226,59 @@ pub fn read_rule(
     requires { ⌜ (i < length (rulesIn (now rules))) × Counted (componentsIn (now components)) (now «phase_counts») ⌝ }
     ensures { λ r. ⌜ ruleRead r ≡ checked (ruleFields (componentsIn (now (components .entry))) (getD (rulesIn (now (rules .entry))) i noRule)) 7 (getD (rulesIn (now (rules .entry))) i noRule) ⌝ }
 {
-    let k = model_records::rule_in(rules, i);
-    if rule_fields(components, phase_counts, k) {
-        RuleRead::Is(k)
+    let rule = model_records::rule_in(rules, i);
+    if rule_fields(components, phase_counts, rule) {
+        RuleRead::Is(rule)
     } else {
         RuleRead::Refused(7)
     }
 }
 
-pub fn rule_refusal(r: RuleRead) -> u16
-    ensures { λ n. ⌜ n ≡ numberOf (ruleRead r) ⌝ }
-{
-    match r {
-        RuleRead::Is(_) => 0,
-        RuleRead::Refused(n) => n as u16,
-    }
-}
-
 // ---- couplings
 
-// Source is the target's parent, its sibling, or its child. The root, which stands as its own parent, has its children's parent.
-fn are_related(components: &[u8], parents: &[u8; MAX_COMPONENTS], s: usize, t: usize) -> bool
-    requires { ⌜ (s < length (componentsIn (now components))) × (t < length (componentsIn (now components))) × Placed (componentsIn (now components)) (now parents) ⌝ }
-    ensures { λ r. ⌜ r ≡ related (componentsIn (now (components .entry))) s t ⌝ }
+// Source is the target's parent, its sibling, or its child. Parents alone decide it: the root stands as its own parent, so that it and
+// each of its children have the same parent too, and these are relatives anyway.
+fn are_related(
+    components: &[u8],
+    parents: &[u8; MAX_COMPONENTS],
+    source: usize,
+    target: usize,
+) -> bool
+    requires { ⌜ Two (componentsIn (now components)) source target (now parents) ⌝ }
+    ensures { λ r. ⌜ r ≡ related (componentsIn (now (components .entry))) source target ⌝ }
 {
-    let over_s = size(parents[s]);
-    let over_t = size(parents[t]);
-    if s == t {
+    let over_source = size(parents[source]);
+    let over_target = size(parents[target]);
+    if source == target {
         return false;
     }
-    (over_t == s) | (over_s == t) | (over_s == over_t)
+    (over_target == source) | (over_source == target) | (over_source == over_target)
 }
 
-fn coupling_fields(components: &[u8], parents: &[u8; MAX_COMPONENTS], k: Coupling) -> bool
+fn coupling_fields(components: &[u8], parents: &[u8; MAX_COMPONENTS], coupling: Coupling) -> bool
     requires { ⌜ Placed (componentsIn (now components)) (now parents) ⌝ }
-    ensures { λ r. ⌜ r ≡ couplingFields (componentsIn (now (components .entry))) (couplingOf k) ⌝ }
+    ensures { λ r. ⌜ r ≡ couplingFields (componentsIn (now (components .entry))) (couplingOf coupling) ⌝ }
 {
-    let n = model_records::component_count(components);
-    let s = size(k.source);
-    let t = size(k.target);
-    if !((s < n) & (t < n) & (k.source_port < PORT_COUNT) & (k.target_port < PORT_COUNT)) {
+    let component_count = model_records::component_count(components);
+    let source = size(coupling.source);
+    let target = size(coupling.target);
+    if !((source < component_count)
+        & (target < component_count)
+        & (coupling.source_port < PORT_COUNT)
+        & (coupling.target_port < PORT_COUNT)) {
         return false;
     }
-    are_related(components, parents, s, t)
+    are_related(components, parents, source, target)
 }
 
-// A row of four bytes as one number: rows stand in the order of their keys.
-pub fn coupling_key(k: Coupling) -> usize
-    ensures { λ r. ⌜ rowOf r ≡ couplingOf k ⌝ }
+// A row of four bytes as one number. Keys stand in the order of their rows.
+pub fn coupling_key(coupling: Coupling) -> usize
+    ensures { λ r. ⌜ couplingOfKey r ≡ couplingOf coupling ⌝ }
 {
-    size(k.source) * 16777216
-        + size(k.source_port) * 65536
-        + size(k.target) * 256
-        + size(k.target_port)
+    size(coupling.source) * 16777216
+        + size(coupling.source_port) * 65536
+        + size(coupling.target) * 256
+        + size(coupling.target_port)
 }
 
 // Row i, behind a row whose key is `before`.
@@ -304,24 +289,15 @@ pub fn read_coupling(
     i: usize,
     before: usize,
 ) -> CouplingRead
-    requires { ⌜ (i < length (couplingsIn (now couplings))) × Behind (couplingsIn (now couplings)) i before × Placed (componentsIn (now components)) (now parents) ⌝ }
+    requires { ⌜ NextRow (componentsIn (now components)) (now parents) (couplingsIn (now couplings)) i before ⌝ }
     ensures { λ r. ⌜ couplingRead r ≡ checked (couplingFits (componentsIn (now (components .entry))) (couplingsIn (now (couplings .entry))) i) 8 (getD (couplingsIn (now (couplings .entry))) i noCoupling) ⌝ }
 {
-    let k = model_records::coupling_in(couplings, i);
-    if !coupling_fields(components, parents, k) {
+    let coupling = model_records::coupling_in(couplings, i);
+    if !coupling_fields(components, parents, coupling) {
         return CouplingRead::Refused(8);
     }
-    if coupling_key(k) < before {
+    if coupling_key(coupling) < before {
         return CouplingRead::Refused(8);
     }
-    CouplingRead::Is(k)
-}
-
-pub fn coupling_refusal(r: CouplingRead) -> u16
-    ensures { λ n. ⌜ n ≡ numberOf (couplingRead r) ⌝ }
-{
-    match r {
-        CouplingRead::Is(_) => 0,
-        CouplingRead::Refused(n) => n as u16,
-    }
+    CouplingRead::Is(coupling)
 }

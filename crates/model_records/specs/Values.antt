@@ -3,10 +3,11 @@
 use mathlib.Core.List.{List}
 use Rattle.definition.specs.Bytes.{Bytes}
 use Rattle.definition.specs.Limits.{componentSize, phaseSize, ruleSize, couplingSize}
-use Rattle.definition.specs.Model.{Component, Phase, Rule, Coupling, Model}
+use Rattle.definition.specs.Model.{Component, Message, Phase, Rule, Coupling, Model}
 use Rattle.definition.specs.Pinned.Decoder.{toComponent, toPhase, toRule, toCoupling}
 use Rattle.byte_laws.specs.Parts.{recordsIn}
 use Rattle.model_records.specs.declared.Component as C
+use Rattle.model_records.specs.declared.Message as M
 use Rattle.model_records.specs.declared.Phase as P
 use Rattle.model_records.specs.declared.Rule as R
 use Rattle.model_records.specs.declared.Coupling as K
@@ -16,15 +17,18 @@ use Rattle.model_records.specs.declared.Coupling as K
 abbrev pub componentOf : C.Component → Component
 componentOf c = record { kind = c .kind; parent = c .parent; phases = c .phases; initial = c .initial; order = c .order }
 
+abbrev pub messageOf : M.Message → Message
+messageOf m = record { port = m .port; value = m .value }
+
 abbrev pub phaseOf : P.Phase → Phase
 phaseOf p = record {
   advance = p .advance;
   next = p .next;
   outputCount = p .count;
-  slot0 = record { port = p .port0; value = p .value0 };
-  slot1 = record { port = p .port1; value = p .value1 };
-  slot2 = record { port = p .port2; value = p .value2 };
-  slot3 = record { port = p .port3; value = p .value3 };
+  slot0 = messageOf (p .slot0);
+  slot1 = messageOf (p .slot1);
+  slot2 = messageOf (p .slot2);
+  slot3 = messageOf (p .slot3);
 }
 
 abbrev pub ruleOf : R.Rule → Rule

@@ -1,10 +1,13 @@
 // The records of a model, read from the slice that holds a section's records. A reader `.._in` asks that there is such a record; past the
 // slice's end a reader `.._at` has zeros, so that it asks nothing.
 ghost use mathlib.Core.Path.{_≡_};
-ghost use Prim.Native.Nat.{_<_};
+ghost use Prim.Native.Nat.{_/_, _<_};
 ghost use lib.ListN.{length, getD};
-ghost use Rattle.definition.specs.Model.{noPhase, noRule, noCoupling, componentAt, isAtomic, isChild, isSibling, phasesBefore};
-ghost use Rattle.model_records.specs.Values.{componentOf, phaseOf, ruleOf, couplingOf, componentsIn, phasesIn, rulesIn, couplingsIn};
+ghost use Rattle.definition.specs.Limits.{phaseSize};
+ghost use Rattle.definition.specs.Model.{noPhase, noRule, noCoupling, componentAt, isAtomic, isChild, phasesBefore};
+ghost use Rattle.definition.specs.Records.{messageAt};
+ghost use Rattle.byte_laws.specs.Parts.{row};
+ghost use Rattle.model_records.specs.Values.{componentOf, messageOf, phaseOf, ruleOf, couplingOf, componentsIn, phasesIn, rulesIn, couplingsIn};
 use limits::COMPONENT_SIZE;
 use limits::COUPLING_SIZE;
 use limits::PHASE_SIZE;
@@ -19,19 +22,21 @@ pub struct Component {
     pub order: u8,
 }
 
-// Advance, next phase, output count, four slots of port and value.
+// What a slot holds.
+pub struct Message {
+    pub port: u8,
+    pub value: u16,
+}
+
+// Advance, next phase, output count, four slots.
 pub struct Phase {
     pub advance: u32,
     pub next: u8,
     pub count: u8,
-    pub port0: u8,
-    pub value0: u16,
-    pub port1: u8,
-    pub value1: u16,
-    pub port2: u8,
-    pub value2: u16,
-    pub port3: u8,
-    pub value3: u16,
+    pub slot0: Message,
+    pub slot1: Message,
+    pub slot2: Message,
+    pub slot3: Message,
 }
 
 pub struct Rule {
@@ -52,6 +57,9 @@ pub struct Coupling {
     pub target: u8,
     pub target_port: u8,
 }
+
+// What a slot holds that is not used.
+const NO_MESSAGE: Message = Message { port: 0, value: 0 };
 
 // ---- how many records a slice holds
 
@@ -81,18 +89,26 @@ pub fn coupling_count(couplings: &[u8]) -> usize
 
 // ---- a record by its number
 
+// The bytes of record i, as a slice whose length is the record's size: a field is then read without a test of where the slice ends.
+pub fn record_bytes<'a>(records: &'a [u8], size: usize, i: usize) -> &'a [u8]
+    requires { ⌜ i < length (now records) / size ⌝ }
+    ensures { λ r. ⌜ now r ≡ row size i (now (records .entry)) ⌝ }
+{
+    let start = size * i;
+    &records[start..start + size]
+}
+
 pub fn component_in(components: &[u8], i: usize) -> Component
     requires { ⌜ i < length (componentsIn (now components)) ⌝ }
     ensures { λ r. ⌜ componentOf r ≡ componentAt (componentsIn (now (components .entry))) i ⌝ }
 {
-    let at = COMPONENT_SIZE * i;
-    let r = &components[at..at + COMPONENT_SIZE];
+    let bytes = record_bytes(components, COMPONENT_SIZE, i);
     Component {
-        kind: little_endian::byte_at(r, 0),
-        parent: little_endian::byte_at(r, 1),
-        phases: little_endian::byte_at(r, 2),
-        initial: little_endian::byte_at(r, 3),
-        order: little_endian::byte_at(r, 4),
+        kind: little_endian::byte_at(bytes, 0),
+        parent: little_endian::byte_at(bytes, 1),
+        phases: little_endian::byte_at(bytes, 2),
+        initial: little_endian::byte_at(bytes, 3),
+        order: little_endian::byte_at(bytes, 4),
     }
 }
 
@@ -112,24 +128,30 @@ pub fn component_at(components: &[u8], i: usize) -> Component
     }
 }
 
+// The slot that begins at a byte of a phase record.
+fn message_at(phase: &[u8], at: usize) -> Message
+    requires { ⌜ at < phaseSize ⌝ }
+    ensures { λ m. ⌜ messageOf m ≡ messageAt at (now (phase .entry)) ⌝ }
+{
+    Message {
+        port: little_endian::byte_at(phase, at),
+        value: little_endian::u16_at(phase, at + 1),
+    }
+}
+
 pub fn phase_in(phases: &[u8], i: usize) -> Phase
     requires { ⌜ i < length (phasesIn (now phases)) ⌝ }
     ensures { λ r. ⌜ phaseOf r ≡ getD (phasesIn (now (phases .entry))) i noPhase ⌝ }
 {
-    let at = PHASE_SIZE * i;
-    let r = &phases[at..at + PHASE_SIZE];
+    let bytes = record_bytes(phases, PHASE_SIZE, i);
     Phase {
-        advance: little_endian::u32_at(r, 0),
-        next: little_endian::byte_at(r, 4),
-        count: little_endian::byte_at(r, 5),
-        port0: little_endian::byte_at(r, 6),
-        value0: little_endian::u16_at(r, 7),
-        port1: little_endian::byte_at(r, 9),
-        value1: little_endian::u16_at(r, 10),
-        port2: little_endian::byte_at(r, 12),
-        value2: little_endian::u16_at(r, 13),
-        port3: little_endian::byte_at(r, 15),
-        value3: little_endian::u16_at(r, 16),
+        advance: little_endian::u32_at(bytes, 0),
+        next: little_endian::byte_at(bytes, 4),
+        count: little_endian::byte_at(bytes, 5),
+        slot0: message_at(bytes, 6),
+        slot1: message_at(bytes, 9),
+        slot2: message_at(bytes, 12),
+        slot3: message_at(bytes, 15),
     }
 }
 
@@ -143,14 +165,10 @@ pub fn phase_at(phases: &[u8], i: usize) -> Phase
             advance: 0,
             next: 0,
             count: 0,
-            port0: 0,
-            value0: 0,
-            port1: 0,
-            value1: 0,
-            port2: 0,
-            value2: 0,
-            port3: 0,
-            value3: 0,
+            slot0: NO_MESSAGE,
+            slot1: NO_MESSAGE,
+            slot2: NO_MESSAGE,
+            slot3: NO_MESSAGE,
         }
     }
 }
@@ -159,18 +177,17 @@ pub fn rule_in(rules: &[u8], i: usize) -> Rule
     requires { ⌜ i < length (rulesIn (now rules)) ⌝ }
     ensures { λ r. ⌜ ruleOf r ≡ getD (rulesIn (now (rules .entry))) i noRule ⌝ }
 {
-    let at = RULE_SIZE * i;
-    let r = &rules[at..at + RULE_SIZE];
+    let bytes = record_bytes(rules, RULE_SIZE, i);
     Rule {
-        component: little_endian::byte_at(r, 0),
-        phase: little_endian::byte_at(r, 1),
-        next: little_endian::byte_at(r, 2),
-        port: little_endian::byte_at(r, 3),
-        low: little_endian::u16_at(r, 4),
-        high: little_endian::u16_at(r, 6),
-        least: little_endian::u16_at(r, 8),
-        low_elapsed: little_endian::u32_at(r, 10),
-        high_elapsed: little_endian::u32_at(r, 14),
+        component: little_endian::byte_at(bytes, 0),
+        phase: little_endian::byte_at(bytes, 1),
+        next: little_endian::byte_at(bytes, 2),
+        port: little_endian::byte_at(bytes, 3),
+        low: little_endian::u16_at(bytes, 4),
+        high: little_endian::u16_at(bytes, 6),
+        least: little_endian::u16_at(bytes, 8),
+        low_elapsed: little_endian::u32_at(bytes, 10),
+        high_elapsed: little_endian::u32_at(bytes, 14),
     }
 }
 
@@ -198,13 +215,12 @@ pub fn coupling_in(couplings: &[u8], i: usize) -> Coupling
     requires { ⌜ i < length (couplingsIn (now couplings)) ⌝ }
     ensures { λ r. ⌜ couplingOf r ≡ getD (couplingsIn (now (couplings .entry))) i noCoupling ⌝ }
 {
-    let at = COUPLING_SIZE * i;
-    let r = &couplings[at..at + COUPLING_SIZE];
+    let bytes = record_bytes(couplings, COUPLING_SIZE, i);
     Coupling {
-        source: little_endian::byte_at(r, 0),
-        source_port: little_endian::byte_at(r, 1),
-        target: little_endian::byte_at(r, 2),
-        target_port: little_endian::byte_at(r, 3),
+        source: little_endian::byte_at(bytes, 0),
+        source_port: little_endian::byte_at(bytes, 1),
+        target: little_endian::byte_at(bytes, 2),
+        target_port: little_endian::byte_at(bytes, 3),
     }
 }
 
@@ -228,23 +244,16 @@ pub fn coupling_at(couplings: &[u8], i: usize) -> Coupling
 pub fn is_atomic(components: &[u8], c: usize) -> bool
     ensures { λ r. ⌜ r ≡ isAtomic (componentsIn (now (components .entry))) c ⌝ }
 {
-    let k = component_at(components, c);
-    k.kind == 1
+    let component = component_at(components, c);
+    component.kind == 1
 }
 
 // d is a child of c; the root is nobody's.
 pub fn is_child(components: &[u8], c: usize, d: usize) -> bool
     ensures { λ r. ⌜ r ≡ isChild (componentsIn (now (components .entry))) c d ⌝ }
 {
-    let k = component_at(components, d);
-    !(d == 0) & (little_endian::size(k.parent) == c)
-}
-
-pub fn is_sibling(components: &[u8], c: usize, d: usize) -> bool
-    ensures { λ r. ⌜ r ≡ isSibling (componentsIn (now (components .entry))) c d ⌝ }
-{
-    let k = component_at(components, c);
-    !(c == d) & !(c == 0) & is_child(components, little_endian::size(k.parent), d)
+    let component = component_at(components, d);
+    !(d == 0) & (little_endian::size(component.parent) == c)
 }
 
 // ---- phases
@@ -256,8 +265,8 @@ pub fn phases_before(components: &[u8], c: u8) -> usize
     let mut total: usize = 0;
     let mut i: u8 = 0;
     while i < c {
-        let k = component_at(components, little_endian::size(i));
-        total = total + little_endian::size(k.phases);
+        let component = component_at(components, little_endian::size(i));
+        total = total + little_endian::size(component.phases);
         i = i + 1;
     }
     total

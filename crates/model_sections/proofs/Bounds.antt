@@ -1,39 +1,21 @@
--- The phase records stand atomic by atomic: record `before c + p` is phase p of component c. Assumes nothing.
-use mathlib.Core.Path.{_≡_, refl, ap, _∙_}
-use mathlib.Core.List.{List, [], _∷_, _++_, map}
+-- Right counts; and the phase records, which stand atomic by atomic: record `phasesBefore cs c + p` is phase p of component c. Assumes nothing.
+use mathlib.Core.Path.{_≡_, refl, sym, ap, _∙_}
+use mathlib.Core.List.{List}
 use mathlib.Core.Bool.{Bool, true, false, _||_, not}
-use Prim.Native.Nat.{ℕ, zero, suc, _+_, _≤_, _<_}
+use Prim.Native.Nat.{ℕ, _+_, _≤_, _<_}
 use native.Mathlib.Omega.{arith}
-use native.Mathlib.Nat.{zero-add}
 use lib.Dec.{ltb, eqb}
-use lib.ListN.{length, getD, replicate, length-replicate, getD-replicate, List·getD-append}
-use lib.Seq.{getD-append-add}
+use lib.ListN.{length, getD}
 use borrow.Author.Tests.{ltb-false, eqb-true, eqb-false}
-use Rattle.definition.specs.Lists.{sum, concat}
-use Rattle.definition.specs.Limits.{maxComponents, maxPhases}
+use Rattle.definition.specs.Bytes.{Result}
+use Rattle.definition.specs.Limits.{maxComponents, maxOwnPhases, maxPhases}
 use Rattle.definition.specs.Model.{Component, Phase, componentAt, noPhase, phasesBefore}
 use Rattle.definition.specs.File.{phaseTotal}
-use Rattle.definition.specs.Pinned.Decoder.{bounds, phaseFields, phaseFits, orElse, componentCountRefusal, phaseCountRefusal}
-use Rattle.model_records.proofs.Before.{before-more, before-total}
-
--- The bound of phase p of component c is the component's phase count.
-pub bound-at : (cs : List Component) (c p : ℕ) → c < length cs → p < componentAt cs c .phases → getD (bounds cs) (phasesBefore cs c + p) 0 ≡ componentAt cs c .phases
-unfolding bounds phasesBefore componentAt sum concat
-bound-at [] c p l h = absurd (omega arith)
-bound-at (k ∷ cs) zero p l h =
-    rw (zero-add p)
-    (List·getD-append (replicate (k .phases) (k .phases)) (concat (map (λ k. replicate (k .phases) (k .phases)) cs)) 0 p (rw (length-replicate (k .phases) (k .phases)) h)
-    ∙ getD-replicate (k .phases) p (k .phases) 0 h)
-bound-at (k ∷ cs) (suc c) p l h =
-    let r = replicate (k .phases) (k .phases) in
-    let rest = concat (map (λ k. replicate (k .phases) (k .phases)) cs) in
-    let e : k .phases + phasesBefore cs c + p ≡ length r + (phasesBefore cs c + p) = omega (arith, length-replicate (k .phases) (k .phases)) in
-    ap (λ i. getD (r ++ rest) i 0) e ∙ getD-append-add r rest (phasesBefore cs c + p) 0 ∙ bound-at cs c p (omega arith) h
-
-pub phase-fits-at : (cs : List Component) (ps : List Phase) (c p i : ℕ) → c < length cs → p < componentAt cs c .phases → i ≡ phasesBefore cs c + p
-    → phaseFits cs ps i ≡ phaseFields (componentAt cs c .phases) (getD ps i noPhase)
-unfolding phaseFits
-phase-fits-at cs ps c p i l h e = ap (λ b. phaseFields b (getD ps i noPhase)) (ap (λ i. getD (bounds cs) i 0) e ∙ bound-at cs c p l h)
+use Rattle.definition.specs.Pinned.Decoder.{bounds, componentFits, phaseFields, phaseFits, orElse, componentCountRefusal, phaseCountRefusal}
+use Rattle.model_laws.proofs.PhaseRange.{length-bounds, bound-at}
+use Rattle.model_checks.specs.Reads.{checked}
+use Rattle.model_checks.proofs.Kept.{phases-few}
+use Rattle.model_records.proofs.Before.{before-more}
 
 -- A right count of components.
 pub component-count : (n : ℕ) → componentCountRefusal n ≡ 0 → (0 < n) × (n ≤ maxComponents)
@@ -55,6 +37,37 @@ count-total total n e = go (ltb maxPhases n) (eqb n total) refl e
     go false true f e = eqb-true n total f
     go false false f e = absurd (omega arith)
 
--- A phase of a component stands among all.
-pub phase-below : (cs : List Component) (c p n : ℕ) → p < componentAt cs c .phases → n ≡ phaseTotal cs → phasesBefore cs c + p < n
-phase-below cs c p n h e = omega (arith, before-more cs c, before-total cs (c + 1))
+-- Record i is phase p of component c, which has `bound` phases; it is past them where p is `bound`.
+pub record Standing (cs : List Component) (c bound p i : ℕ) : Type 0 where
+  pub own : bound ≡ componentAt cs c .phases
+  pub few : bound ≤ maxOwnPhases
+  pub below : p ≤ bound
+  pub place : i ≡ phasesBefore cs c + p
+
+pub standing-first : {cs : List Component} {c bound i : ℕ} → bound ≡ componentAt cs c .phases → componentFits cs c ≡ true → i ≡ phasesBefore cs c
+    → Standing cs c bound 0 i
+standing-first {cs} {c} e f g = record { own = e; few = rw e (phases-few cs c f); below = omega arith; place = omega arith }
+
+module _ {cs : List Component} {c bound p i : ℕ} (at : Standing cs c bound p i) where
+  -- After its last phase comes the next component.
+  pub standing-last : bound ≤ p → i ≡ phasesBefore cs (c + 1)
+  standing-last l = omega (arith, before-more cs c, at .own, at .below, at .place)
+
+  module _ (l : p < bound) where
+    pub standing-next : Standing cs c bound (p + 1) (i + 1)
+    standing-next = record { own = at .own; few = at .few; below = omega arith; place = omega (arith, at .place) }
+
+    is-bound : (getD (bounds cs) (phasesBefore cs c + p) 0 ≡ componentAt cs c .phases) × (phasesBefore cs c + p < length (bounds cs))
+    is-bound = bound-at cs c p (rw (← at .own) l)
+
+    -- It is tested as a phase of the component,
+    pub standing-checked : (ps : List Phase) {q : Result Phase} → q ≡ checked (phaseFields bound (getD ps i noPhase)) 6 (getD ps i noPhase)
+        → q ≡ checked (phaseFits cs ps i) 6 (getD ps i noPhase)
+    standing-checked ps e = e ∙ ap (λ b. checked b 6 (getD ps i noPhase)) fits
+      where
+        fits : phaseFields bound (getD ps i noPhase) ≡ phaseFits cs ps i
+        fits = unfold phaseFits in ap (λ b. phaseFields b (getD ps i noPhase)) (at .own ∙ sym (ap (λ i. getD (bounds cs) i 0) (at .place) ∙ is-bound .0))
+
+    -- and it is among the records of a right count.
+    pub standing-below : (count : ℕ) → phaseCountRefusal (phaseTotal cs) count ≡ 0 → i < count
+    standing-below count e = omega (arith, at .place, is-bound .1, length-bounds cs, count-total (phaseTotal cs) count e)

@@ -1,2 +1,3 @@
-pub mod Opened
+pub mod Reading
+pub mod Forms
 pub mod Bounds

@@ -35,119 +35,124 @@ pub enum SectionRead {
     Refused(u16),
 }
 
-pub fn section_refusal(r: SectionRead) -> u16
-    ensures { λ n. ⌜ n ≡ sectionNumber r ⌝ }
-{
-    match r {
-        SectionRead::Are(_) => 0,
-        SectionRead::Refused(n) => n,
+impl SectionRead {
+    pub fn refusal(self) -> u16
+        ensures { λ r. ⌜ r ≡ sectionNumber self ⌝ }
+    {
+        match self {
+            SectionRead::Are(_) => 0,
+            SectionRead::Refused(number) => number,
+        }
     }
 }
 
 // ---- a section's parts
 
-// The bytes of n records.
-fn length_of(n: u16, size: usize) -> usize
+// The bytes of so many records.
+fn length_of(count: u16, size: usize) -> usize
     requires { ⌜ size ≤ 255 ⌝ }
-    ensures { λ r. ⌜ (r ≡ n * size) × (r ≤ 16777215) ⌝ }
+    ensures { λ r. ⌜ (r ≡ count * size) × (r ≤ 16777215) ⌝ }
 {
-    size16(n) * size
+    size16(count) * size
 }
 
-// The n records of the section at the front of s.
-pub fn section_part<'a>(s: &'a [u8], n: u16, size: usize) -> &'a [u8]
+// The records of the section that comes next in the file, without their count.
+pub fn section_part<'a>(rest_of_file: &'a [u8], count: u16, size: usize) -> &'a [u8]
     requires { ⌜ size ≤ 255 ⌝ }
-    ensures { λ r. ⌜ now r ≡ partOf size n (now (s .entry)) ⌝ }
+    ensures { λ r. ⌜ now r ≡ partOf size count (now («rest_of_file» .entry)) ⌝ }
 {
-    little_endian::front(little_endian::rest(s, COUNT_SIZE), length_of(n, size))
+    little_endian::front(
+        little_endian::rest(rest_of_file, COUNT_SIZE),
+        length_of(count, size),
+    )
 }
 
 // What follows them.
-pub fn section_rest<'a>(s: &'a [u8], n: u16, size: usize) -> &'a [u8]
+pub fn section_rest<'a>(rest_of_file: &'a [u8], count: u16, size: usize) -> &'a [u8]
     requires { ⌜ size ≤ 255 ⌝ }
-    ensures { λ r. ⌜ now r ≡ restAfter size n (now (s .entry)) ⌝ }
+    ensures { λ r. ⌜ now r ≡ restAfter size count (now («rest_of_file» .entry)) ⌝ }
 {
-    little_endian::rest(s, COUNT_SIZE + length_of(n, size))
+    little_endian::rest(rest_of_file, COUNT_SIZE + length_of(count, size))
 }
 
-// The number of a section's head, where its count gets `wrong`: 1 count cut off; then that; then 1 records cut off.
-fn head_number(s: &[u8], size: usize, wrong: u16) -> u16
+// The number by which a section is refused before its first record is read, or 0. The caller has judged the count: `wrong` is the number
+// by which that is refused, or 0. So 1 where the count is cut off, then `wrong`, then 1 where the records are cut off.
+fn head_number(rest_of_file: &[u8], size: usize, wrong: u16) -> u16
     requires { ⌜ size ≤ 255 ⌝ }
-    ensures { λ r. ⌜ r ≡ numberOf (sectionCount size (λ _. wrong) (now (s .entry))) ⌝ }
+    ensures { λ r. ⌜ r ≡ numberOf (sectionCount size (λ _. wrong) (now («rest_of_file» .entry))) ⌝ }
 {
-    if s.len() < COUNT_SIZE {
+    if rest_of_file.len() < COUNT_SIZE {
         return 1;
     }
     if 0 < wrong {
         return wrong;
     }
-    let n = u16_at(s, 0);
-    let end = COUNT_SIZE + length_of(n, size);
-    if s.len() < end {
+    let end = COUNT_SIZE + length_of(u16_at(rest_of_file, 0), size);
+    if rest_of_file.len() < end {
         return 1;
     }
     0
 }
 
-// ---- the numbers of counts
+// ---- the number by which a count is refused, or 0
 
-fn component_wrong(n: usize) -> u16
-    ensures { λ r. ⌜ r ≡ componentCountRefusal n ⌝ }
+fn component_count_refusal(count: usize) -> u16
+    ensures { λ r. ⌜ r ≡ componentCountRefusal count ⌝ }
 {
-    if (MAX_COMPONENTS < n) | (n == 0) {
+    if (MAX_COMPONENTS < count) | (count == 0) {
         3
     } else {
         0
     }
 }
 
-fn phase_wrong(total: usize, n: usize) -> u16
-    ensures { λ r. ⌜ r ≡ phaseCountRefusal total n ⌝ }
+fn phase_count_refusal(total: usize, count: usize) -> u16
+    ensures { λ r. ⌜ r ≡ phaseCountRefusal total count ⌝ }
 {
-    if MAX_PHASES < n {
+    if MAX_PHASES < count {
         return 3;
     }
-    if n != total {
+    if count != total {
         return 5;
     }
     0
 }
 
-fn over_wrong(limit: usize, n: usize) -> u16
-    ensures { λ r. ⌜ r ≡ limitRefusal limit n ⌝ }
+fn limit_refusal(limit: usize, count: usize) -> u16
+    ensures { λ r. ⌜ r ≡ limitRefusal limit count ⌝ }
 {
-    if limit < n { 3 } else { 0 }
+    if limit < count { 3 } else { 0 }
 }
 
 // ---- the sections
 
 // What is known of the components is left in the two arrays, for the sections after this one.
 pub fn read_components(
-    s: &[u8],
+    file: &[u8],
     parents: &mut [u8; MAX_COMPONENTS],
     phase_counts: &mut [u8; MAX_COMPONENTS],
 ) -> SectionRead
     requires { ⌜ (length (now parents) ≡ maxComponents) × (length (now «phase_counts») ≡ maxComponents) ⌝ }
-    ensures { λ r. ⌜ (sectionRead componentSize toComponent (now (s .entry)) r ≡ componentSection (now (s .entry))) × Learnt (now (s .entry)) r (now (parents .exit)) (now («phase_counts» .exit)) ⌝ }
+    ensures { λ r. ⌜ (sectionRead componentSize toComponent (now (file .entry)) r ≡ componentSection (now (file .entry))) × Learnt (now (file .entry)) r (now (parents .exit)) (now («phase_counts» .exit)) ⌝ }
 {
-    let count = u16_at(s, 0);
-    let n = size16(count);
-    let head = head_number(s, COMPONENT_SIZE, component_wrong(n));
+    let announced = u16_at(file, 0);
+    let count = size16(announced);
+    let head = head_number(file, COMPONENT_SIZE, component_count_refusal(count));
     if head != 0 {
         return SectionRead::Refused(head);
     }
-    let records = section_part(s, count, COMPONENT_SIZE);
+    let records = section_part(file, announced, COMPONENT_SIZE);
     let mut depths = [0u8; MAX_COMPONENTS];
     let mut i: usize = 0;
-    while i < n {
+    while i < count {
         let read = model_checks::read_component(records, i, phase_counts, &depths);
-        let ComponentRead::Is(_) = read else {
-            return SectionRead::Refused(model_checks::component_refusal(read));
+        let ComponentRead::Is(component) = read else {
+            return SectionRead::Refused(read.refusal());
         };
-        model_checks::keep_component(records, i, parents, phase_counts, &mut depths);
+        model_checks::keep_component(component, i, parents, phase_counts, &mut depths);
         i = i + 1;
     }
-    SectionRead::Are(count)
+    SectionRead::Are(announced)
 }
 
 // The sum of the phase counts.
@@ -155,90 +160,106 @@ fn phase_total(components: &[u8], phase_counts: &[u8; MAX_COMPONENTS]) -> usize
     requires { ⌜ Counted (componentsIn (now components)) (now «phase_counts») ⌝ }
     ensures { λ r. ⌜ r ≡ phaseTotal (componentsIn (now (components .entry))) ⌝ }
 {
-    let owners = model_records::component_count(components);
+    let component_count = model_records::component_count(components);
     let mut total: usize = 0;
     let mut c: usize = 0;
-    while c < owners {
+    while c < component_count {
         total = total + little_endian::size(phase_counts[c]);
         c = c + 1;
     }
     total
 }
 
-// The phases of the components, atomic by atomic.
-pub fn read_phases(components: &[u8], phase_counts: &[u8; MAX_COMPONENTS], s: &[u8]) -> SectionRead
+// The phases of the components, atomic by atomic: record i is phase p of component c.
+pub fn read_phases(
+    components: &[u8],
+    phase_counts: &[u8; MAX_COMPONENTS],
+    rest_of_file: &[u8],
+) -> SectionRead
     requires { ⌜ Counted (componentsIn (now components)) (now «phase_counts») ⌝ }
-    ensures { λ r. ⌜ sectionRead phaseSize toPhase (now (s .entry)) r ≡ phaseSection (componentsIn (now (components .entry))) (now (s .entry)) ⌝ }
+    ensures { λ r. ⌜ sectionRead phaseSize toPhase (now («rest_of_file» .entry)) r ≡ phaseSection (componentsIn (now (components .entry))) (now («rest_of_file» .entry)) ⌝ }
 {
-    let count = u16_at(s, 0);
-    let n = size16(count);
-    let owners = model_records::component_count(components);
+    let announced = u16_at(rest_of_file, 0);
+    let count = size16(announced);
+    let component_count = model_records::component_count(components);
     let total = phase_total(components, phase_counts);
-    let head = head_number(s, PHASE_SIZE, phase_wrong(total, n));
+    let head = head_number(rest_of_file, PHASE_SIZE, phase_count_refusal(total, count));
     if head != 0 {
         return SectionRead::Refused(head);
     }
-    let records = section_part(s, count, PHASE_SIZE);
+    let records = section_part(rest_of_file, announced, PHASE_SIZE);
     let mut i: usize = 0;
     let mut c: usize = 0;
-    while c < owners {
+    while c < component_count {
         let bound = phase_counts[c];
         let mut p: u8 = 0;
         while p < bound {
             let read = model_checks::read_phase(records, i, bound);
             let PhaseRead::Is(_) = read else {
-                return SectionRead::Refused(model_checks::phase_refusal(read));
+                return SectionRead::Refused(read.refusal());
             };
             i = i + 1;
             p = p + 1;
         }
         c = c + 1;
     }
-    SectionRead::Are(count)
+    SectionRead::Are(announced)
 }
 
-pub fn read_rules(components: &[u8], phase_counts: &[u8; MAX_COMPONENTS], s: &[u8]) -> SectionRead
+pub fn read_rules(
+    components: &[u8],
+    phase_counts: &[u8; MAX_COMPONENTS],
+    rest_of_file: &[u8],
+) -> SectionRead
     requires { ⌜ Counted (componentsIn (now components)) (now «phase_counts») ⌝ }
-    ensures { λ r. ⌜ sectionRead ruleSize toRule (now (s .entry)) r ≡ ruleSection (componentsIn (now (components .entry))) (now (s .entry)) ⌝ }
+    ensures { λ r. ⌜ sectionRead ruleSize toRule (now («rest_of_file» .entry)) r ≡ ruleSection (componentsIn (now (components .entry))) (now («rest_of_file» .entry)) ⌝ }
 {
-    let count = u16_at(s, 0);
-    let n = size16(count);
-    let head = head_number(s, RULE_SIZE, over_wrong(MAX_RULES, n));
+    let announced = u16_at(rest_of_file, 0);
+    let count = size16(announced);
+    let head = head_number(rest_of_file, RULE_SIZE, limit_refusal(MAX_RULES, count));
     if head != 0 {
         return SectionRead::Refused(head);
     }
-    let records = section_part(s, count, RULE_SIZE);
+    let records = section_part(rest_of_file, announced, RULE_SIZE);
     let mut i: usize = 0;
-    while i < n {
+    while i < count {
         let read = model_checks::read_rule(components, phase_counts, records, i);
         let RuleRead::Is(_) = read else {
-            return SectionRead::Refused(model_checks::rule_refusal(read));
+            return SectionRead::Refused(read.refusal());
         };
         i = i + 1;
     }
-    SectionRead::Are(count)
+    SectionRead::Are(announced)
 }
 
-pub fn read_couplings(components: &[u8], parents: &[u8; MAX_COMPONENTS], s: &[u8]) -> SectionRead
+pub fn read_couplings(
+    components: &[u8],
+    parents: &[u8; MAX_COMPONENTS],
+    rest_of_file: &[u8],
+) -> SectionRead
     requires { ⌜ Placed (componentsIn (now components)) (now parents) ⌝ }
-    ensures { λ r. ⌜ sectionRead couplingSize toCoupling (now (s .entry)) r ≡ couplingSection (componentsIn (now (components .entry))) (now (s .entry)) ⌝ }
+    ensures { λ r. ⌜ sectionRead couplingSize toCoupling (now («rest_of_file» .entry)) r ≡ couplingSection (componentsIn (now (components .entry))) (now («rest_of_file» .entry)) ⌝ }
 {
-    let count = u16_at(s, 0);
-    let n = size16(count);
-    let head = head_number(s, COUPLING_SIZE, over_wrong(MAX_COUPLINGS, n));
+    let announced = u16_at(rest_of_file, 0);
+    let count = size16(announced);
+    let head = head_number(
+        rest_of_file,
+        COUPLING_SIZE,
+        limit_refusal(MAX_COUPLINGS, count),
+    );
     if head != 0 {
         return SectionRead::Refused(head);
     }
-    let records = section_part(s, count, COUPLING_SIZE);
+    let records = section_part(rest_of_file, announced, COUPLING_SIZE);
     let mut i: usize = 0;
     let mut before: usize = 0;
-    while i < n {
+    while i < count {
         let read = model_checks::read_coupling(components, parents, records, i, before);
-        let CouplingRead::Is(k) = read else {
-            return SectionRead::Refused(model_checks::coupling_refusal(read));
+        let CouplingRead::Is(coupling) = read else {
+            return SectionRead::Refused(read.refusal());
         };
-        before = model_checks::coupling_key(k);
+        before = model_checks::coupling_key(coupling);
         i = i + 1;
     }
-    SectionRead::Are(count)
+    SectionRead::Are(announced)
 }

@@ -104,7 +104,7 @@ pub fn read(file: &[u8], run: &[u8], position: u64) -> Reading
     let counted = model_tables::open_model(file, &mut tables);
     let checked = counted.checked;
     let Checked::Accepted(n) = checked else {
-        return refused(wide16(model::checked_number(checked)));
+        return refused(wide16(checked.refusal()));
     };
     read_accepted(file, n, &tables, run, position)
 }

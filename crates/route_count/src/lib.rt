@@ -78,7 +78,7 @@ pub fn check_routes(
     let read = model::decode_model(file);
     let Checked::Accepted(n) = read else {
         return Counted {
-            checked: Checked::Refused(model::checked_number(read)),
+            checked: Checked::Refused(read.refusal()),
             routes: 0,
         };
     };
@@ -126,5 +126,5 @@ pub fn check(file: &[u8]) -> Checked
 pub fn check_model(file: &[u8]) -> u16
     ensures { λ r. ⌜ r ≡ checkModel (now (file .entry)) ⌝ }
 {
-    model::checked_number(check(file))
+    check(file).refusal()
 }

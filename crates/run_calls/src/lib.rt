@@ -57,7 +57,7 @@ pub fn start(file: &[u8], run: &mut [u8]) -> Written
     let checked = route_count::check(file);
     let Checked::Accepted(n) = checked else {
         return Written {
-            number: wide16(model::checked_number(checked)),
+            number: wide16(checked.refusal()),
             bytes: 0,
         };
     };

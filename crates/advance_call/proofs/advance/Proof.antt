@@ -19,8 +19,8 @@ enum-known-checked c = search needs
 enum-told : tie.Need-enum-told
 enum-told c = search needs
 
-checked-number-requires : tie.Need-checked-number-requires
-checked-number-requires c κs = search needs
+refusal-requires : tie.Need-refusal-requires
+refusal-requires c κs = search needs
 
 wide16-requires : tie.Need-wide16-requires
 wide16-requires c κs = search needs
@@ -32,7 +32,7 @@ returns : tie.Need-returns
 returns c =
     let a = c .before .before .before .before .before .before .before .before .before .before .before .args in
     let told = sym (ap (checkedAs (a .file .now)) (c .before .before .before .enum-told .given .1)) ∙ c .before .before .before .before .before .open-model .ensures .0 in
-    rw (c .refused .ensures, c .before .wide16 .ensures, c .before .before .checked-number .ensures, c .before .before .before .enum-told .given .1) (model-refused (a .file .now) (a .run .now) (a .t) (a .bag .now) (a .trace .now) _ told)
+    rw (c .refused .ensures, c .before .wide16 .ensures, c .before .before .refusal .ensures, c .before .before .before .enum-told .given .1) (model-refused (a .file .now) (a .run .now) (a .t) (a .bag .now) (a .trace .now) _ told)
 
 advance-accepted-requires : tie.Need-advance-accepted-requires
 advance-accepted-requires c κs =
@@ -52,4 +52,4 @@ returns-2 c = search needs
 
 pub advance-spec : {M : Type 1} → statement M
 advance-spec =
-    tie.close (tie.spec open-model-requires enum-known-checked enum-told checked-number-requires wide16-requires refused-requires returns advance-accepted-requires same-length same-length-2 returns-2)
+    tie.close (tie.spec open-model-requires enum-known-checked enum-told refusal-requires wide16-requires refused-requires returns advance-accepted-requires same-length same-length-2 returns-2)

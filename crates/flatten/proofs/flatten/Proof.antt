@@ -22,8 +22,8 @@ enum-known-checked c = search needs
 enum-told : tie.Need-enum-told
 enum-told c = search needs
 
-checked-number-requires : tie.Need-checked-number-requires
-checked-number-requires c κs = search needs
+refusal-requires : tie.Need-refusal-requires
+refusal-requires c κs = search needs
 
 wide16-requires : tie.Need-wide16-requires
 wide16-requires c κs = search needs
@@ -32,7 +32,7 @@ returns : tie.Need-returns
 returns c =
     let a = c .before .before .before .before .before .before .before .before .args in
     let told = sym (ap (checkedAs (now (a .file))) (c .before .before .enum-told .given .1)) ∙ c .before .before .before .before .open-model .ensures .0 in
-    rw (c .wide16 .ensures, c .before .checked-number .ensures, c .before .before .enum-told .given .1) (flatten-refused (now (a .file)) (now (a .out)) _ told)
+    rw (c .wide16 .ensures, c .before .refusal .ensures, c .before .before .enum-told .given .1) (flatten-refused (now (a .file)) (now (a .out)) _ told)
 
 slice-aggregate-flatten-accepted : tie.Need-slice-aggregate-flatten-accepted
 slice-aggregate-flatten-accepted c = search needs
@@ -60,7 +60,7 @@ flatten-spec =
     open-model-requires
     enum-known-checked
     enum-told
-    checked-number-requires
+    refusal-requires
     wide16-requires
     returns
     slice-aggregate-flatten-accepted

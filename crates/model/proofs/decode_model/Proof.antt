@@ -71,12 +71,12 @@ enum-known-first c = search needs
 enum-told : tie.Need-enum-told
 enum-told c = search needs
 
-section-refusal-requires : tie.Need-section-refusal-requires
-section-refusal-requires c κs = search needs
+refusal-requires : tie.Need-refusal-requires
+refusal-requires c κs = search needs
 
 returns : tie.Need-returns
 returns c =
-    section-off 5 toComponent (now (c .before .before .before .before .before .before .before .args .file)) (λ a. fromPhases (a .records) (a .rest)) (c .before .before .before .read-components .ensures .0) (c .before .enum-told .given .1) (c .section-refusal .ensures) ∙ sym (decode-from (now (c .before .before .before .before .before .before .before .args .file)))
+    section-off 5 toComponent (now (c .before .before .before .before .before .before .before .args .file)) (λ a. fromPhases (a .records) (a .rest)) (c .before .before .before .read-components .ensures .0) (c .before .enum-told .given .1) (c .refusal .ensures) ∙ sym (decode-from (now (c .before .before .before .before .before .before .before .args .file)))
 
 section-part-requires : tie.Need-section-part-requires
 section-part-requires c κs = search needs
@@ -93,14 +93,14 @@ enum-known-second c = search needs
 enum-told-2 : tie.Need-enum-told-2
 enum-told-2 c = search needs
 
-section-refusal-requires-2 : tie.Need-section-refusal-requires-2
-section-refusal-requires-2 c κs = search needs
+refusal-requires-2 : tie.Need-refusal-requires-2
+refusal-requires-2 c κs = search needs
 
 returns-2 : tie.Need-returns-2
 unfolding fromPhases
 returns-2 c =
     let cs = componentsIn (now (c .before .before .before .before .before .before .section-part .result)) in
-    section-off 18 toPhase (now (c .before .before .before .before .before .section-rest .result)) (λ b. fromRules cs (b .records) (b .rest)) (c .before .before .before .read-phases .ensures) (c .before .enum-told2 .given .1) (c .section-refusal2 .ensures)
+    section-off 18 toPhase (now (c .before .before .before .before .before .section-rest .result)) (λ b. fromRules cs (b .records) (b .rest)) (c .before .before .before .read-phases .ensures) (c .before .enum-told2 .given .1) (c .refusal2 .ensures)
     ∙ sym (read-1 (c .before .before .before .before .before))
 
 section-rest-requires-2 : tie.Need-section-rest-requires-2
@@ -115,15 +115,15 @@ enum-known-third c = search needs
 enum-told-3 : tie.Need-enum-told-3
 enum-told-3 c = search needs
 
-section-refusal-requires-3 : tie.Need-section-refusal-requires-3
-section-refusal-requires-3 c κs = search needs
+refusal-requires-3 : tie.Need-refusal-requires-3
+refusal-requires-3 c κs = search needs
 
 returns-3 : tie.Need-returns-3
 unfolding fromRules
 returns-3 c =
     let cs = componentsIn (now (c .before .before .before .before .before .before .before .before .before .before .before .before .section-part .result)) in
     let ps = phasesIn (partOf 18 (c .before .before .before .before .before .before .before .second .given .0 .0) (now (c .before .before .before .before .before .before .before .before .before .before .before .section-rest .result))) in
-    section-off 18 toRule (now (c .before .before .before .before .before .section-rest2 .result)) (λ b. fromCouplings cs ps (b .records) (b .rest)) (c .before .before .before .read-rules .ensures) (c .before .enum-told3 .given .1) (c .section-refusal3 .ensures)
+    section-off 18 toRule (now (c .before .before .before .before .before .section-rest2 .result)) (λ b. fromCouplings cs ps (b .records) (b .rest)) (c .before .before .before .read-rules .ensures) (c .before .enum-told3 .given .1) (c .refusal3 .ensures)
     ∙ sym (read-2 (c .before .before .before .before .before))
 
 section-rest-requires-3 : tie.Need-section-rest-requires-3
@@ -138,8 +138,8 @@ enum-known-fourth c = search needs
 enum-told-4 : tie.Need-enum-told-4
 enum-told-4 c = search needs
 
-section-refusal-requires-4 : tie.Need-section-refusal-requires-4
-section-refusal-requires-4 c κs = search needs
+refusal-requires-4 : tie.Need-refusal-requires-4
+refusal-requires-4 c κs = search needs
 
 returns-4 : tie.Need-returns-4
 unfolding fromCouplings
@@ -147,7 +147,7 @@ returns-4 c =
     let cs = componentsIn (now (c .before .before .before .before .before .before .before .before .before .before .before .before .before .before .before .before .before .before .section-part .result)) in
     let ps = phasesIn (partOf 18 (c .before .before .before .before .before .before .before .before .before .before .before .before .before .second .given .0 .0) (now (c .before .before .before .before .before .before .before .before .before .before .before .before .before .before .before .before .before .section-rest .result))) in
     let rs = rulesIn (partOf 18 (c .before .before .before .before .before .before .before .third .given .0 .0) (now (c .before .before .before .before .before .before .before .before .before .before .before .section-rest2 .result))) in
-    section-off 4 toCoupling (now (c .before .before .before .before .before .section-rest3 .result)) (λ b. fromEnd cs ps rs (b .records) (b .rest)) (c .before .before .before .read-couplings .ensures) (c .before .enum-told4 .given .1) (c .section-refusal4 .ensures)
+    section-off 4 toCoupling (now (c .before .before .before .before .before .section-rest3 .result)) (λ b. fromEnd cs ps rs (b .records) (b .rest)) (c .before .before .before .read-couplings .ensures) (c .before .enum-told4 .given .1) (c .refusal4 .ensures)
     ∙ sym (read-3 (c .before .before .before .before .before))
 
 section-rest-requires-4 : tie.Need-section-rest-requires-4
@@ -169,26 +169,26 @@ decode-model-spec =
     read-components-requires
     enum-known-first
     enum-told
-    section-refusal-requires
+    refusal-requires
     returns
     section-part-requires
     section-rest-requires
     read-phases-requires
     enum-known-second
     enum-told-2
-    section-refusal-requires-2
+    refusal-requires-2
     returns-2
     section-rest-requires-2
     read-rules-requires
     enum-known-third
     enum-told-3
-    section-refusal-requires-3
+    refusal-requires-3
     returns-3
     section-rest-requires-3
     read-couplings-requires
     enum-known-fourth
     enum-told-4
-    section-refusal-requires-4
+    refusal-requires-4
     returns-4
     section-rest-requires-4
     returns-5

@@ -11,34 +11,32 @@ use Rattle.model_checks.proofs.are_related.Statement.{statement}
 use Rattle.model_checks.proofs.are_related.Tie as tie
 
 element-copy-out-size : tie.Need-element-copy-out-size
-element-copy-out-size c = omega (arith, c .before .pre .2 .0 .few)
-
-size-requires : tie.Need-size-requires
-size-requires c κs = search needs
+element-copy-out-size c = let start : tie.Start = search in omega (arith, start .pre .placed .0 .few)
 
 element-copy-out-size-2 : tie.Need-element-copy-out-size-2
-element-copy-out-size-2 c = omega (arith, c .before .before .before .pre .2 .0 .few)
-
-size-requires-2 : tie.Need-size-requires-2
-size-requires-2 c κs = search needs
+element-copy-out-size-2 c = let start : tie.Start = search in omega (arith, start .pre .placed .0 .few)
 
 returns : tie.Need-returns
 returns c =
-    let a = c .before .before .before .before .before .before .args in
-    let q = c .before .before .before .before .before .before .pre in
+    let start : tie.Start = search in
+    let a = start .args in
+    let q = start .pre in
     let cs = componentsIn (now (a .components)) in
-    let e : a .s ≡ a .t = c .if1 .taken in
-    rw e (sym (related-self cs (length cs) (a .t) (q .2 .0) (q .1)))
+    let e : a .source ≡ a .target = c .if1 .taken in
+    rw e (sym (related-self cs (length cs) (a .target) (q .placed .0) (q .toThere)))
 
 returns-2 : tie.Need-returns-2
 returns-2 c =
-    let a = c .before .before .before .before .before .before .args in
-    let q = c .before .before .before .before .before .before .pre in
+    let start : tie.Start = search in
+    let over-source : tie.After-size = search in
+    let over-target : tie.After-size2 = search in
+    let a = start .args in
+    let q = start .pre in
     let cs = componentsIn (now (a .components)) in
-    let f = c .before .before .before .size .ensures ∙ q .2 .1 .holds (a .s) (q .0) in
-    let g = c .before .size2 .ensures ∙ q .2 .1 .holds (a .t) (q .1) in
-    rw (f, g) (related-by cs (length cs) (a .s) (a .t) (q .2 .0) (q .0) (q .1) (c .if1 .left))
+    let f = over-source .size .ensures ∙ q .placed .1 .holds (a .source) (q .fromThere) in
+    let g = over-target .size2 .ensures ∙ q .placed .1 .holds (a .target) (q .toThere) in
+    rw (f, g) (related-by cs (length cs) (a .source) (a .target) (q .placed .0) (q .fromThere) (q .toThere) (c .if1 .left))
 
 pub are-related-spec : {M : Type 1} → statement M
 are-related-spec =
-    tie.close (tie.spec element-copy-out-size size-requires element-copy-out-size-2 size-requires-2 returns returns-2)
+    tie.close (tie.spec element-copy-out-size (search needs) element-copy-out-size-2 (search needs) returns returns-2)

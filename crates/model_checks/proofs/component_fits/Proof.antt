@@ -21,7 +21,7 @@ placed c =
     let a = c .before .before .before .before .before .before .before .before .args in
     let q = c .before .before .before .before .before .before .before .before .pre in
     let e = c .before .before .before .before .size .ensures ∙ ap (λ k. k .parent) (c .before .before .before .before .before .before .component-in .ensures) in
-    rw (c .size2 .ensures) (fits-by (componentsIn (now (a .components))) (a .i) (c .before .before .before .before .size .result) (c .before .before .before .before .before .if1 .left) e (now (a .depths)) (q .3) (now (a .phase-counts)) (q .2) (q .1) (c .before .before .before .if2 .left))
+    rw (c .size2 .ensures) (fits-by (componentsIn (now (a .components))) (a .i) (c .before .before .before .before .size .result) (c .before .before .before .before .before .if1 .left) e (now (a .depths)) (q .deep) (now (a .phase-counts)) (q .counted) (q .accepted) (c .before .before .before .if2 .left))
 
 component-in-requires : tie.Need-component-in-requires
 component-in-requires c κs = search needs

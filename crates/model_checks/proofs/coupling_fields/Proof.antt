@@ -10,42 +10,43 @@ use Rattle.laws.proofs.Tests.{and-left, and-right}
 use Rattle.model_checks.proofs.coupling_fields.Statement.{statement}
 use Rattle.model_checks.proofs.coupling_fields.Tie as tie
 
--- Not all of these tests pass.
-out-of-range : (c : tie.Then1) → (((ltb (c .before .before .before .before .size .result) (c .before .before .before .before .before .component-count .result) && ltb (c .before .before .before .size2 .result) (c .before .before .before .before .before .component-count .result)) && ltb (c .before .before .before .before .before .before .before .args .k .«source_port») 4) && ltb (c .before .before .before .before .before .before .before .args .k .«target_port») 4) ≡ false
-out-of-range c = not-true _ (c .if1 .taken)
-
--- Source and target are components, and there are such ports.
-in-range : (c : tie.Else1) → (((ltb (c .before .before .before .before .size .result) (c .before .before .before .before .before .component-count .result) && ltb (c .before .before .before .size2 .result) (c .before .before .before .before .before .component-count .result)) && ltb (c .before .before .before .before .before .before .before .args .k .«source_port») 4) && ltb (c .before .before .before .before .before .before .before .args .k .«target_port») 4) ≡ true
-in-range c = not-false _ (c .if1 .left)
-
-component-count-requires : tie.Need-component-count-requires
-component-count-requires c κs = search needs
-
-size-requires : tie.Need-size-requires
-size-requires c κs = search needs
-
-size-requires-2 : tie.Need-size-requires-2
-size-requires-2 c κs = search needs
-
 returns : tie.Need-returns
 unfolding couplingFields
 returns c =
-    rw (← c .before .before .before .before .before .component-count .ensures, ← c .before .before .before .before .size .ensures, ← c .before .before .before .size2 .ensures, out-of-range c)
+    let start : tie.Start = search in
+    let there : tie.After-component-count = search in
+    let source : tie.After-size = search in
+    let target : tie.After-size2 = search in
+    let n = there .component-count .result in
+    let k = start .args .coupling in
+    let e : (((ltb (source .size .result) n && ltb (target .size2 .result) n) && ltb (k .«source_port») 4) && ltb (k .«target_port») 4) ≡ false = not-true _ (c .if1 .taken) in
+    rw (← there .component-count .ensures, ← source .size .ensures, ← target .size2 .ensures, e)
 
 are-related-requires : tie.Need-are-related-requires
 are-related-requires c κs =
-    let n = c .before .before .before .before .before .component-count .result in
-    let s = c .before .before .before .before .size .result in
-    let t = c .before .before .before .size2 .result in
-    let b = and-left _ _ (and-left _ _ (in-range c)) in
-    let e = c .before .before .before .before .before .component-count .ensures in
-    (rw (← e) (ltb-true s n (and-left (ltb s n) (ltb t n) b)), rw (← e) (ltb-true t n (and-right (ltb s n) (ltb t n) b)), c .before .before .before .before .before .before .before .pre)
+    let start : tie.Start = search in
+    let there : tie.After-component-count = search in
+    let source : tie.After-size = search in
+    let target : tie.After-size2 = search in
+    let n = there .component-count .result in
+    let s = source .size .result in
+    let t = target .size2 .result in
+    let b = and-left _ _ (and-left _ _ (not-false _ (c .if1 .left))) in
+    let e = there .component-count .ensures in
+    record { fromThere = rw (← e) (ltb-true s n (and-left (ltb s n) (ltb t n) b)); toThere = rw (← e) (ltb-true t n (and-right (ltb s n) (ltb t n) b)); placed = start .pre }
 
 returns-2 : tie.Need-returns-2
 unfolding couplingFields
 returns-2 c =
-    rw (← c .before .before .before .before .before .before .component-count .ensures, ← c .before .before .before .before .before .size .ensures, ← c .before .before .before .before .size2 .ensures, in-range (c .before)) (c .are-related .ensures)
+    let start : tie.Start = search in
+    let there : tie.After-component-count = search in
+    let source : tie.After-size = search in
+    let target : tie.After-size2 = search in
+    let n = there .component-count .result in
+    let k = start .args .coupling in
+    let e : (((ltb (source .size .result) n && ltb (target .size2 .result) n) && ltb (k .«source_port») 4) && ltb (k .«target_port») 4) ≡ true = not-false _ (c .before .if1 .left) in
+    rw (← there .component-count .ensures, ← source .size .ensures, ← target .size2 .ensures, e) (c .are-related .ensures)
 
 pub coupling-fields-spec : {M : Type 1} → statement M
 coupling-fields-spec =
-    tie.close (tie.spec component-count-requires size-requires size-requires-2 returns are-related-requires returns-2)
+    tie.close (tie.spec (search needs) (search needs) (search needs) returns are-related-requires returns-2)

@@ -38,7 +38,7 @@ add-result-3 c = search needs
 
 returns : tie.Need-returns
 returns c =
-    rw (c .size4 .ensures, c .before .size3 .ensures, c .before .before .size2 .ensures, c .before .before .before .size .ensures) (coupling-of-key (couplingOf (c .before .before .before .before .args .k)) (omega arith) (omega arith) (omega arith))
+    rw (c .size4 .ensures, c .before .size3 .ensures, c .before .before .size2 .ensures, c .before .before .before .size .ensures) (coupling-of-key (couplingOf (c .before .before .before .before .args .coupling)) (omega arith) (omega arith) (omega arith))
 
 pub coupling-key-spec : {M : Type 1} → statement M
 coupling-key-spec =

@@ -29,7 +29,7 @@ returns-2 : tie.Need-returns-2
 unfolding couplingFits
 returns-2 c =
     let a = c .before .before .before .before .before .before .before .args in
-    let e = behind-falls (couplingsIn (now (a .couplings))) (a .i) (a .before) (c .before .coupling-key .result) (c .before .before .before .before .before .before .before .pre .1) (c .before .coupling-key .ensures ∙ c .before .before .before .before .coupling-in .ensures) in
+    let e = behind-falls (couplingsIn (now (a .couplings))) (a .i) (a .before) (c .before .coupling-key .result) (c .before .before .before .before .before .before .before .pre .behind) (c .before .coupling-key .ensures ∙ c .before .before .before .before .coupling-in .ensures) in
     let f : notFalling (couplingsIn (now (a .couplings))) (a .i) ≡ false = e ∙ lt-leb (a .before) (c .before .coupling-key .result) (c .if2 .taken) in
     rw (f, ← c .before .before .before .before .coupling-in .ensures, ← c .before .before .before .coupling-fields .ensures, not-false (c .before .before .before .coupling-fields .result) (c .before .before .if1 .left)) (sym (breaks _ 8 _ refl))
 
@@ -37,7 +37,7 @@ returns-3 : tie.Need-returns-3
 unfolding couplingFits
 returns-3 c =
     let a = c .before .before .before .before .before .before .before .args in
-    let e = behind-falls (couplingsIn (now (a .couplings))) (a .i) (a .before) (c .before .coupling-key .result) (c .before .before .before .before .before .before .before .pre .1) (c .before .coupling-key .ensures ∙ c .before .before .before .before .coupling-in .ensures) in
+    let e = behind-falls (couplingsIn (now (a .couplings))) (a .i) (a .before) (c .before .coupling-key .result) (c .before .before .before .before .before .before .before .pre .behind) (c .before .coupling-key .ensures ∙ c .before .before .before .before .coupling-in .ensures) in
     let f : notFalling (couplingsIn (now (a .couplings))) (a .i) ≡ true = e ∙ le-leb (a .before) (c .before .coupling-key .result) (c .if2 .left) in
     rw (f, ← c .before .before .before .before .coupling-in .ensures, ← c .before .before .before .coupling-fields .ensures, not-false (c .before .before .before .coupling-fields .result) (c .before .before .if1 .left)) (sym (keeps _ 8 _ refl))
 

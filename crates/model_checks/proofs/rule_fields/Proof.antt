@@ -14,32 +14,27 @@ use Rattle.model_checks.proofs.Kept.{rule-by}
 use Rattle.model_checks.proofs.rule_fields.Statement.{statement}
 use Rattle.model_checks.proofs.rule_fields.Tie as tie
 
-size-requires : tie.Need-size-requires
-size-requires c κs = search needs
-
-component-count-requires : tie.Need-component-count-requires
-component-count-requires c κs = search needs
-
 returns : tie.Need-returns
 unfolding ruleFields
 returns c =
-    rw (← c .before .component-count .ensures, ← c .before .before .size .ensures, le-ltb _ _ (c .if1 .taken))
+    let component : tie.After-size = search in
+    rw (← c .before .component-count .ensures, ← component .size .ensures, le-ltb _ _ (c .if1 .taken))
 
 element-copy-out-phases : tie.Need-element-copy-out-phases
 element-copy-out-phases c =
-    omega (arith, c .before .component-count .ensures, c .before .before .before .before .pre .0 .few)
+    let start : tie.Start = search in
+    omega (arith, c .before .component-count .ensures, start .pre .0 .few)
 
 returns-2 : tie.Need-returns-2
 returns-2 c =
-    let a = c .before .before .before .before .before .before .before .before .before .before .args in
-    let q = c .before .before .before .before .before .before .before .before .before .before .pre in
-    let cs = componentsIn (now (a .components)) in
-    let own = c .before .before .before .before .before .before .before .before .size .result in
-    let l : own < length cs = omega (arith, c .before .before .before .before .before .before .before .component-count .ensures) in
-    let e = c .before .before .before .before .before .before .before .before .size .ensures in
-    rule-by cs (ruleOf (a .k)) (q .0) (rw (← e) l) (q .1 .holds own l ∙ ap (λ c. componentAt cs c .phases) e)
+    let start : tie.Start = search in
+    let component : tie.After-size = search in
+    let there : tie.After-component-count = search in
+    let cs = componentsIn (now (start .args .components)) in
+    let number = component .size .result in
+    let e = component .size .ensures in
+    let l : number < length cs = omega (arith, there .component-count .ensures) in
+    rule-by cs (ruleOf (start .args .rule)) (start .pre .0) (rw (← e) l) (start .pre .1 .holds number l ∙ ap (λ c. componentAt cs c .phases) e)
 
 pub rule-fields-spec : {M : Type 1} → statement M
-rule-fields-spec =
-    tie.close
-    (tie.spec size-requires component-count-requires returns element-copy-out-phases returns-2)
+rule-fields-spec = tie.close (tie.spec (search needs) (search needs) returns element-copy-out-phases returns-2)

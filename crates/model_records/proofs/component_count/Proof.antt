@@ -2,6 +2,7 @@
 -- nothing.
 use mathlib.Core.Path.{sym}
 use denote.Ref.{now}
+use Rattle.definition.specs.Limits.{componentSize}
 use Rattle.model_records.specs.Values.{componentsIn}
 use Rattle.definition.specs.Pinned.Decoder.{toComponent}
 use Rattle.byte_laws.proofs.Records.{length-records}
@@ -11,7 +12,7 @@ use Rattle.model_records.proofs.component_count.Tie as tie
 returns : tie.Need-returns
 unfolding componentsIn
 returns c =
-    sym (length-records 5 toComponent (now (c .args .components)))
+    sym (length-records componentSize toComponent (now (c .args .components)))
 
 pub component-count-spec : {M : Type 1} → statement M
 component-count-spec = tie.close (tie.spec returns)

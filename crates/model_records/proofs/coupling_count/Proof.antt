@@ -2,6 +2,7 @@
 -- nothing.
 use mathlib.Core.Path.{sym}
 use denote.Ref.{now}
+use Rattle.definition.specs.Limits.{couplingSize}
 use Rattle.model_records.specs.Values.{couplingsIn}
 use Rattle.definition.specs.Pinned.Decoder.{toCoupling}
 use Rattle.byte_laws.proofs.Records.{length-records}
@@ -11,7 +12,7 @@ use Rattle.model_records.proofs.coupling_count.Tie as tie
 returns : tie.Need-returns
 unfolding couplingsIn
 returns c =
-    sym (length-records 4 toCoupling (now (c .args .couplings)))
+    sym (length-records couplingSize toCoupling (now (c .args .couplings)))
 
 pub coupling-count-spec : {M : Type 1} → statement M
 coupling-count-spec = tie.close (tie.spec returns)

@@ -2,6 +2,7 @@
 -- nothing.
 use mathlib.Core.Path.{sym}
 use denote.Ref.{now}
+use Rattle.definition.specs.Limits.{phaseSize}
 use Rattle.model_records.specs.Values.{phasesIn}
 use Rattle.definition.specs.Pinned.Decoder.{toPhase}
 use Rattle.byte_laws.proofs.Records.{length-records}
@@ -11,7 +12,7 @@ use Rattle.model_records.proofs.phase_count.Tie as tie
 returns : tie.Need-returns
 unfolding phasesIn
 returns c =
-    sym (length-records 18 toPhase (now (c .args .phases)))
+    sym (length-records phaseSize toPhase (now (c .args .phases)))
 
 pub phase-count-spec : {M : Type 1} → statement M
 phase-count-spec = tie.close (tie.spec returns)

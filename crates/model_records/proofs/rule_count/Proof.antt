@@ -2,6 +2,7 @@
 -- nothing.
 use mathlib.Core.Path.{sym}
 use denote.Ref.{now}
+use Rattle.definition.specs.Limits.{ruleSize}
 use Rattle.model_records.specs.Values.{rulesIn}
 use Rattle.definition.specs.Pinned.Decoder.{toRule}
 use Rattle.byte_laws.proofs.Records.{length-records}
@@ -11,7 +12,7 @@ use Rattle.model_records.proofs.rule_count.Tie as tie
 returns : tie.Need-returns
 unfolding rulesIn
 returns c =
-    sym (length-records 18 toRule (now (c .args .rules)))
+    sym (length-records ruleSize toRule (now (c .args .rules)))
 
 pub rule-count-spec : {M : Type 1} → statement M
 rule-count-spec = tie.close (tie.spec returns)

@@ -8,34 +8,28 @@ use Rattle.model_sections.proofs.head_number.Tie as tie
 
 returns : tie.Need-returns
 unfolding sectionCount
-returns c =
-    rw (lt-ltb _ _ (c .if1 .taken))
+returns c = rw (lt-ltb _ _ (c .if1 .taken))
 
 returns-2 : tie.Need-returns-2
 unfolding sectionCount
-returns-2 c =
-    rw (le-ltb _ _ (c .before .if1 .left), lt-ltb _ _ (c .if2 .taken))
-
-u16-at-requires : tie.Need-u16-at-requires
-u16-at-requires c κs = search needs
-
-length-of-requires : tie.Need-length-of-requires
-length-of-requires c κs = search needs
-
-add-end : tie.Need-add-end
-add-end c = search needs
+returns-2 c = rw (le-ltb _ _ (c .before .if1 .left), lt-ltb _ _ (c .if2 .taken))
 
 returns-3 : tie.Need-returns-3
 unfolding sectionCount
 returns-3 c =
-    rw (le-ltb _ _ (c .before .before .before .before .if1 .left), le-ltb _ _ (c .before .before .before .if2 .left), ← c .before .before .u16-at .ensures, ← c .before .length-of .ensures .0, lt-ltb _ _ (c .if3 .taken))
+    let counted : tie.Else1 = search in
+    let judged : tie.Else2 = search in
+    let count : tie.After-u16-at = search in
+    rw (le-ltb _ _ (counted .if1 .left), le-ltb _ _ (judged .if2 .left), ← count .u16-at .ensures, ← c .before .length-of .ensures .0, lt-ltb _ _ (c .if3 .taken))
 
 returns-4 : tie.Need-returns-4
 unfolding sectionCount
 returns-4 c =
-    rw (le-ltb _ _ (c .before .before .before .before .if1 .left), le-ltb _ _ (c .before .before .before .if2 .left), ← c .before .before .u16-at .ensures, ← c .before .length-of .ensures .0, le-ltb _ _ (c .if3 .left))
+    let counted : tie.Else1 = search in
+    let judged : tie.Else2 = search in
+    let count : tie.After-u16-at = search in
+    rw (le-ltb _ _ (counted .if1 .left), le-ltb _ _ (judged .if2 .left), ← count .u16-at .ensures, ← c .before .length-of .ensures .0, le-ltb _ _ (c .if3 .left))
 
 pub head-number-spec : {M : Type 1} → statement M
 head-number-spec =
-    tie.close
-    (tie.spec returns returns-2 u16-at-requires length-of-requires add-end returns-3 returns-4)
+    tie.close (tie.spec returns returns-2 (search needs) (search needs) (search needs) returns-3 returns-4)

@@ -1,22 +1,20 @@
--- `model_sections::length_of` meets its contract. A two-byte count times a one-byte size fits (count-bytes). Assumes nothing.
+-- `model_sections::length_of` meets its contract. A count of two bytes times a size of one byte fits. Assumes nothing.
 use borrow.Author.Needs.{needs}
 use native.Mathlib.Omega.{arith}
-use Rattle.model_sections.proofs.Opened.{count-bytes}
+use native.Mathlib.Nat.{mul-le-mul}
+use Prim.Native.Nat.{ℕ, _*_, _≤_}
 use Rattle.model_sections.proofs.length_of.Statement.{statement}
 use Rattle.model_sections.proofs.length_of.Tie as tie
 
-size16-requires : tie.Need-size16-requires
-size16-requires c κs = search needs
+few : (count size : ℕ) → count ≤ 65535 → size ≤ 255 → count * size ≤ 16711425
+few count size h l = mul-le-mul {n₁ = count} {m₁ = size} {n₂ = 65535} {m₂ = 255} h l
 
 mul-result : tie.Need-mul-result
-mul-result c =
-    let a = c .before .args in
-    omega (arith, count-bytes (c .size16 .result) (a .size) (omega arith) (omega arith))
+mul-result c = omega (arith, few (c .size16 .result) (c .before .args .size) (omega arith) (omega arith))
 
 returns : tie.Need-returns
 returns c =
-    let a = c .before .args in
-    (rw (c .size16 .ensures), omega (arith, count-bytes (c .size16 .result) (a .size) (omega arith) (omega arith)))
+    (rw (c .size16 .ensures), omega (arith, few (c .size16 .result) (c .before .args .size) (omega arith) (omega arith)))
 
 pub length-of-spec : {M : Type 1} → statement M
-length-of-spec = tie.close (tie.spec size16-requires mul-result returns)
+length-of-spec = tie.close (tie.spec (search needs) mul-result returns)

@@ -18,8 +18,8 @@ enum-known-checked c = search needs
 enum-told : tie.Need-enum-told
 enum-told c = search needs
 
-checked-number-requires : tie.Need-checked-number-requires
-checked-number-requires c κs = search needs
+refusal-requires : tie.Need-refusal-requires
+refusal-requires c κs = search needs
 
 wide16-requires : tie.Need-wide16-requires
 wide16-requires c κs = search needs
@@ -31,7 +31,7 @@ returns : tie.Need-returns
 returns c =
     let a = c .before .before .before .before .before .before .before .before .before .args in
     let told = sym (ap (checkedAs (a .file .now)) (c .before .before .before .enum-told .given .1)) ∙ c .before .before .before .before .before .open-model .ensures .0 in
-    c .refused .ensures ∙ rw (c .before .wide16 .ensures, c .before .before .checked-number .ensures, c .before .before .before .enum-told .given .1) (read-refused (a .file .now) (a .run .now) (a .position) _ told)
+    c .refused .ensures ∙ rw (c .before .wide16 .ensures, c .before .before .refusal .ensures, c .before .before .before .enum-told .given .1) (read-refused (a .file .now) (a .run .now) (a .position) _ told)
 
 read-accepted-requires : tie.Need-read-accepted-requires
 read-accepted-requires c κs =
@@ -46,4 +46,4 @@ returns-2 c =
 
 pub read-spec : {M : Type 1} → statement M
 read-spec =
-    tie.close (tie.spec open-model-requires enum-known-checked enum-told checked-number-requires wide16-requires refused-requires returns read-accepted-requires returns-2)
+    tie.close (tie.spec open-model-requires enum-known-checked enum-told refusal-requires wide16-requires refused-requires returns read-accepted-requires returns-2)

@@ -12,13 +12,13 @@ use Rattle.route_count.proofs.check_model.Tie as tie
 check-requires : tie.Need-check-requires
 check-requires c κs = search needs
 
-checked-number-requires : tie.Need-checked-number-requires
-checked-number-requires c κs = search needs
+refusal-requires : tie.Need-refusal-requires
+refusal-requires c κs = search needs
 
 returns : tie.Need-returns
 unfolding checkModel
 returns c =
-    c .checked-number .ensures ∙ number-of (now (c .before .before .before .args .file)) (c .before .check .result) ∙ ap numberOf (c .before .check .ensures)
+    c .refusal .ensures ∙ number-of (now (c .before .before .before .args .file)) (c .before .check .result) ∙ ap numberOf (c .before .check .ensures)
 
 pub check-model-spec : {M : Type 1} → statement M
-check-model-spec = tie.close (tie.spec check-requires checked-number-requires returns)
+check-model-spec = tie.close (tie.spec check-requires refusal-requires returns)

@@ -27,15 +27,15 @@ enum-known-read c = search needs
 enum-told : tie.Need-enum-told
 enum-told c = search needs
 
-checked-number-requires : tie.Need-checked-number-requires
-checked-number-requires c κs = search needs
+refusal-requires : tie.Need-refusal-requires
+refusal-requires c κs = search needs
 
 returns : tie.Need-returns
 returns c =
     let file = now (c .before .before .before .before .before .args .file) in
     let e = c .before .enum-told .given .1 in
     let d = sym (c .before .before .before .decode-model .ensures) ∙ ap (checkedAs file) e in
-    (sym (accepted-no file _ d ∙ ap refused (sym (c .checked-number .ensures ∙ ap checkedNumber e))), tt, tt)
+    (sym (accepted-no file _ d ∙ ap refused (sym (c .refusal .ensures ∙ ap checkedNumber e))), tt, tt)
 
 components-of-requires : tie.Need-components-of-requires
 components-of-requires c κs = search needs
@@ -96,7 +96,7 @@ check-routes-spec =
     decode-model-requires
     enum-known-read
     enum-told
-    checked-number-requires
+    refusal-requires
     returns
     components-of-requires
     couplings-of-requires

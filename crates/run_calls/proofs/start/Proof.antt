@@ -20,8 +20,8 @@ enum-known-checked c = search needs
 enum-told : tie.Need-enum-told
 enum-told c = search needs
 
-checked-number-requires : tie.Need-checked-number-requires
-checked-number-requires c κs = search needs
+refusal-requires : tie.Need-refusal-requires
+refusal-requires c κs = search needs
 
 wide16-requires : tie.Need-wide16-requires
 wide16-requires c κs = search needs
@@ -30,7 +30,7 @@ returns : tie.Need-returns
 returns c =
     let a = c .before .before .before .before .before .before .before .args in
     let told = sym (ap (checkedAs (a .file .now)) (c .before .before .enum-told .given .1)) ∙ c .before .before .before .before .check .ensures in
-    rw (c .wide16 .ensures, c .before .checked-number .ensures, c .before .before .enum-told .given .1) (start-refused (a .file .now) (a .run .now) _ told)
+    rw (c .wide16 .ensures, c .before .refusal .ensures, c .before .before .enum-told .given .1) (start-refused (a .file .now) (a .run .now) _ told)
 
 components-of-requires : tie.Need-components-of-requires
 components-of-requires c κs = search needs
@@ -52,4 +52,4 @@ returns-2 c =
 
 pub start-spec : {M : Type 1} → statement M
 start-spec =
-    tie.close (tie.spec check-requires enum-known-checked enum-told checked-number-requires wide16-requires returns components-of-requires start-run-requires same-length returns-2)
+    tie.close (tie.spec check-requires enum-known-checked enum-told refusal-requires wide16-requires returns components-of-requires start-run-requires same-length returns-2)

@@ -1,4 +1,4 @@
--- `model_checks::slots_fit` meets its contract. The tests on the slots are tests on their keys (slots-keys); for each number of used slots
+-- `model_checks::phase_slots::slots_fit` meets its contract. The tests on the slots are tests on their keys (slots-keys); for each number of used slots
 -- the code takes those that are left. Assumes nothing.
 use borrow.Author.Needs.{needs}
 use native.Mathlib.Omega.{arith}
@@ -7,13 +7,13 @@ use mathlib.Core.Bool.{_&&_}
 use Rattle.definition.specs.Pinned.Decoder.{usedFit, unusedFit}
 use Rattle.model_records.specs.Values.{phaseOf}
 use Rattle.model_checks.proofs.Slots.{byKeys, slots-keys, all-used, fourth-set, three-used, third-set, two-used, second-set, one-used, none-used}
-use Rattle.model_checks.proofs.slots_fit.Statement.{statement}
-use Rattle.model_checks.proofs.slots_fit.Tie as tie
+use Rattle.model_checks.proofs.phase_slots.slots_fit.Statement.{statement}
+use Rattle.model_checks.proofs.phase_slots.slots_fit.Tie as tie
 
 -- The four keys give the tests.
-by-keys : (c : tie.After-message-key4) → (usedFit (phaseOf (c .before .before .before .before .args .k)) && unusedFit (phaseOf (c .before .before .before .before .args .k))) ≡ byKeys (c .before .before .before .before .args .k .count) (c .before .before .before .message-key .result) (c .before .before .message-key2 .result) (c .before .message-key3 .result) (c .message-key4 .result)
+by-keys : (c : tie.After-message-key4) → (usedFit (phaseOf (c .before .before .before .before .args .phase)) && unusedFit (phaseOf (c .before .before .before .before .args .phase))) ≡ byKeys (c .before .before .before .before .args .phase .count) (c .before .before .before .message-key .result) (c .before .before .message-key2 .result) (c .before .message-key3 .result) (c .message-key4 .result)
 by-keys c =
-    slots-keys (phaseOf (c .before .before .before .before .args .k)) (c .before .before .before .message-key .result) (c .before .before .message-key2 .result) (c .before .message-key3 .result) (c .message-key4 .result) (c .before .before .before .message-key .ensures) (c .before .before .message-key2 .ensures) (c .before .message-key3 .ensures) (c .message-key4 .ensures)
+    slots-keys (phaseOf (c .before .before .before .before .args .phase)) (c .before .before .before .message-key .result) (c .before .before .message-key2 .result) (c .before .message-key3 .result) (c .message-key4 .result) (c .before .before .before .message-key .ensures) (c .before .before .message-key2 .ensures) (c .before .message-key3 .ensures) (c .message-key4 .ensures)
 
 message-key-requires : tie.Need-message-key-requires
 message-key-requires c κs = search needs

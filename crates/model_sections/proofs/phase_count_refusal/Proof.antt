@@ -1,8 +1,8 @@
--- `model_sections::phase_wrong` meets its contract. The definition's two tests in its order. Assumes nothing.
+-- `model_sections::phase_count_refusal` meets its contract. The definition's two tests in its order. Assumes nothing.
 use borrow.Author.Tests.{lt-ltb, le-ltb, ne-eqb, eq-eqb}
 use Rattle.definition.specs.Pinned.Decoder.{phaseCountRefusal}
-use Rattle.model_sections.proofs.phase_wrong.Statement.{statement}
-use Rattle.model_sections.proofs.phase_wrong.Tie as tie
+use Rattle.model_sections.proofs.phase_count_refusal.Statement.{statement}
+use Rattle.model_sections.proofs.phase_count_refusal.Tie as tie
 
 returns : tie.Need-returns
 unfolding phaseCountRefusal
@@ -19,5 +19,5 @@ unfolding phaseCountRefusal
 returns-3 c =
     rw (le-ltb _ _ (c .before .if1 .left), eq-eqb _ _ (c .if2 .left))
 
-pub phase-wrong-spec : {M : Type 1} → statement M
-phase-wrong-spec = tie.close (tie.spec returns returns-2 returns-3)
+pub phase-count-refusal-spec : {M : Type 1} → statement M
+phase-count-refusal-spec = tie.close (tie.spec returns returns-2 returns-3)
