@@ -66,10 +66,10 @@ Counted cs counts = Accepted cs (length cs) × PhaseCounts cs (length cs) counts
 abbrev pub Placed : List Component → List ℕ → Type 0
 Placed cs parents = Accepted cs (length cs) × Parents cs (length cs) parents
 
--- Two components, and where all stand.
-pub record Two (cs : List Component) (source target : ℕ) (parents : List ℕ) : Type 0 where
-  pub fromThere : source < length cs
-  pub toThere : target < length cs
+-- Source and target are components, and it is known where all stand.
+pub record EndsThere (cs : List Component) (source target : ℕ) (parents : List ℕ) : Type 0 where
+  pub sourceThere : source < length cs
+  pub targetThere : target < length cs
   pub placed : Placed cs parents
 
 -- ---- couplings

@@ -10,7 +10,7 @@ ghost use Rattle.definition.specs.Model.{noPhase, noRule, noCoupling, component
 ghost use Rattle.definition.specs.Pinned.Decoder.{kindFields, componentFits, advanceFits, phaseFields, ruleFields, related, couplingFields, couplingFits};
 ghost use Rattle.model_records.specs.Values.{componentOf, ruleOf, couplingOf, componentsIn, phasesIn, rulesIn, couplingsIn};
 ghost use Rattle.model_checks.specs.Reads.{couplingOfKey, checked, componentRead, phaseRead, ruleRead, couplingRead};
-ghost use Rattle.model_checks.specs.Known.{Next, Keepable, Keeps, Counted, Placed, Two, NextRow};
+ghost use Rattle.model_checks.specs.Known.{Next, Keepable, Keeps, Counted, Placed, EndsThere, NextRow};
 
 mod phase_slots;
 
@@ -175,11 +175,11 @@ pub fn keep_component(
 
 // The fields before the slots.
 fn phase_numbers(bound: u8, phase: Phase) -> bool
-    ensures { λ r. ⌜ r ≡ (advanceFits (phase .advance) && ltb (phase .next) bound && leb (phase .count) maxOutputs) ⌝ }
+    ensures { λ r. ⌜ r ≡ (advanceFits (phase .advance) && ltb (phase .next) bound && leb (phase .«output_count») maxOutputs) ⌝ }
 {
     ((phase.advance <= MAX_ADVANCE) | (phase.advance == NEVER_FIELD))
         & (phase.next < bound)
-        & (phase.count <= MAX_OUTPUTS)
+        & (phase.output_count <= MAX_OUTPUTS)
 }
 
 // Phase record i, whose atomic has `bound` phases.
@@ -244,7 +244,7 @@ fn are_related(
     source: usize,
     target: usize,
 ) -> bool
-    requires { ⌜ Two (componentsIn (now components)) source target (now parents) ⌝ }
+    requires { ⌜ EndsThere (componentsIn (now components)) source target (now parents) ⌝ }
     ensures { λ r. ⌜ r ≡ related (componentsIn (now (components .entry))) source target ⌝ }
 {
     let over_source = size(parents[source]);

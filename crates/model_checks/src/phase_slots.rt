@@ -24,7 +24,7 @@ fn message_key(message: Message) -> usize
 pub fn slots_fit(phase: Phase) -> bool
     ensures { λ r. ⌜ r ≡ (usedFit (phaseOf phase) && unusedFit (phaseOf phase)) ⌝ }
 {
-    let used = phase.count;
+    let used = phase.output_count;
     let key0 = message_key(phase.slot0);
     let key1 = message_key(phase.slot1);
     let key2 = message_key(phase.slot2);

@@ -24,7 +24,7 @@ abbrev pub phaseOf : P.Phase → Phase
 phaseOf p = record {
   advance = p .advance;
   next = p .next;
-  outputCount = p .count;
+  outputCount = p .«output_count»;
   slot0 = messageOf (p .slot0);
   slot1 = messageOf (p .slot1);
   slot2 = messageOf (p .slot2);

@@ -32,7 +32,7 @@ pub struct Message {
 pub struct Phase {
     pub advance: u32,
     pub next: u8,
-    pub count: u8,
+    pub output_count: u8,
     pub slot0: Message,
     pub slot1: Message,
     pub slot2: Message,
@@ -147,7 +147,7 @@ pub fn phase_in(phases: &[u8], i: usize) -> Phase
     Phase {
         advance: little_endian::u32_at(bytes, 0),
         next: little_endian::byte_at(bytes, 4),
-        count: little_endian::byte_at(bytes, 5),
+        output_count: little_endian::byte_at(bytes, 5),
         slot0: message_at(bytes, 6),
         slot1: message_at(bytes, 9),
         slot2: message_at(bytes, 12),
@@ -164,7 +164,7 @@ pub fn phase_at(phases: &[u8], i: usize) -> Phase
         Phase {
             advance: 0,
             next: 0,
-            count: 0,
+            output_count: 0,
             slot0: NO_MESSAGE,
             slot1: NO_MESSAGE,
             slot2: NO_MESSAGE,

@@ -23,7 +23,7 @@ returns c =
     let q = start .pre in
     let cs = componentsIn (now (a .components)) in
     let e : a .source ≡ a .target = c .if1 .taken in
-    rw e (sym (related-self cs (length cs) (a .target) (q .placed .0) (q .toThere)))
+    rw e (sym (related-self cs (length cs) (a .target) (q .placed .0) (q .targetThere)))
 
 returns-2 : tie.Need-returns-2
 returns-2 c =
@@ -33,9 +33,9 @@ returns-2 c =
     let a = start .args in
     let q = start .pre in
     let cs = componentsIn (now (a .components)) in
-    let f = over-source .size .ensures ∙ q .placed .1 .holds (a .source) (q .fromThere) in
-    let g = over-target .size2 .ensures ∙ q .placed .1 .holds (a .target) (q .toThere) in
-    rw (f, g) (related-by cs (length cs) (a .source) (a .target) (q .placed .0) (q .fromThere) (q .toThere) (c .if1 .left))
+    let f = over-source .size .ensures ∙ q .placed .1 .holds (a .source) (q .sourceThere) in
+    let g = over-target .size2 .ensures ∙ q .placed .1 .holds (a .target) (q .targetThere) in
+    rw (f, g) (related-by cs (length cs) (a .source) (a .target) (q .placed .0) (q .sourceThere) (q .targetThere) (c .if1 .left))
 
 pub are-related-spec : {M : Type 1} → statement M
 are-related-spec =

@@ -33,7 +33,7 @@ are-related-requires c κs =
     let t = target .size2 .result in
     let b = and-left _ _ (and-left _ _ (not-false _ (c .if1 .left))) in
     let e = there .component-count .ensures in
-    record { fromThere = rw (← e) (ltb-true s n (and-left (ltb s n) (ltb t n) b)); toThere = rw (← e) (ltb-true t n (and-right (ltb s n) (ltb t n) b)); placed = start .pre }
+    record { sourceThere = rw (← e) (ltb-true s n (and-left (ltb s n) (ltb t n) b)); targetThere = rw (← e) (ltb-true t n (and-right (ltb s n) (ltb t n) b)); placed = start .pre }
 
 returns-2 : tie.Need-returns-2
 unfolding couplingFields

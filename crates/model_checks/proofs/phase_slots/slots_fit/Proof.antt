@@ -11,7 +11,7 @@ use Rattle.model_checks.proofs.phase_slots.slots_fit.Statement.{stateme
 use Rattle.model_checks.proofs.phase_slots.slots_fit.Tie as tie
 
 -- The four keys give the tests.
-by-keys : (c : tie.After-message-key4) → (usedFit (phaseOf (c .before .before .before .before .args .phase)) && unusedFit (phaseOf (c .before .before .before .before .args .phase))) ≡ byKeys (c .before .before .before .before .args .phase .count) (c .before .before .before .message-key .result) (c .before .before .message-key2 .result) (c .before .message-key3 .result) (c .message-key4 .result)
+by-keys : (c : tie.After-message-key4) → (usedFit (phaseOf (c .before .before .before .before .args .phase)) && unusedFit (phaseOf (c .before .before .before .before .args .phase))) ≡ byKeys (c .before .before .before .before .args .phase .«output_count») (c .before .before .before .message-key .result) (c .before .before .message-key2 .result) (c .before .message-key3 .result) (c .message-key4 .result)
 by-keys c =
     slots-keys (phaseOf (c .before .before .before .before .args .phase)) (c .before .before .before .message-key .result) (c .before .before .message-key2 .result) (c .before .message-key3 .result) (c .message-key4 .result) (c .before .before .before .message-key .ensures) (c .before .before .message-key2 .ensures) (c .before .message-key3 .ensures) (c .message-key4 .ensures)
 
