@@ -1,17 +1,38 @@
 -- What is known of the first n components, from none to all of them: where one more is accepted, there is a place for it, and what is kept
 -- of it is known too. Assumes nothing.
-use mathlib.Core.Path.{_≡_, refl, ap}
+use mathlib.Core.Path.{_≡_, refl, sym, ap, _∙_}
 use mathlib.Core.List.{List}
-use mathlib.Core.Bool.{Bool, true, false}
+use mathlib.Core.Bool.{Bool, true, false, _&&_, and-false}
 use Prim.Native.Nat.{ℕ, _+_, _<_}
-use lib.Dec.{leb, eqb}
-use lib.ListN.{length}
-use borrow.Author.Tests.{eqb-true, eqb-false}
-use Rattle.definition.specs.Limits.{maxComponents}
+use lib.Dec.{leb, ltb, eqb}
+use lib.ListN.{length, getD}
+use borrow.Author.Tests.{eqb-true, eqb-false, ltb-true, ltb-false}
+use Rattle.definition.specs.Limits.{maxComponents, maxAncestors}
 use Rattle.definition.specs.Model.{Component, componentAt}
-use Rattle.definition.specs.Pinned.Decoder.{rootWithin, componentFits}
-use Rattle.model_checks.specs.Known.{Accepted, Parents, PhaseCounts, Depths, Next, Keepable, Keeps, depthOf}
-use Rattle.model_checks.proofs.Kept.{each-none, each-more, accepted-none, accepted-more, depth-root, over-below, depth-fits, deeper}
+use Rattle.definition.specs.Pinned.Decoder.{kindFields, rootWithin, componentFits}
+use Rattle.model_checks.specs.Known.{Accepted, Parents, PhaseCounts, Depths, fitsBehind, Next, Keepable, Keeps, depthOf}
+use Rattle.model_checks.proofs.Kept.{each-none, each-more, accepted-none, accepted-more, depth-root, misplaced, fits-by, over-below, depth-fits, deeper}
+
+-- The lines of a record, by what is known of those before it, are its lines.
+pub fits-known : {cs : List Component} {i : ℕ} {counts depths : List ℕ} {k : Component} → Next cs i counts depths → k ≡ componentAt cs i
+    → fitsBehind k i counts depths ≡ componentFits cs i
+unfolding fitsBehind componentFits
+fits-known {cs} {i} {counts} {depths} {k} next is = go (eqb i 0) refl (ltb (k .parent) i) refl
+  where
+    e : k .parent ≡ componentAt cs i .parent
+    e = ap (λ k. k .parent) is
+
+    early : eqb i 0 ≡ false → ltb (k .parent) i ≡ true
+        → fitsBehind k i counts depths ≡ (kindFields (componentAt cs i) && (eqb (getD counts (k .parent) 0) 0 && ltb (getD depths (k .parent) 0) maxAncestors))
+    early f g = rw (f, g, ← is)
+
+    late : eqb i 0 ≡ false → ltb (k .parent) i ≡ false → fitsBehind k i counts depths ≡ false
+    late f g = rw (f, g) (simp and-false)
+
+    go : (t : Bool) → eqb i 0 ≡ t → (u : Bool) → ltb (k .parent) i ≡ u → fitsBehind k i counts depths ≡ componentFits cs i
+    go true f u g = rw (f, is)
+    go false f true g = early f g ∙ fits-by cs i (k .parent) (eqb-false i 0 f) e depths (next .deep) counts (next .counted) (next .accepted) (ltb-true (k .parent) i g)
+    go false f false g = late f g ∙ sym (misplaced cs i (k .parent) (eqb-false i 0 f) e (ltb-false (k .parent) i g))
 
 pub record FirstKnown (cs : List Component) (n : ℕ) (parents counts depths : List ℕ) : Type 0 where
   pub accepted : Accepted cs n

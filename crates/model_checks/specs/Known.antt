@@ -2,13 +2,13 @@
 -- record. Assumes nothing.
 use mathlib.Core.Path.{_≡_}
 use mathlib.Core.List.{List}
-use mathlib.Core.Bool.{true, cond}
+use mathlib.Core.Bool.{Bool, true, _&&_, cond}
 use Prim.Native.Nat.{ℕ, zero, suc, _+_, _≤_, _<_}
-use lib.Dec.{leb, eqb}
+use lib.Dec.{leb, ltb, eqb}
 use lib.ListN.{length, getD, set}
 use Rattle.definition.specs.Limits.{maxComponents, maxAncestors}
 use Rattle.definition.specs.Model.{Component, Coupling, componentAt, noCoupling}
-use Rattle.definition.specs.Pinned.Decoder.{rootWithin, componentFits}
+use Rattle.definition.specs.Pinned.Decoder.{kindFields, rootFields, rootWithin, componentFits}
 use Rattle.laws.specs.Keys as Keys
 
 pub record Accepted (cs : List Component) (n : ℕ) : Type 0 where
@@ -31,6 +31,18 @@ abbrev pub Depths : List Component → ℕ → List ℕ → Type 0
 Depths cs n array = Each (λ c depth. (most : ℕ) → rootWithin most cs c ≡ leb depth most) n array
 
 -- ---- one more component
+
+-- Two arrays with a place for each of the first n components.
+pub record Room (n : ℕ) (counts depths : List ℕ) : Type 0 where
+  pub few : n ≤ maxComponents
+  pub countsRoom : length counts ≡ maxComponents
+  pub depthsRoom : length depths ≡ maxComponents
+
+-- The lines of component k, of number i, by the phase counts and depths of those before it.
+unfoldable pub fitsBehind : Component → ℕ → List ℕ → List ℕ → Bool
+fitsBehind k i counts depths =
+    kindFields k
+    && cond (eqb i 0) (rootFields k) (ltb (k .parent) i && (eqb (getD counts (k .parent) 0) 0 && ltb (getD depths (k .parent) 0) maxAncestors))
 
 -- Record i is the next to be read: it is there, and this is known of those before it.
 pub record Next (cs : List Component) (i : ℕ) (counts depths : List ℕ) : Type 0 where

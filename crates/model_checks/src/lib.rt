@@ -10,7 +10,7 @@ ghost use Rattle.definition.specs.Model.{noPhase, noRule, noCoupling, component
 ghost use Rattle.definition.specs.Pinned.Decoder.{kindFields, componentFits, advanceFits, phaseFields, ruleFields, related, couplingFields, couplingFits};
 ghost use Rattle.model_records.specs.Values.{componentOf, ruleOf, couplingOf, componentsIn, phasesIn, rulesIn, couplingsIn};
 ghost use Rattle.model_checks.specs.Reads.{couplingOfKey, checked, componentRead, phaseRead, ruleRead, couplingRead};
-ghost use Rattle.model_checks.specs.Known.{Next, Keepable, Keeps, Counted, Placed, EndsThere, NextRow};
+ghost use Rattle.model_checks.specs.Known.{Room, fitsBehind, Next, Keepable, Keeps, Counted, Placed, EndsThere, NextRow};
 
 mod phase_slots;
 
@@ -26,7 +26,6 @@ use model_records::Component;
 use model_records::Coupling;
 use model_records::Phase;
 use model_records::Rule;
-use model_records::component_in;
 use phase_slots::slots_fit;
 
 // ---- the answers; a number is one byte, since one that is laid over two fields of a record makes the compiler join these
@@ -110,18 +109,17 @@ fn kind_fields(component: Component) -> bool
             & (component.order <= 1))
 }
 
-// Record i, given what is known of those before it, which are accepted: so a parent without phases is coupled, since an atomic that is
-// accepted has a phase.
+// The component of number i, by what is known of those before it. These are accepted: so a parent without phases is coupled, since an
+// atomic that is accepted has a phase.
 fn component_fits(
-    components: &[u8],
+    component: Component,
     i: usize,
     phase_counts: &[u8; MAX_COMPONENTS],
     depths: &[u8; MAX_COMPONENTS],
 ) -> bool
-    requires { ⌜ Next (componentsIn (now components)) i (now «phase_counts») (now depths) ⌝ }
-    ensures { λ r. ⌜ r ≡ componentFits (componentsIn (now (components .entry))) i ⌝ }
+    requires { ⌜ Room i (now «phase_counts») (now depths) ⌝ }
+    ensures { λ r. ⌜ r ≡ fitsBehind (componentOf component) i (now («phase_counts» .entry)) (now (depths .entry)) ⌝ }
 {
-    let component = component_in(components, i);
     if i == 0 {
         return kind_fields(component) & ((component.kind == 0) & (component.parent == 0));
     }
@@ -144,8 +142,9 @@ pub fn read_component(
     requires { ⌜ Next (componentsIn (now components)) i (now «phase_counts») (now depths) ⌝ }
     ensures { λ r. ⌜ componentRead r ≡ checked (componentFits (componentsIn (now (components .entry))) i) 4 (componentAt (componentsIn (now (components .entry))) i) ⌝ }
 {
-    if component_fits(components, i, phase_counts, depths) {
-        ComponentRead::Is(component_in(components, i))
+    let component = model_records::component_in(components, i);
+    if component_fits(component, i, phase_counts, depths) {
+        ComponentRead::Is(component)
     } else {
         ComponentRead::Refused(4)
     }
