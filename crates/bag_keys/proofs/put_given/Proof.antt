@@ -21,36 +21,15 @@ loop-holds : tie.Need-loop-holds Inv-loop μ-loop
 loop-holds c =
     (refl, omega arith, refl, refl)
 
-mul-byte-at : tie.Need-mul-byte-at Inv-loop μ-loop
-mul-byte-at c = search needs
-
-byte-at-requires : tie.Need-byte-at-requires Inv-loop μ-loop
-byte-at-requires c κs = search needs
-
-mul-u16-at : tie.Need-mul-u16-at Inv-loop μ-loop
-mul-u16-at c = search needs
-
-add-u16-at : tie.Need-add-u16-at Inv-loop μ-loop
-add-u16-at c = search needs
-
-u16-at-requires : tie.Need-u16-at-requires Inv-loop μ-loop
-u16-at-requires c κs = search needs
-
-put-wanted-requires : tie.Need-put-wanted-requires Inv-loop μ-loop
-put-wanted-requires c κs = search needs
-
-add-i : tie.Need-add-i Inv-loop μ-loop
-add-i c = search needs
-
-loop-less : tie.Need-loop-less Inv-loop μ-loop
-loop-less c = search needs
-
 loop-again : tie.Need-loop-again Inv-loop μ-loop
 loop-again c =
-    let a = c .before .before .before .before .before .before .before .before .before .before .args in
-    let l = c .before .before .before .before .before .before .before .loop in
-    let m = c .before .before .put-wanted in
-    (l .inv .0, omega arith, m .kept .1 .1 .1 .0 ∙ l .inv .2, rw (m .ensures, c .before .before .before .before .u16-at .ensures, c .before .before .before .before .before .byte-at .ensures) (given-more (now (a .given)) (a .q) (a .own) (l .i) (l .buf, l .next) (omega arith) ∙ l .inv .3))
+    let start : tie.Start Inv-loop μ-loop = search in let after-put-wanted : tie.After-put-wanted Inv-loop μ-loop = search in
+    let after-u16-at : tie.After-u16-at Inv-loop μ-loop = search in let after-byte-at : tie.After-byte-at Inv-loop μ-loop = search in
+    let at-loop : tie.At-loop Inv-loop μ-loop = search in
+    let a = start .args in
+    let l = at-loop .loop in
+    let m = after-put-wanted .put-wanted in
+    (l .inv .0, omega arith, m .kept .1 .1 .1 .0 ∙ l .inv .2, rw (m .ensures, after-u16-at .u16-at .ensures, after-byte-at .byte-at .ensures) (given-more (now (a .given)) (a .q) (a .own) (l .i) (l .buf, l .next) (omega arith) ∙ l .inv .3))
 
 same-length : tie.Need-same-length Inv-loop μ-loop
 same-length c =
@@ -58,10 +37,12 @@ same-length c =
 
 returns : tie.Need-returns Inv-loop μ-loop
 returns c =
-    let a = c .before .before .before .before .args in
+    let start : tie.Start Inv-loop μ-loop = search in
+    let a = start .args in
     let l = c .before .loop in
     sym (given-none (now (a .given)) (a .q) (a .own) (l .i) (l .buf, l .next) (omega arith)) ∙ l .inv .3
 
 pub put-given-spec : {M : Type 1} → statement M
 put-given-spec =
-    tie.close (tie.spec Inv-loop μ-loop loop-holds mul-byte-at byte-at-requires mul-u16-at add-u16-at u16-at-requires put-wanted-requires add-i loop-less loop-again same-length returns)
+    tie.close (tie.spec Inv-loop μ-loop loop-holds (λ c. search needs) (λ c κs. search needs) (λ c. search needs) (λ c. search needs)
+    (λ c κs. search needs) (λ c κs. search needs) (λ c. search needs) (λ c. search needs) loop-again same-length returns)

@@ -7,18 +7,6 @@ use Rattle.pull_laws.specs.Put.{put1}
 use Rattle.bag_keys.proofs.put_key.Statement.{statement}
 use Rattle.bag_keys.proofs.put_key.Tie as tie
 
-mul-buf : tie.Need-mul-buf
-mul-buf c = search needs
-
-slice-write-buf : tie.Need-slice-write-buf
-slice-write-buf c = search needs
-
-add-result : tie.Need-add-result
-add-result c = search needs
-
-same-length : tie.Need-same-length
-same-length c = search needs
-
 returns : tie.Need-returns
 unfolding put1
 returns c =
@@ -31,4 +19,4 @@ returns-2 c =
 
 pub put-key-spec : {M : Type 1} → statement M
 put-key-spec =
-    tie.close (tie.spec mul-buf slice-write-buf add-result same-length returns returns-2)
+    tie.close (tie.spec (λ c. search needs) (λ c. search needs) (λ c. search needs) (λ c. search needs) returns returns-2)

@@ -23,16 +23,15 @@ returns-2 c =
     rw (ne-eqb _ _ (c .before .if1 .left)) (sym (sent-out (now (a .phases)) (a .q) (a .mark - 1) (a .own) _ (c .if2 .taken)))
 
 same-length : tie.Need-same-length
-same-length c = c .before .before .put-slots .kept .1 .1 .1 .0
+same-length c =
+    let after-put-slots : tie.After-put-slots = search in
+    after-put-slots .put-slots .kept .1 .1 .1 .0
 
 returns-3 : tie.Need-returns-3
 unfolding sentOn
 returns-3 c =
-    let start : tie.Start = search in
-    let marked : tie.Else1 = search in
-    let there : tie.Else2 = search in
-    let bytes : tie.After-record-bytes = search in
-    let sent : tie.After-put-slots = search in
+    let start : tie.Start = search in let marked : tie.Else1 = search in let there : tie.Else2 = search in
+    let bytes : tie.After-record-bytes = search in let sent : tie.After-put-slots = search in
     let a = start .args in
     rw (ne-eqb _ _ (marked .if1 .left), ← sent-in (now (a .phases)) (a .mark - 1) (there .if2 .left) (bytes .record-bytes .ensures)) (sent .put-slots .ensures)
 

@@ -6,19 +6,16 @@ use denote.Ref.{now}
 use Rattle.bag_keys.proofs.used_slots.Statement.{statement}
 use Rattle.bag_keys.proofs.used_slots.Tie as tie
 
-byte-at-requires : tie.Need-byte-at-requires
-byte-at-requires c κs = search needs
-
-size-requires : tie.Need-size-requires
-size-requires c κs = search needs
-
 returns : tie.Need-returns
 returns c =
-    omega (arith, c .before .size .ensures, c .before .before .byte-at .ensures, length-outputs (now (c .before .before .before .before .args .phase)))
+    let start : tie.Start = search in let after-byte-at : tie.After-byte-at = search in
+    omega (arith, c .before .size .ensures, after-byte-at .byte-at .ensures, length-outputs (now (start .args .phase)))
 
 returns-2 : tie.Need-returns-2
 returns-2 c =
-    omega (arith, c .before .size .ensures, c .before .before .byte-at .ensures, length-outputs (now (c .before .before .before .before .args .phase)))
+    let start : tie.Start = search in let after-byte-at : tie.After-byte-at = search in
+    omega (arith, c .before .size .ensures, after-byte-at .byte-at .ensures, length-outputs (now (start .args .phase)))
 
 pub used-slots-spec : {M : Type 1} → statement M
-used-slots-spec = tie.close (tie.spec byte-at-requires size-requires returns returns-2)
+used-slots-spec =
+    tie.close (tie.spec (λ c κs. search needs) (λ c κs. search needs) returns returns-2)

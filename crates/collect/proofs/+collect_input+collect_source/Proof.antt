@@ -90,8 +90,9 @@ collect-source-calls t = (port-of-reads.Asked, port-of-reads.Learnt, put-given-r
 collect-input-returns : (t : ℕ) → collect-input-lts.Need-returns (collect-input-calls t) (collect-input-at t) collect-input.Post collect-input-Inv-loop collect-input-μ-loop
 unfolding puts
 collect-input-returns t c =
-    let a = c .before .before .before .before .args in
-    let r : isRootNode (a .x) ≡ false = unfold isRootNode in le-ltb _ _ (c .before .before .before .before .pre .1 .2) in
+    let start : collect-input-lts.Start (collect-input-calls t) (collect-input-at t) collect-input.Post collect-input-Inv-loop collect-input-μ-loop = search in
+    let a = start .args in
+    let r : isRootNode (a .x) ≡ false = unfold isRootNode in le-ltb _ _ (start .pre .1 .2) in
     rw (c .if1 .taken, input-none (phasesIn (now (a .phases))) (now (a .tables)) (now (a .marks)) (now (a .reached)) (toBag (now (a .given))) (a .x) r)
 
 collect-input-first-link-requires : (t : ℕ) → collect-input-lts.Need-first-link-requires (collect-input-calls t) (collect-input-at t) collect-input.Post collect-input-Inv-loop collect-input-μ-loop
@@ -99,8 +100,9 @@ collect-input-first-link-requires t c κs = search needs
 
 collect-input-loop-holds : (t : ℕ) → collect-input-lts.Need-loop-holds (collect-input-calls t) (collect-input-at t) collect-input.Post collect-input-Inv-loop collect-input-μ-loop
 collect-input-loop-holds t c =
-    let a = c .before .before .before .before .before .args in
-    let given = c .before .before .before .before .before .pre .1 in
+    let start : collect-input-lts.Start (collect-input-calls t) (collect-input-at t) collect-input.Post collect-input-Inv-loop collect-input-μ-loop = search in
+    let a = start .args in
+    let given = start .pre .1 in
     let r : isRootNode (a .x) ≡ false = unfold isRootNode in le-ltb _ _ (given .2) in
     (omega arith, rw (c .first-link .ensures) (given .1 .firsts (a .x) (given .0)), refl, rw (c .first-link .ensures) (ap (λ l. puts (a .own) l (now (a .buf), a .at)) (input-open (phasesIn (now (a .phases))) (now (a .tables)) (now (a .marks)) (now (a .reached)) (toBag (now (a .given))) (a .depth) (a .x) r (omega arith) (given .3))))
 
@@ -113,29 +115,41 @@ collect-input-sub-collect-source t c = search needs
 
 collect-input-collect-source-requires : (t : ℕ) → collect-input-lts.Need-collect-source-requires (collect-input-calls t) (collect-input-at t) collect-input.Post collect-input-Inv-loop collect-input-μ-loop
 collect-input-collect-source-requires t c κs =
-    let r = c .before .before .before .before .before .before .before .before .before .pre .1 .1 in
-    let l = c .before .before .before .loop in
+    let start : collect-input-lts.Start (collect-input-calls t) (collect-input-at t) collect-input.Post collect-input-Inv-loop collect-input-μ-loop = search in
+    let at-loop : collect-input-lts.At-loop (collect-input-calls t) (collect-input-at t) collect-input.Post collect-input-Inv-loop collect-input-μ-loop = search in
+    let r = start .pre .1 .1 in
+    let l = at-loop .loop in
     (search needs, (rw (c .before .source-of .ensures) (r .sources (l .link) (l .inv .1)), r))
 
 collect-input-next-link-requires : (t : ℕ) → collect-input-lts.Need-next-link-requires (collect-input-calls t) (collect-input-at t) collect-input.Post collect-input-Inv-loop collect-input-μ-loop
 collect-input-next-link-requires t c κs =
-    c .before .before .before .before .before .before .loop .inv .1
+    let at-loop : collect-input-lts.At-loop (collect-input-calls t) (collect-input-at t) collect-input.Post collect-input-Inv-loop collect-input-μ-loop = search in
+    at-loop .loop .inv .1
 
 collect-input-sub-left : (t : ℕ) → collect-input-lts.Need-sub-left (collect-input-calls t) (collect-input-at t) collect-input.Post collect-input-Inv-loop collect-input-μ-loop
 collect-input-sub-left t c =
-    omega (arith, both-left (c .before .before .before .before .before .before .before .loop .left) (c .before .before .before .before .before .before .before .loop .link) (c .before .before .before .before .before .before .loop-test .taken) .0)
+    let in-loop : collect-input-lts.In-loop (collect-input-calls t) (collect-input-at t) collect-input.Post collect-input-Inv-loop collect-input-μ-loop = search in
+    let at-loop : collect-input-lts.At-loop (collect-input-calls t) (collect-input-at t) collect-input.Post collect-input-Inv-loop collect-input-μ-loop = search in
+    omega (arith, both-left (at-loop .loop .left) (at-loop .loop .link) (in-loop .loop-test .taken) .0)
 
 collect-input-loop-less : (t : ℕ) → collect-input-lts.Need-loop-less (collect-input-calls t) (collect-input-at t) collect-input.Post collect-input-Inv-loop collect-input-μ-loop
 collect-input-loop-less t c =
-    omega (arith, both-left (c .before .before .before .before .before .before .before .loop .left) (c .before .before .before .before .before .before .before .loop .link) (c .before .before .before .before .before .before .loop-test .taken) .0)
+    let in-loop : collect-input-lts.In-loop (collect-input-calls t) (collect-input-at t) collect-input.Post collect-input-Inv-loop collect-input-μ-loop = search in
+    let at-loop : collect-input-lts.At-loop (collect-input-calls t) (collect-input-at t) collect-input.Post collect-input-Inv-loop collect-input-μ-loop = search in
+    omega (arith, both-left (at-loop .loop .left) (at-loop .loop .link) (in-loop .loop-test .taken) .0)
 
 collect-input-loop-again : (t : ℕ) → collect-input-lts.Need-loop-again (collect-input-calls t) (collect-input-at t) collect-input.Post collect-input-Inv-loop collect-input-μ-loop
 collect-input-loop-again t c =
-    let a = c .before .before .before .before .before .before .before .before .before .before .before .before .before .args in
-    let l = c .before .before .before .before .before .before .before .loop in
-    let m = c .before .before .before .collect-source in
+    let start : collect-input-lts.Start (collect-input-calls t) (collect-input-at t) collect-input.Post collect-input-Inv-loop collect-input-μ-loop = search in
+    let after-collect-source : collect-input-lts.After-collect-source (collect-input-calls t) (collect-input-at t) collect-input.Post collect-input-Inv-loop collect-input-μ-loop = search in
+    let after-source-of : collect-input-lts.After-source-of (collect-input-calls t) (collect-input-at t) collect-input.Post collect-input-Inv-loop collect-input-μ-loop = search in
+    let in-loop : collect-input-lts.In-loop (collect-input-calls t) (collect-input-at t) collect-input.Post collect-input-Inv-loop collect-input-μ-loop = search in
+    let at-loop : collect-input-lts.At-loop (collect-input-calls t) (collect-input-at t) collect-input.Post collect-input-Inv-loop collect-input-μ-loop = search in
+    let a = start .args in
+    let l = at-loop .loop in
+    let m = after-collect-source .collect-source in
     let f = pulledFrom (phasesIn (now (a .phases))) (now (a .tables)) (now (a .marks)) (now (a .reached)) (toBag (now (a .given))) (a .depth - 1) in
-    (omega arith, rw (c .next-link .ensures) (c .before .before .before .before .before .before .before .before .before .before .before .before .before .pre .1 .1 .nexts (l .link) (l .inv .1)), m .kept .1 .1 .1 .1 .1 .1 .1 .1 .0 ∙ l .inv .2, rw (m .ensures, c .before .before .before .before .before .source-of .ensures, c .next-link .ensures) (chain-more f (now (a .tables)) (a .own) (l .left) (l .link) (l .buf, l .next) (c .before .before .before .before .before .before .loop-test .taken) ∙ l .inv .3))
+    (omega arith, rw (c .next-link .ensures) (start .pre .1 .1 .nexts (l .link) (l .inv .1)), m .kept .1 .1 .1 .1 .1 .1 .1 .1 .0 ∙ l .inv .2, rw (m .ensures, after-source-of .source-of .ensures, c .next-link .ensures) (chain-more f (now (a .tables)) (a .own) (l .left) (l .link) (l .buf, l .next) (in-loop .loop-test .taken) ∙ l .inv .3))
 
 collect-input-same-length : (t : ℕ) → collect-input-lts.Need-same-length (collect-input-calls t) (collect-input-at t) collect-input.Post collect-input-Inv-loop collect-input-μ-loop
 collect-input-same-length t c =
@@ -143,7 +157,8 @@ collect-input-same-length t c =
 
 collect-input-returns-2 : (t : ℕ) → collect-input-lts.Need-returns-2 (collect-input-calls t) (collect-input-at t) collect-input.Post collect-input-Inv-loop collect-input-μ-loop
 collect-input-returns-2 t c =
-    let a = c .before .before .before .before .before .before .before .args in
+    let start : collect-input-lts.Start (collect-input-calls t) (collect-input-at t) collect-input.Post collect-input-Inv-loop collect-input-μ-loop = search in
+    let a = start .args in
     let l = c .before .loop in
     let f = pulledFrom (phasesIn (now (a .phases))) (now (a .tables)) (now (a .marks)) (now (a .reached)) (toBag (now (a .given))) (a .depth - 1) in
     sym (chain-end f (now (a .tables)) (a .own) (l .left) (l .link) (l .buf, l .next) (c .loop-test .left)) ∙ l .inv .3
@@ -156,14 +171,20 @@ collect-source-put-given-requires t c κs = search needs
 
 collect-source-same-length : (t : ℕ) → collect-source-lts.Need-same-length (collect-source-calls t) (collect-source-at t) collect-source.Post
 collect-source-same-length t c =
-    c .before .before .put-given .kept .1 .1 .1 .0
+    let after-put-given : collect-source-lts.After-put-given (collect-source-calls t) (collect-source-at t) collect-source.Post = search in
+    after-put-given .put-given .kept .1 .1 .1 .0
 
 collect-source-returns : (t : ℕ) → collect-source-lts.Need-returns (collect-source-calls t) (collect-source-at t) collect-source.Post
 unfolding sourceIn isOutput
 collect-source-returns t c =
-    let a = c .before .before .before .before .before .before .before .before .before .before .args in
-    let r : isRootNode (a .y) ≡ true = unfold isRootNode in lt-ltb _ _ (c .before .before .before .before .before .if2 .taken) in
-    rw (lt-ltb _ _ (c .before .before .before .before .before .before .if1 .taken), input-root (phasesIn (now (a .phases))) (now (a .tables)) (now (a .marks)) (now (a .reached)) (toBag (now (a .given))) (a .depth) (a .y) r) (rw (c .before .before .before .before .port-of .ensures) at (c .before .before .put-given .ensures))
+    let start : collect-source-lts.Start (collect-source-calls t) (collect-source-at t) collect-source.Post = search in
+    let after-put-given : collect-source-lts.After-put-given (collect-source-calls t) (collect-source-at t) collect-source.Post = search in
+    let after-port-of : collect-source-lts.After-port-of (collect-source-calls t) (collect-source-at t) collect-source.Post = search in
+    let then2 : collect-source-lts.Then2 (collect-source-calls t) (collect-source-at t) collect-source.Post = search in
+    let then1 : collect-source-lts.Then1 (collect-source-calls t) (collect-source-at t) collect-source.Post = search in
+    let a = start .args in
+    let r : isRootNode (a .y) ≡ true = unfold isRootNode in lt-ltb _ _ (then2 .if2 .taken) in
+    rw (lt-ltb _ _ (then1 .if1 .taken), input-root (phasesIn (now (a .phases))) (now (a .tables)) (now (a .marks)) (now (a .reached)) (toBag (now (a .given))) (a .depth) (a .y) r) (rw (after-port-of .port-of .ensures) at (after-put-given .put-given .ensures))
 
 collect-source-is-open-requires : (t : ℕ) → collect-source-lts.Need-is-open-requires (collect-source-calls t) (collect-source-at t) collect-source.Post
 collect-source-is-open-requires t c κs = search needs
@@ -171,23 +192,32 @@ collect-source-is-open-requires t c κs = search needs
 collect-source-returns-2 : (t : ℕ) → collect-source-lts.Need-returns-2 (collect-source-calls t) (collect-source-at t) collect-source.Post
 unfolding sourceIn isOutput puts
 collect-source-returns-2 t c =
-    let a = c .before .before .before .before .before .before .before .args in
-    let r : isRootNode (a .y) ≡ false = unfold isRootNode in le-ltb _ _ (c .before .before .if2 .left) in
-    rw (lt-ltb _ _ (c .before .before .before .if1 .taken), input-shut (phasesIn (now (a .phases))) (now (a .tables)) (now (a .marks)) (now (a .reached)) (toBag (now (a .given))) (a .depth) (a .y) r (sym (c .before .is-open .ensures) ∙ not-true _ (c .if3 .taken)))
+    let start : collect-source-lts.Start (collect-source-calls t) (collect-source-at t) collect-source.Post = search in
+    let else2 : collect-source-lts.Else2 (collect-source-calls t) (collect-source-at t) collect-source.Post = search in
+    let then1 : collect-source-lts.Then1 (collect-source-calls t) (collect-source-at t) collect-source.Post = search in
+    let a = start .args in
+    let r : isRootNode (a .y) ≡ false = unfold isRootNode in le-ltb _ _ (else2 .if2 .left) in
+    rw (lt-ltb _ _ (then1 .if1 .taken), input-shut (phasesIn (now (a .phases))) (now (a .tables)) (now (a .marks)) (now (a .reached)) (toBag (now (a .given))) (a .depth) (a .y) r (sym (c .before .is-open .ensures) ∙ not-true _ (c .if3 .taken)))
 
 collect-source-collect-input-requires : (t : ℕ) → collect-source-lts.Need-collect-input-requires (collect-source-calls t) (collect-source-at t) collect-source.Post
 collect-source-collect-input-requires t c κs =
-    let given = c .before .before .before .before .before .before .before .before .pre .1 in
-    (search needs, (given .0, given .1, c .before .before .before .if2 .left, sym (c .before .before .is-open .ensures) ∙ not-false _ (c .before .if3 .left)))
+    let start : collect-source-lts.Start (collect-source-calls t) (collect-source-at t) collect-source.Post = search in
+    let after-is-open : collect-source-lts.After-is-open (collect-source-calls t) (collect-source-at t) collect-source.Post = search in
+    let else2 : collect-source-lts.Else2 (collect-source-calls t) (collect-source-at t) collect-source.Post = search in
+    let given = start .pre .1 in
+    (search needs, (given .0, given .1, else2 .if2 .left, sym (after-is-open .is-open .ensures) ∙ not-false _ (c .before .if3 .left)))
 
 collect-source-same-length-2 : (t : ℕ) → collect-source-lts.Need-same-length-2 (collect-source-calls t) (collect-source-at t) collect-source.Post
 collect-source-same-length-2 t c =
-    c .before .before .collect-input .kept .1 .1 .1 .1 .1 .1 .1 .1 .0
+    let after-collect-input : collect-source-lts.After-collect-input (collect-source-calls t) (collect-source-at t) collect-source.Post = search in
+    after-collect-input .collect-input .kept .1 .1 .1 .1 .1 .1 .1 .1 .0
 
 collect-source-returns-3 : (t : ℕ) → collect-source-lts.Need-returns-3 (collect-source-calls t) (collect-source-at t) collect-source.Post
 unfolding sourceIn isOutput
 collect-source-returns-3 t c =
-    rw (lt-ltb _ _ (c .before .before .before .before .before .before .before .if1 .taken)) (c .before .before .collect-input .ensures)
+    let after-collect-input : collect-source-lts.After-collect-input (collect-source-calls t) (collect-source-at t) collect-source.Post = search in
+    let then1 : collect-source-lts.Then1 (collect-source-calls t) (collect-source-at t) collect-source.Post = search in
+    rw (lt-ltb _ _ (then1 .if1 .taken)) (after-collect-input .collect-input .ensures)
 
 collect-source-is-atomic-requires : (t : ℕ) → collect-source-lts.Need-is-atomic-requires (collect-source-calls t) (collect-source-at t) collect-source.Post
 collect-source-is-atomic-requires t c κs = search needs
@@ -197,13 +227,19 @@ collect-source-put-output-requires t c κs = search needs
 
 collect-source-same-length-3 : (t : ℕ) → collect-source-lts.Need-same-length-3 (collect-source-calls t) (collect-source-at t) collect-source.Post
 collect-source-same-length-3 t c =
-    c .before .before .put-output .kept .1 .1 .1 .1 .0
+    let after-put-output : collect-source-lts.After-put-output (collect-source-calls t) (collect-source-at t) collect-source.Post = search in
+    after-put-output .put-output .kept .1 .1 .1 .1 .0
 
 collect-source-returns-4 : (t : ℕ) → collect-source-lts.Need-returns-4 (collect-source-calls t) (collect-source-at t) collect-source.Post
 unfolding sourceIn isOutput childOut
 collect-source-returns-4 t c =
-    let a = c .before .before .before .before .before .before .before .before .before .before .args in
-    rw (le-ltb _ _ (c .before .before .before .before .before .before .if1 .left), sym (c .before .before .before .before .before .is-atomic .ensures) ∙ c .before .before .before .before .if4 .taken, ← sent-by (phasesIn (now (a .phases))) (now (a .tables)) (now (a .marks)) (a .y)) (c .before .before .put-output .ensures)
+    let start : collect-source-lts.Start (collect-source-calls t) (collect-source-at t) collect-source.Post = search in
+    let after-put-output : collect-source-lts.After-put-output (collect-source-calls t) (collect-source-at t) collect-source.Post = search in
+    let then4 : collect-source-lts.Then4 (collect-source-calls t) (collect-source-at t) collect-source.Post = search in
+    let after-is-atomic : collect-source-lts.After-is-atomic (collect-source-calls t) (collect-source-at t) collect-source.Post = search in
+    let else1 : collect-source-lts.Else1 (collect-source-calls t) (collect-source-at t) collect-source.Post = search in
+    let a = start .args in
+    rw (le-ltb _ _ (else1 .if1 .left), sym (after-is-atomic .is-atomic .ensures) ∙ then4 .if4 .taken, ← sent-by (phasesIn (now (a .phases))) (now (a .tables)) (now (a .marks)) (a .y)) (after-put-output .put-output .ensures)
 
 collect-source-is-open-requires-2 : (t : ℕ) → collect-source-lts.Need-is-open-requires-2 (collect-source-calls t) (collect-source-at t) collect-source.Post
 collect-source-is-open-requires-2 t c κs = search needs
@@ -211,22 +247,33 @@ collect-source-is-open-requires-2 t c κs = search needs
 collect-source-returns-5 : (t : ℕ) → collect-source-lts.Need-returns-5 (collect-source-calls t) (collect-source-at t) collect-source.Post
 unfolding sourceIn isOutput childOut puts
 collect-source-returns-5 t c =
-    let a = c .before .before .before .before .before .before .before .before .args in
-    rw (le-ltb _ _ (c .before .before .before .before .if1 .left), sym (c .before .before .before .is-atomic .ensures) ∙ c .before .before .if4 .left, coupled-shut (phasesIn (now (a .phases))) (now (a .tables)) (now (a .marks)) (now (a .reached)) 8 (a .y) (sym (c .before .is-open2 .ensures) ∙ not-true _ (c .if5 .taken)))
+    let start : collect-source-lts.Start (collect-source-calls t) (collect-source-at t) collect-source.Post = search in
+    let else4 : collect-source-lts.Else4 (collect-source-calls t) (collect-source-at t) collect-source.Post = search in
+    let after-is-atomic : collect-source-lts.After-is-atomic (collect-source-calls t) (collect-source-at t) collect-source.Post = search in
+    let else1 : collect-source-lts.Else1 (collect-source-calls t) (collect-source-at t) collect-source.Post = search in
+    let a = start .args in
+    rw (le-ltb _ _ (else1 .if1 .left), sym (after-is-atomic .is-atomic .ensures) ∙ else4 .if4 .left, coupled-shut (phasesIn (now (a .phases))) (now (a .tables)) (now (a .marks)) (now (a .reached)) 8 (a .y) (sym (c .before .is-open2 .ensures) ∙ not-true _ (c .if5 .taken)))
 
 collect-source-collect-coupled-requires : (t : ℕ) → collect-source-lts.Need-collect-coupled-requires (collect-source-calls t) (collect-source-at t) collect-source.Post
 collect-source-collect-coupled-requires t c κs =
-    let given = c .before .before .before .before .before .before .before .before .before .pre .1 in
-    (given .0, given .1, sym (c .before .before .is-open2 .ensures) ∙ not-false _ (c .before .if5 .left))
+    let start : collect-source-lts.Start (collect-source-calls t) (collect-source-at t) collect-source.Post = search in
+    let after-is-open2 : collect-source-lts.After-is-open2 (collect-source-calls t) (collect-source-at t) collect-source.Post = search in
+    let given = start .pre .1 in
+    (given .0, given .1, sym (after-is-open2 .is-open2 .ensures) ∙ not-false _ (c .before .if5 .left))
 
 collect-source-same-length-4 : (t : ℕ) → collect-source-lts.Need-same-length-4 (collect-source-calls t) (collect-source-at t) collect-source.Post
 collect-source-same-length-4 t c =
-    c .before .before .collect-coupled .kept .1 .1 .1 .1 .1 .1 .1 .0
+    let after-collect-coupled : collect-source-lts.After-collect-coupled (collect-source-calls t) (collect-source-at t) collect-source.Post = search in
+    after-collect-coupled .collect-coupled .kept .1 .1 .1 .1 .1 .1 .1 .0
 
 collect-source-returns-6 : (t : ℕ) → collect-source-lts.Need-returns-6 (collect-source-calls t) (collect-source-at t) collect-source.Post
 unfolding sourceIn isOutput childOut
 collect-source-returns-6 t c =
-    rw (le-ltb _ _ (c .before .before .before .before .before .before .before .before .if1 .left), sym (c .before .before .before .before .before .before .before .is-atomic .ensures) ∙ c .before .before .before .before .before .before .if4 .left) (c .before .before .collect-coupled .ensures)
+    let after-collect-coupled : collect-source-lts.After-collect-coupled (collect-source-calls t) (collect-source-at t) collect-source.Post = search in
+    let else4 : collect-source-lts.Else4 (collect-source-calls t) (collect-source-at t) collect-source.Post = search in
+    let after-is-atomic : collect-source-lts.After-is-atomic (collect-source-calls t) (collect-source-at t) collect-source.Post = search in
+    let else1 : collect-source-lts.Else1 (collect-source-calls t) (collect-source-at t) collect-source.Post = search in
+    rw (le-ltb _ _ (else1 .if1 .left), sym (after-is-atomic .is-atomic .ensures) ∙ else4 .if4 .left) (after-collect-coupled .collect-coupled .ensures)
 
 pub +collect-input+collect-source-spec : {M : Type 1} → statement M
 +collect-input+collect-source-spec =

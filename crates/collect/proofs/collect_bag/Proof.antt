@@ -21,42 +21,31 @@ Inv-loop phases tables marks reached given c buf₀ next₀ q₀ buf next q = (q
 abbrev μ-loop : tie.MeasureT-loop
 μ-loop phases tables marks reached given c buf₀ next₀ q₀ buf next q = 4 - q
 
-size16-requires : tie.Need-size16-requires Inv-loop μ-loop
-size16-requires c κs = search needs
-
-mark-at-requires : tie.Need-mark-at-requires Inv-loop μ-loop
-mark-at-requires c κs = search needs
-
 returns : tie.Need-returns Inv-loop μ-loop
 returns c =
-    let a = c .before .before .before .before .before .before .args in
-    sym (unreached (phasesIn (now (a .phases))) (now (a .tables)) (now (a .marks)) (now (a .reached)) (toBag (now (a .given))) 8 (a .c) 4 0 (now (a .buf), 0) (rw (c .before .mark-at .ensures, c .before .before .size16 .ensures) at (c .if1 .taken)) (omega arith))
+    let start : tie.Start Inv-loop μ-loop = search in let after-size16 : tie.After-size16 Inv-loop μ-loop = search in
+    let a = start .args in
+    sym (unreached (phasesIn (now (a .phases))) (now (a .tables)) (now (a .marks)) (now (a .reached)) (toBag (now (a .given))) 8 (a .c) 4 0 (now (a .buf), 0) (rw (c .before .mark-at .ensures, after-size16 .size16 .ensures) at (c .if1 .taken)) (omega arith))
 
 loop-holds : tie.Need-loop-holds Inv-loop μ-loop
 loop-holds c =
     (omega arith, refl, refl)
 
-input-node-requires : tie.Need-input-node-requires Inv-loop μ-loop
-input-node-requires c κs = search needs
-
 collect-arriving-requires : tie.Need-collect-arriving-requires Inv-loop μ-loop
 collect-arriving-requires c κs =
-    let q = c .before .before .before .before .before .before .before .before .before .before .pre in
+    let start : tie.Start Inv-loop μ-loop = search in
+    let q = start .pre in
     (rw (c .before .input-node .ensures) (input-below _ _ (q .0) (omega arith)), q .1)
-
-add-q : tie.Need-add-q Inv-loop μ-loop
-add-q c = search needs
-
-loop-less : tie.Need-loop-less Inv-loop μ-loop
-loop-less c = search needs
 
 loop-again : tie.Need-loop-again Inv-loop μ-loop
 loop-again c =
-    let a = c .before .before .before .before .before .before .before .before .before .before .before .before .before .args in
-    let l = c .before .before .before .before .before .before .loop in
-    let m = c .before .before .collect-arriving in
+    let start : tie.Start Inv-loop μ-loop = search in let after-collect-arriving : tie.After-collect-arriving Inv-loop μ-loop = search in
+    let after-input-node : tie.After-input-node Inv-loop μ-loop = search in let at-loop : tie.At-loop Inv-loop μ-loop = search in
+    let a = start .args in
+    let l = at-loop .loop in
+    let m = after-collect-arriving .collect-arriving in
     let f : ℕ → List ℕ = λ p. pulledInto (phasesIn (now (a .phases))) (now (a .tables)) (now (a .marks)) (now (a .reached)) (toBag (now (a .given))) 8 (inputNode (a .c) p) in
-    (omega arith, m .kept .1 .1 .1 .1 .1 .1 .1 .0 ∙ l .inv .1, rw (m .ensures, c .before .before .before .before .input-node .ensures) (ports-more f 4 (l .q) (l .buf, l .next) (omega arith) ∙ l .inv .2))
+    (omega arith, m .kept .1 .1 .1 .1 .1 .1 .1 .0 ∙ l .inv .1, rw (m .ensures, after-input-node .input-node .ensures) (ports-more f 4 (l .q) (l .buf, l .next) (omega arith) ∙ l .inv .2))
 
 same-length : tie.Need-same-length Inv-loop μ-loop
 same-length c =
@@ -68,4 +57,5 @@ returns-2 c =
 
 pub collect-bag-spec : {M : Type 1} → statement M
 collect-bag-spec =
-    tie.close (tie.spec Inv-loop μ-loop size16-requires mark-at-requires returns loop-holds input-node-requires collect-arriving-requires add-q loop-less loop-again same-length returns-2)
+    tie.close (tie.spec Inv-loop μ-loop (λ c κs. search needs) (λ c κs. search needs) returns loop-holds (λ c κs. search needs)
+    collect-arriving-requires (λ c. search needs) (λ c. search needs) loop-again same-length returns-2)

@@ -24,26 +24,20 @@ loop-holds : tie.Need-loop-holds Inv-loop μ-loop
 loop-holds c =
     (omega arith, refl, refl)
 
-root-output-requires : tie.Need-root-output-requires Inv-loop μ-loop
-root-output-requires c κs = search needs
-
 collect-leaving-requires : tie.Need-collect-leaving-requires Inv-loop μ-loop
 collect-leaving-requires c κs =
-    (rw (c .before .root-output .ensures) (root-below _ (omega arith)), c .before .before .before .before .before .before .pre)
-
-add-q : tie.Need-add-q Inv-loop μ-loop
-add-q c = search needs
-
-loop-less : tie.Need-loop-less Inv-loop μ-loop
-loop-less c = search needs
+    let start : tie.Start Inv-loop μ-loop = search in
+    (rw (c .before .root-output .ensures) (root-below _ (omega arith)), start .pre)
 
 loop-again : tie.Need-loop-again Inv-loop μ-loop
 loop-again c =
-    let a = c .before .before .before .before .before .before .before .before .before .args in
-    let l = c .before .before .before .before .before .before .loop in
-    let m = c .before .before .collect-leaving in
+    let start : tie.Start Inv-loop μ-loop = search in let after-collect-leaving : tie.After-collect-leaving Inv-loop μ-loop = search in
+    let after-root-output : tie.After-root-output Inv-loop μ-loop = search in let at-loop : tie.At-loop Inv-loop μ-loop = search in
+    let a = start .args in
+    let l = at-loop .loop in
+    let m = after-collect-leaving .collect-leaving in
     let f : ℕ → List ℕ = λ p. pulledBelow (phasesIn (now (a .phases))) (now (a .tables)) (now (a .marks)) (now (a .reached)) 8 (outputNode 0 p) in
-    (omega arith, m .kept .1 .1 .1 .1 .1 .1 .0 ∙ l .inv .1, rw (m .ensures, c .before .before .before .before .root-output .ensures) (ports-more f 4 (l .q) (l .buf, l .next) (omega arith) ∙ l .inv .2))
+    (omega arith, m .kept .1 .1 .1 .1 .1 .1 .0 ∙ l .inv .1, rw (m .ensures, after-root-output .root-output .ensures) (ports-more f 4 (l .q) (l .buf, l .next) (omega arith) ∙ l .inv .2))
 
 same-length : tie.Need-same-length Inv-loop μ-loop
 same-length c =
@@ -55,4 +49,5 @@ returns c =
 
 pub collect-root-spec : {M : Type 1} → statement M
 collect-root-spec =
-    tie.close (tie.spec Inv-loop μ-loop loop-holds root-output-requires collect-leaving-requires add-q loop-less loop-again same-length returns)
+    tie.close (tie.spec Inv-loop μ-loop loop-holds (λ c κs. search needs) collect-leaving-requires (λ c. search needs) (λ c. search needs)
+    loop-again same-length returns)

@@ -4,13 +4,11 @@ use Rattle.pull_laws.specs.Tables.{nodePort}
 use Rattle.collect.proofs.port_of.Statement.{statement}
 use Rattle.collect.proofs.port_of.Tie as tie
 
-cast-result : tie.Need-cast-result
-cast-result c = search needs
-
 returns : tie.Need-returns
 unfolding nodePort
 returns c =
     search needs
 
 pub port-of-spec : {M : Type 1} → statement M
-port-of-spec = tie.close (tie.spec cast-result returns)
+port-of-spec =
+    tie.close (tie.spec (λ c. search needs) returns)

@@ -4,13 +4,11 @@ use Rattle.route_laws.specs.Nodes.{outputNode}
 use Rattle.collect.proofs.root_output.Statement.{statement}
 use Rattle.collect.proofs.root_output.Tie as tie
 
-add-result : tie.Need-add-result
-add-result c = search needs
-
 returns : tie.Need-returns
 unfolding outputNode
 returns c =
     search needs
 
 pub root-output-spec : {M : Type 1} → statement M
-root-output-spec = tie.close (tie.spec add-result returns)
+root-output-spec =
+    tie.close (tie.spec (λ c. search needs) returns)

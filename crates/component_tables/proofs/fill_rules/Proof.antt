@@ -8,20 +8,13 @@ use mathlib.Core.Path.{ap, _∙_}
 use Rattle.component_tables.proofs.fill_rules.Statement.{statement}
 use Rattle.component_tables.proofs.fill_rules.Tie as tie
 
-put-rule-starts-requires : tie.Need-put-rule-starts-requires
-put-rule-starts-requires c κs = search needs
-
-put-rule-ends-requires : tie.Need-put-rule-ends-requires
-put-rule-ends-requires c κs = search needs
-
-same-length : tie.Need-same-length
-same-length c = search needs
-
 returns : tie.Need-returns
 unfolding byRule
 returns c =
-    c .before .before .put-rule-ends .ensures ∙ ap (ruleEnds (rulesIn (now (c .before .before .before .before .before .before .before .before .before .before .args .rules))) (length (rulesIn (now (c .before .before .before .before .before .before .before .before .before .before .args .rules)))) 0) (c .before .before .before .before .before .before .put-rule-starts .ensures)
+    let start : tie.Start = search in let after-put-rule-ends : tie.After-put-rule-ends = search in
+    let after-put-rule-starts : tie.After-put-rule-starts = search in
+    after-put-rule-ends .put-rule-ends .ensures ∙ ap (ruleEnds (rulesIn (now (start .args .rules))) (length (rulesIn (now (start .args .rules)))) 0) (after-put-rule-starts .put-rule-starts .ensures)
 
 pub fill-rules-spec : {M : Type 1} → statement M
 fill-rules-spec =
-    tie.close (tie.spec put-rule-starts-requires put-rule-ends-requires same-length returns)
+    tie.close (tie.spec (λ c κs. search needs) (λ c κs. search needs) (λ c. search needs) returns)

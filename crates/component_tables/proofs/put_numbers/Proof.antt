@@ -18,30 +18,20 @@ Inv-loop components t₀ n i₀ c₀ t i c = (c ≤ n) × (i ≤ c) × (length t
 abbrev μ-loop : tie.MeasureT-loop
 μ-loop components t₀ n i₀ c₀ t i c = n - c
 
-count-word-requires : tie.Need-count-word-requires Inv-loop μ-loop
-count-word-requires c κs = search needs
-
 loop-holds : tie.Need-loop-holds Inv-loop μ-loop
 loop-holds c =
     (omega arith, omega arith, refl, rw sub-zero)
 
-put-number-requires : tie.Need-put-number-requires Inv-loop μ-loop
-put-number-requires c κs = search needs
-
-add-c : tie.Need-add-c Inv-loop μ-loop
-add-c c = search needs
-
-loop-less : tie.Need-loop-less Inv-loop μ-loop
-loop-less c = search needs
-
 loop-again : tie.Need-loop-again Inv-loop μ-loop
 loop-again c =
-    let a = c .before .before .before .before .before .before .before .before .before .args in
-    let l = c .before .before .before .before .before .loop in
+    let start : tie.Start Inv-loop μ-loop = search in let after-put-number : tie.After-put-number Inv-loop μ-loop = search in
+    let at-loop : tie.At-loop Inv-loop μ-loop = search in let after-count-word : tie.After-count-word Inv-loop μ-loop = search in
+    let a = start .args in
+    let l = at-loop .loop in
     let cs = componentsIn (now (a .components)) in
-    let n = c .before .before .before .before .before .before .count-word .result in
-    let e = c .before .before .put-number .ensures in
-    (omega arith, omega (arith, ap (λ st. st .1) e, number-most cs n (l .c) (l .t, l .i)), c .before .before .put-number .kept .1 .1 .1 .0 ∙ l .inv .2, ap (numbered cs (n - (l .c + 1)) (l .c + 1)) e ∙ numbered-more cs n (l .c) (l .t, l .i) (omega arith) ∙ l .inv .3)
+    let n = after-count-word .count-word .result in
+    let e = after-put-number .put-number .ensures in
+    (omega arith, omega (arith, ap (λ st. st .1) e, number-most cs n (l .c) (l .t, l .i)), after-put-number .put-number .kept .1 .1 .1 .0 ∙ l .inv .2, ap (numbered cs (n - (l .c + 1)) (l .c + 1)) e ∙ numbered-more cs n (l .c) (l .t, l .i) (omega arith) ∙ l .inv .3)
 
 same-length : tie.Need-same-length Inv-loop μ-loop
 same-length c =
@@ -49,12 +39,14 @@ same-length c =
 
 returns : tie.Need-returns Inv-loop μ-loop
 returns c =
-    let a = c .before .before .before .before .before .args in
+    let start : tie.Start Inv-loop μ-loop = search in let after-count-word : tie.After-count-word Inv-loop μ-loop = search in
+    let a = start .args in
     let l = c .before .loop in
     let cs = componentsIn (now (a .components)) in
-    let n = c .before .before .count-word .result in
-    ap (λ st. st .0) (sym (numbered-end cs n (l .c) (l .t, l .i) (omega arith)) ∙ l .inv .3) ∙ ap (λ n. numbered cs n 0 (now (a .t), 0) .0) (c .before .before .count-word .ensures)
+    let n = after-count-word .count-word .result in
+    ap (λ st. st .0) (sym (numbered-end cs n (l .c) (l .t, l .i) (omega arith)) ∙ l .inv .3) ∙ ap (λ n. numbered cs n 0 (now (a .t), 0) .0) (after-count-word .count-word .ensures)
 
 pub put-numbers-spec : {M : Type 1} → statement M
 put-numbers-spec =
-    tie.close (tie.spec Inv-loop μ-loop count-word-requires loop-holds put-number-requires add-c loop-less loop-again same-length returns)
+    tie.close (tie.spec Inv-loop μ-loop (λ c κs. search needs) loop-holds (λ c κs. search needs) (λ c. search needs) (λ c. search needs) loop-again
+    same-length returns)

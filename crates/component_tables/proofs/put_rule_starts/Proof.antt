@@ -20,36 +20,21 @@ Inv-loop rules t₀ i₀ t i = (i ≤ length (rulesIn rules)) × (length t ≡ l
 abbrev μ-loop : tie.MeasureT-loop
 μ-loop rules t₀ i₀ t i = i
 
-rule-word-requires : tie.Need-rule-word-requires Inv-loop μ-loop
-rule-word-requires c κs = search needs
-
 loop-holds : tie.Need-loop-holds Inv-loop μ-loop
 loop-holds c =
     (omega arith, refl, rw (c .rule-word .ensures))
 
-sub-i : tie.Need-sub-i Inv-loop μ-loop
-sub-i c = search needs
-
-rule-name-requires : tie.Need-rule-name-requires Inv-loop μ-loop
-rule-name-requires c κs = search needs
-
-size-requires : tie.Need-size-requires Inv-loop μ-loop
-size-requires c κs = search needs
-
-put-in-requires : tie.Need-put-in-requires Inv-loop μ-loop
-put-in-requires c κs = search needs
-
-loop-less : tie.Need-loop-less Inv-loop μ-loop
-loop-less c = search needs
-
 loop-again : tie.Need-loop-again Inv-loop μ-loop
 loop-again c =
-    let a = c .before .before .before .before .before .before .before .before .before .before .before .args in
-    let l = c .before .before .before .before .before .before .before .loop in
+    let start : tie.Start Inv-loop μ-loop = search in let after-put-in : tie.After-put-in Inv-loop μ-loop = search in
+    let after-size : tie.After-size Inv-loop μ-loop = search in let after-rule-name : tie.After-rule-name Inv-loop μ-loop = search in
+    let at-loop : tie.At-loop Inv-loop μ-loop = search in
+    let a = start .args in
+    let l = at-loop .loop in
     let rs = rulesIn (now (a .rules)) in
-    let k : c .before .before .before .size .result ≡ ruleNames rs (l .i - 1) = c .before .before .before .size .ensures ∙ c .before .before .before .before .rule-name .ensures in
-    let e : c .before .before .put-in .last .0 ≡ putIn rulesFromAt maxComponents (ruleNames rs (l .i - 1)) (l .i - 1) (l .t) = rw k at (c .before .before .put-in .ensures) in
-    (omega arith, c .before .before .put-in .kept .0 ∙ l .inv .1, ap (ruleStarts rs (l .i - 1)) e ∙ starts-more rs (l .i) (l .t) (omega arith) ∙ l .inv .2)
+    let k : after-size .size .result ≡ ruleNames rs (l .i - 1) = after-size .size .ensures ∙ after-rule-name .rule-name .ensures in
+    let e : after-put-in .put-in .last .0 ≡ putIn rulesFromAt maxComponents (ruleNames rs (l .i - 1)) (l .i - 1) (l .t) = rw k at (after-put-in .put-in .ensures) in
+    (omega arith, after-put-in .put-in .kept .0 ∙ l .inv .1, ap (ruleStarts rs (l .i - 1)) e ∙ starts-more rs (l .i) (l .t) (omega arith) ∙ l .inv .2)
 
 same-length : tie.Need-same-length Inv-loop μ-loop
 same-length c =
@@ -57,11 +42,13 @@ same-length c =
 
 returns : tie.Need-returns Inv-loop μ-loop
 returns c =
-    let a = c .before .before .before .before .before .args in
+    let start : tie.Start Inv-loop μ-loop = search in
+    let a = start .args in
     let l = c .before .loop in
     let rs = rulesIn (now (a .rules)) in
     sym (starts-end rs (l .i) (l .t) (omega arith)) ∙ l .inv .2
 
 pub put-rule-starts-spec : {M : Type 1} → statement M
 put-rule-starts-spec =
-    tie.close (tie.spec Inv-loop μ-loop rule-word-requires loop-holds sub-i rule-name-requires size-requires put-in-requires loop-less loop-again same-length returns)
+    tie.close (tie.spec Inv-loop μ-loop (λ c κs. search needs) loop-holds (λ c. search needs) (λ c κs. search needs) (λ c κs. search needs)
+    (λ c κs. search needs) (λ c. search needs) loop-again same-length returns)

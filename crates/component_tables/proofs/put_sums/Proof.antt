@@ -20,46 +20,22 @@ Inv-loop components which at t₀ n total₀ c₀ t total c = (c ≤ n) × (tota
 abbrev μ-loop : tie.MeasureT-loop
 μ-loop components which at t₀ n total₀ c₀ t total c = n - c
 
-component-count-requires : tie.Need-component-count-requires Inv-loop μ-loop
-component-count-requires c κs = search needs
-
 loop-holds : tie.Need-loop-holds Inv-loop μ-loop
 loop-holds c =
-    (omega arith, omega arith, sym (fields-none (c .before .before .before .args .which) (componentsIn (now (c .before .before .before .args .components)))), refl, rw sub-zero)
-
-add-t : tie.Need-add-t Inv-loop μ-loop
-add-t c = search needs
-
-mul-t : tie.Need-mul-t Inv-loop μ-loop
-mul-t c = search needs
-
-slice-write-t : tie.Need-slice-write-t Inv-loop μ-loop
-slice-write-t c = search needs
-
-field-at-requires : tie.Need-field-at-requires Inv-loop μ-loop
-field-at-requires c κs = search needs
-
-word-requires : tie.Need-word-requires Inv-loop μ-loop
-word-requires c κs = search needs
-
-add-total : tie.Need-add-total Inv-loop μ-loop
-add-total c = search needs
-
-add-c : tie.Need-add-c Inv-loop μ-loop
-add-c c = search needs
-
-loop-less : tie.Need-loop-less Inv-loop μ-loop
-loop-less c = search needs
+    let start : tie.Start Inv-loop μ-loop = search in
+    (omega arith, omega arith, sym (fields-none (start .args .which) (componentsIn (now (start .args .components)))), refl, rw sub-zero)
 
 loop-again : tie.Need-loop-again Inv-loop μ-loop
 loop-again c =
-    let a = c .before .before .before .before .before .before .before .args in
-    let l = c .before .before .before .loop in
+    let start : tie.Start Inv-loop μ-loop = search in let at-loop : tie.At-loop Inv-loop μ-loop = search in
+    let after-component-count : tie.After-component-count Inv-loop μ-loop = search in
+    let a = start .args in
+    let l = at-loop .loop in
     let cs = componentsIn (now (a .components)) in
     let f = fieldsBefore (a .which) cs in
     let v : c .word .result ≡ fieldAt (a .which) cs (l .c) = c .word .ensures ∙ c .before .field-at .ensures in
-    let s : l .c < length cs = omega (arith, c .before .before .before .before .component-count .ensures) in
-    (omega arith, omega arith, omega (arith, fields-more (a .which) cs (l .c) s), simp length-set (l .inv .3), rw (l .inv .2) (column-more (a .at) f (c .before .before .before .before .component-count .result) (l .c) (l .t) (omega arith)) ∙ l .inv .4)
+    let s : l .c < length cs = omega (arith, after-component-count .component-count .ensures) in
+    (omega arith, omega arith, omega (arith, fields-more (a .which) cs (l .c) s), simp length-set (l .inv .3), rw (l .inv .2) (column-more (a .at) f (after-component-count .component-count .result) (l .c) (l .t) (omega arith)) ∙ l .inv .4)
 
 same-length : tie.Need-same-length Inv-loop μ-loop
 same-length c =
@@ -67,11 +43,13 @@ same-length c =
 
 returns : tie.Need-returns Inv-loop μ-loop
 returns c =
-    let a = c .before .before .before .before .before .args in
+    let start : tie.Start Inv-loop μ-loop = search in let after-component-count : tie.After-component-count Inv-loop μ-loop = search in
+    let a = start .args in
     let l = c .before .loop in
     let f = fieldsBefore (a .which) (componentsIn (now (a .components))) in
-    sym (column-end (a .at) f (c .before .before .component-count .result) (l .c) (l .t) (omega arith)) ∙ l .inv .4 ∙ ap (λ n. column (a .at) f n 0 (now (a .t))) (c .before .before .component-count .ensures)
+    sym (column-end (a .at) f (after-component-count .component-count .result) (l .c) (l .t) (omega arith)) ∙ l .inv .4 ∙ ap (λ n. column (a .at) f n 0 (now (a .t))) (after-component-count .component-count .ensures)
 
 pub put-sums-spec : {M : Type 1} → statement M
 put-sums-spec =
-    tie.close (tie.spec Inv-loop μ-loop component-count-requires loop-holds add-t mul-t slice-write-t field-at-requires word-requires add-total add-c loop-less loop-again same-length returns)
+    tie.close (tie.spec Inv-loop μ-loop (λ c κs. search needs) loop-holds (λ c. search needs) (λ c. search needs) (λ c. search needs)
+    (λ c κs. search needs) (λ c κs. search needs) (λ c. search needs) (λ c. search needs) (λ c. search needs) loop-again same-length returns)

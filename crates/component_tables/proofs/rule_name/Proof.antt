@@ -15,22 +15,15 @@ use mathlib.Core.Path.{_≡_, sym, ap, _∙_}
 use Rattle.component_tables.proofs.rule_name.Statement.{statement}
 use Rattle.component_tables.proofs.rule_name.Tie as tie
 
-size16-requires : tie.Need-size16-requires
-size16-requires c κs = search needs
-
-mul-byte-at : tie.Need-mul-byte-at
-mul-byte-at c = search needs
-
-byte-at-requires : tie.Need-byte-at-requires
-byte-at-requires c κs = search needs
-
 returns : tie.Need-returns
 unfolding ruleNames rulesIn toRule
 returns c =
-    let a = c .before .before .before .args in
+    let start : tie.Start = search in
+    let a = start .args in
     let n = length-records 18 toRule (now (a .rules)) in
-    let e : getD (rulesIn (now (a .rules))) (a .i) noRule ≡ toRule (row 18 (a .i) (now (a .rules))) = record-in 18 toRule (now (a .rules)) (a .i) noRule (omega (arith, c .before .before .before .pre)) in
+    let e : getD (rulesIn (now (a .rules))) (a .i) noRule ≡ toRule (row 18 (a .i) (now (a .rules))) = record-in 18 toRule (now (a .rules)) (a .i) noRule (omega (arith, start .pre)) in
     rw (c .byte-at .ensures, c .before .size16 .ensures) (sym (ap (λ k. k .component) e ∙ rw (number-row 1 0 18 (a .i) (now (a .rules)) (omega arith), add-zero)))
 
 pub rule-name-spec : {M : Type 1} → statement M
-rule-name-spec = tie.close (tie.spec size16-requires mul-byte-at byte-at-requires returns)
+rule-name-spec =
+    tie.close (tie.spec (λ c κs. search needs) (λ c. search needs) (λ c κs. search needs) returns)

@@ -17,57 +17,54 @@ use Rattle.coupling_tables.proofs.Order.{marked-nodes, spread-nodes, li
 use Rattle.coupling_tables.proofs.fill_linked.Statement.{statement}
 use Rattle.coupling_tables.proofs.fill_linked.Tie as tie
 
-link-count-requires : tie.Need-link-count-requires
-link-count-requires c κs = search needs
-
-link-all-requires : tie.Need-link-all-requires
-link-all-requires c κs = search needs
-
-mark-sources-requires : tie.Need-mark-sources-requires
-mark-sources-requires c κs = search needs
-
 spread-up-requires : tie.Need-spread-up-requires
 spread-up-requires c κs =
-    let a = c .before .before .before .before .before .before .before .before .before .args in
-    let p = c .before .before .before .before .before .before .before .before .before .pre in
-    let k = c .before .before .before .before .before .before .link-count .ensures in
+    let start : tie.Start = search in let after-link-all : tie.After-link-all = search in let after-link-count : tie.After-link-count = search in
+    let a = start .args in
+    let p = start .pre in
+    let k = after-link-count .link-count .ensures in
     let cs = componentsIn (now (a .components)) in
     let ks = couplingsIn (now (a .couplings)) in (
       omega (arith, k, p .1),
-      marked-nodes (linkEnd Source cs ks) (linkEnd Target cs ks) (λ j. getD (now (a .targets)) j 0) cs (c .before .before .before .before .before .before .link-count .result) (now (a .t)) (p .0) (omega (arith, k, p .1)) (λ j l h. p .2 .ends j l (omega (arith, k))) (λ j l h. p .2 .begins j l (omega (arith, k))) (λ j l h. p .2 .nodes j l (omega (arith, k)))
-          (c .before .mark-sources .last .1 .0) (c .before .mark-sources .ensures ∙ ap (column liveAt (sourceFlag cs) (portNodes * length cs) 0) (c .before .before .before .link-all .ensures)),
+      marked-nodes (linkEnd Source cs ks) (linkEnd Target cs ks) (λ j. getD (now (a .targets)) j 0) cs (after-link-count .link-count .result) (now (a .t)) (p .0) (omega (arith, k, p .1)) (λ j l h. p .2 .ends j l (omega (arith, k))) (λ j l h. p .2 .begins j l (omega (arith, k))) (λ j l h. p .2 .nodes j l (omega (arith, k)))
+          (c .before .mark-sources .last .1 .0) (c .before .mark-sources .ensures ∙ ap (column liveAt (sourceFlag cs) (portNodes * length cs) 0) (after-link-all .link-all .ensures)),
     )
 
 spread-down-requires : tie.Need-spread-down-requires
 spread-down-requires c κs =
-    let a = c .before .before .before .before .before .before .before .before .before .before .before .args in
-    let p = c .before .before .before .before .before .before .before .before .before .before .before .pre in
-    let k = c .before .before .before .before .before .before .before .before .link-count .ensures in
+    let start : tie.Start = search in let after-mark-sources : tie.After-mark-sources = search in let after-link-all : tie.After-link-all = search in
+    let after-link-count : tie.After-link-count = search in
+    let a = start .args in
+    let p = start .pre in
+    let k = after-link-count .link-count .ensures in
     let cs = componentsIn (now (a .components)) in
     let ks = couplingsIn (now (a .couplings)) in (
       omega (arith, k, p .1),
-      spread-nodes (linkEnd Source cs ks) (linkEnd Target cs ks) (λ j. getD (now (a .targets)) j 0) cs (c .before .before .before .before .before .before .before .before .link-count .result) (now (a .t)) (p .0) (omega (arith, k, p .1)) (λ j l h. p .2 .ends j l (omega (arith, k))) (λ j l h. p .2 .begins j l (omega (arith, k))) (λ j l h. p .2 .nodes j l (omega (arith, k)))
-          (c .before .before .before .mark-sources .last .1 .0) (c .before .before .before .mark-sources .ensures ∙ ap (column liveAt (sourceFlag cs) (portNodes * length cs) 0) (c .before .before .before .before .before .link-all .ensures)) (c .before .spread-up .last .1 .1 .0) (c .before .spread-up .ensures),
+      spread-nodes (linkEnd Source cs ks) (linkEnd Target cs ks) (λ j. getD (now (a .targets)) j 0) cs (after-link-count .link-count .result) (now (a .t)) (p .0) (omega (arith, k, p .1)) (λ j l h. p .2 .ends j l (omega (arith, k))) (λ j l h. p .2 .begins j l (omega (arith, k))) (λ j l h. p .2 .nodes j l (omega (arith, k)))
+          (after-mark-sources .mark-sources .last .1 .0) (after-mark-sources .mark-sources .ensures ∙ ap (column liveAt (sourceFlag cs) (portNodes * length cs) 0) (after-link-all .link-all .ensures)) (c .before .spread-up .last .1 .1 .0) (c .before .spread-up .ensures),
     )
 
 returns : tie.Need-returns
 unfolding byCoupling
 returns c =
-    let a = c .before .before .before .before .before .before .before .before .before .before .before .before .args in
-    let p = c .before .before .before .before .before .before .before .before .before .before .before .before .pre in
+    let start : tie.Start = search in let after-spread-up : tie.After-spread-up = search in
+    let after-mark-sources : tie.After-mark-sources = search in let after-link-all : tie.After-link-all = search in
+    let after-link-count : tie.After-link-count = search in
+    let a = start .args in
+    let p = start .pre in
     let cs = componentsIn (now (a .components)) in
     let ks = couplingsIn (now (a .couplings)) in
     let t = now (a .t) in
-    let n = c .before .before .before .before .before .before .before .before .before .link-count .result in
+    let n = after-link-count .link-count .result in
     let held : ℕ → ℕ = λ j. getD (now (a .targets)) j 0 in
     let chained : ℕ → List ℕ = λ m. linked firstAt (portNodes * maxComponents) nextAt held m t in
     let marked : List ℕ → List ℕ = λ s. column liveAt (sourceFlag cs) (portNodes * length cs) 0 s in
     let upward : ℕ → List ℕ → List ℕ = λ m s. spreadUp (sourceIn s) held m s in
     let downward : ℕ → List ℕ → List ℕ = λ m s. spreadDown (sourceIn s) held m 1 s in
-    c .spread-down .ensures ∙ ap (downward n) (c .before .before .spread-up .ensures ∙ ap (upward n) (c .before .before .before .before .mark-sources .ensures ∙ ap marked (c .before .before .before .before .before .before .link-all .ensures)))
-    ∙ ap (λ m. downward m (upward m (marked (chained m)))) (c .before .before .before .before .before .before .before .before .before .link-count .ensures)
+    c .spread-down .ensures ∙ ap (downward n) (after-spread-up .spread-up .ensures ∙ ap (upward n) (after-mark-sources .mark-sources .ensures ∙ ap marked (after-link-all .link-all .ensures)))
+    ∙ ap (λ m. downward m (upward m (marked (chained m)))) (after-link-count .link-count .ensures)
     ∙ links-whole (linkEnd Source cs ks) (linkEnd Target cs ks) held cs (length ks) t (p .0) (p .1) (p .2 .ends) (p .2 .begins)
 
 pub fill-linked-spec : {M : Type 1} → statement M
 fill-linked-spec =
-    tie.close (tie.spec link-count-requires link-all-requires mark-sources-requires spread-up-requires spread-down-requires returns)
+    tie.close (tie.spec (λ c κs. search needs) (λ c κs. search needs) (λ c κs. search needs) spread-up-requires spread-down-requires returns)

@@ -23,88 +23,39 @@ Inv-loop components couplings targets₀ t₀ n i₀ targets t i = (i ≤ n) × 
 abbrev μ-loop : tie.MeasureT-loop
 μ-loop components couplings targets₀ t₀ n i₀ targets t i = n - i
 
-coupling-count-requires : tie.Need-coupling-count-requires Inv-loop μ-loop
-coupling-count-requires c κs = search needs
-
 loop-holds : tie.Need-loop-holds Inv-loop μ-loop
 loop-holds c =
     (omega arith, refl, λ j p q. absurd (omega arith), rw sub-zero)
 
-coupling-at-requires : tie.Need-coupling-at-requires Inv-loop μ-loop
-coupling-at-requires c κs = search needs
-
-source-node-requires : tie.Need-source-node-requires Inv-loop μ-loop
-source-node-requires c κs = search needs
-
-add-t : tie.Need-add-t Inv-loop μ-loop
-add-t c = search needs
-
-add-t-2 : tie.Need-add-t-2 Inv-loop μ-loop
-add-t-2 c = search needs
-
-mul-t : tie.Need-mul-t Inv-loop μ-loop
-mul-t c = search needs
-
-element-write-t : tie.Need-element-write-t Inv-loop μ-loop
-element-write-t c = search needs
-
-add-i : tie.Need-add-i Inv-loop μ-loop
-add-i c = search needs
-
-target-node-requires : tie.Need-target-node-requires Inv-loop μ-loop
-target-node-requires c κs = search needs
-
-mul-targets : tie.Need-mul-targets Inv-loop μ-loop
-mul-targets c = search needs
-
-element-write-targets : tie.Need-element-write-targets Inv-loop μ-loop
-element-write-targets c = search needs
-
-loop-less : tie.Need-loop-less Inv-loop μ-loop
-loop-less c = search needs
-
 loop-again : tie.Need-loop-again Inv-loop μ-loop
 loop-again c =
-    let a = c .before .before .before .before .before .before .before .before .args in
-    let l = c .before .before .before .before .loop in
-    let n = c .before .before .before .before .before .coupling-count .result in
+    let start : tie.Start Inv-loop μ-loop = search in let after-coupling-at : tie.After-coupling-at Inv-loop μ-loop = search in
+    let at-loop : tie.At-loop Inv-loop μ-loop = search in let after-coupling-count : tie.After-coupling-count Inv-loop μ-loop = search in
+    let a = start .args in
+    let l = at-loop .loop in
+    let n = after-coupling-count .coupling-count .result in
     let cs = componentsIn (now (a .components)) in
     let ks = couplingsIn (now (a .couplings)) in
     let src : ℕ → ℕ = λ i. linkEnd Source cs ks (1 + i) in
     let e : l .i + 1 ≡ 1 + l .i = omega arith in
-    let x : c .before .source-node .result ≡ src (l .i) = c .before .source-node .ensures ∙ ap (sourceNumber cs) (c .before .before .coupling-at .ensures) ∙ end-next Source cs ks (l .i) ∙ ap (linkEnd Source cs ks) e in
-    let y : c .target-node .result ≡ linkEnd Target cs ks (l .i + 1) = c .target-node .ensures ∙ ap (targetNumber cs) (c .before .before .coupling-at .ensures) ∙ end-next Target cs ks (l .i) in
-    (omega arith, simp length-set (l .inv .1), held-more (linkEnd Target cs ks) (l .i) (c .target-node .result) (l .targets) (omega (arith, c .before .before .before .before .before .coupling-count .ensures)) y (l .inv .2), ap (λ v. column (sourceAt + 1) src (n - (l .i + 1)) (l .i + 1) (set (l .t) (sourceAt + 1 + l .i) v)) x ∙ column-more (sourceAt + 1) src n (l .i) (l .t) (omega arith) ∙ l .inv .3)
+    let x : c .before .source-node .result ≡ src (l .i) = c .before .source-node .ensures ∙ ap (sourceNumber cs) (after-coupling-at .coupling-at .ensures) ∙ end-next Source cs ks (l .i) ∙ ap (linkEnd Source cs ks) e in
+    let y : c .target-node .result ≡ linkEnd Target cs ks (l .i + 1) = c .target-node .ensures ∙ ap (targetNumber cs) (after-coupling-at .coupling-at .ensures) ∙ end-next Target cs ks (l .i) in
+    (omega arith, simp length-set (l .inv .1), held-more (linkEnd Target cs ks) (l .i) (c .target-node .result) (l .targets) (omega (arith, after-coupling-count .coupling-count .ensures)) y (l .inv .2), ap (λ v. column (sourceAt + 1) src (n - (l .i + 1)) (l .i + 1) (set (l .t) (sourceAt + 1 + l .i) v)) x ∙ column-more (sourceAt + 1) src n (l .i) (l .t) (omega arith) ∙ l .inv .3)
 
 returns : tie.Need-returns Inv-loop μ-loop
 unfolding begun
 returns c =
-    let a = c .before .before .before .before .before .args in
+    let start : tie.Start Inv-loop μ-loop = search in let after-coupling-count : tie.After-coupling-count Inv-loop μ-loop = search in
+    let a = start .args in
     let l = c .before .loop in
     let cs = componentsIn (now (a .components)) in
     let ks = couplingsIn (now (a .couplings)) in
     let src : ℕ → ℕ = λ i. linkEnd Source cs ks (1 + i) in
-    let n = c .before .before .coupling-count .result in
-    (λ j p q. l .inv .2 j p (omega (arith, c .before .before .coupling-count .ensures)), sym (column-end (sourceAt + 1) src n (l .i) (l .t) (omega arith)) ∙ l .inv .3 ∙ ap (λ m. column (sourceAt + 1) src m 0 (now (a .t))) (c .before .before .coupling-count .ensures))
+    let n = after-coupling-count .coupling-count .result in
+    (λ j p q. l .inv .2 j p (omega (arith, after-coupling-count .coupling-count .ensures)), sym (column-end (sourceAt + 1) src n (l .i) (l .t) (omega arith)) ∙ l .inv .3 ∙ ap (λ m. column (sourceAt + 1) src m 0 (now (a .t))) (after-coupling-count .coupling-count .ensures))
 
 pub put-ends-spec : {M : Type 1} → statement M
 put-ends-spec =
-    tie.close
-    (tie.spec
-    Inv-loop
-    μ-loop
-    coupling-count-requires
-    loop-holds
-    coupling-at-requires
-    source-node-requires
-    add-t
-    add-t-2
-    mul-t
-    element-write-t
-    add-i
-    target-node-requires
-    mul-targets
-    element-write-targets
-    loop-less
-    loop-again
-    returns)
+    tie.close (tie.spec Inv-loop μ-loop (λ c κs. search needs) loop-holds (λ c κs. search needs) (λ c κs. search needs) (λ c. search needs)
+    (λ c. search needs) (λ c. search needs) (λ c. search needs) (λ c. search needs) (λ c κs. search needs) (λ c. search needs) (λ c. search needs)
+    (λ c. search needs) loop-again returns)

@@ -27,25 +27,18 @@ loop-holds c =
     let z : a .n + 1 - 1 ≡ a .n = omega arith in
     (omega arith, omega arith, within-none liveAt (liveAt + portNodes * maxComponents) _, rw z)
 
-add-loop : tie.Need-add-loop Inv-loop μ-loop
-add-loop c = search needs
-
 spread-link-requires : tie.Need-spread-link-requires Inv-loop μ-loop
 spread-link-requires c κs =
-    let l = c .before .before .loop in
-    let w = c .before .before .before .pre .1 (l .j) (omega arith) (omega arith) in
+    let start : tie.Start Inv-loop μ-loop = search in let at-loop : tie.At-loop Inv-loop μ-loop = search in
+    let l = at-loop .loop in
+    let w = start .pre .1 (l .j) (omega arith) (omega arith) in
     (omega arith, rw (l .inv .2 .above (sourceAt + l .j) (omega arith)) (w .0), w .1)
-
-add-j : tie.Need-add-j Inv-loop μ-loop
-add-j c = search needs
-
-loop-less : tie.Need-loop-less Inv-loop μ-loop
-loop-less c = search needs
 
 loop-again : tie.Need-loop-again Inv-loop μ-loop
 loop-again c =
-    let a = c .before .before .before .before .args in
-    let l = c .before .before .before .loop in
+    let start : tie.Start Inv-loop μ-loop = search in let at-loop : tie.At-loop Inv-loop μ-loop = search in
+    let a = start .args in
+    let l = at-loop .loop in
     let src = sourceIn (now (a .t)) in
     let tgt : ℕ → ℕ = λ j. getD (now (a .targets)) j 0 in
     let s = c .spread-link .ensures ∙ ap (λ x. spread x (tgt (l .j)) (l .t)) (l .inv .2 .above (sourceAt + l .j) (omega arith)) in
@@ -54,10 +47,12 @@ loop-again c =
 
 returns : tie.Need-returns Inv-loop μ-loop
 returns c =
-    let a = c .before .before .args in
+    let start : tie.Start Inv-loop μ-loop = search in
+    let a = start .args in
     let l = c .before .loop in
     sym (down-end (sourceIn (now (a .t))) (λ j. getD (now (a .targets)) j 0) (a .n) (l .j) (l .t) (omega arith)) ∙ l .inv .3
 
 pub spread-down-spec : {M : Type 1} → statement M
 spread-down-spec =
-    tie.close (tie.spec Inv-loop μ-loop loop-holds add-loop spread-link-requires add-j loop-less loop-again returns)
+    tie.close (tie.spec Inv-loop μ-loop loop-holds (λ c. search needs) spread-link-requires (λ c. search needs) (λ c. search needs) loop-again
+    returns)

@@ -7,34 +7,19 @@ use Rattle.coupling_tables.specs.Links.{sourceIn, spread}
 use Rattle.coupling_tables.proofs.spread_link.Statement.{statement}
 use Rattle.coupling_tables.proofs.spread_link.Tie as tie
 
-size16-requires : tie.Need-size16-requires
-size16-requires c κs = search needs
-
-add-x : tie.Need-add-x
-add-x c = search needs
-
-mul-x : tie.Need-mul-x
-mul-x c = search needs
-
-element-copy-out-x : tie.Need-element-copy-out-x
-element-copy-out-x c = search needs
-
-mul-y : tie.Need-mul-y
-mul-y c = search needs
-
-element-copy-out-y : tie.Need-element-copy-out-y
-element-copy-out-y c = search needs
-
 spread-one-requires : tie.Need-spread-one-requires
 spread-one-requires c κs =
-    let p = c .before .before .before .before .pre in
-    rw (c .before .before .before .size16 .ensures) (p .1, p .2)
+    let start : tie.Start = search in let after-size16 : tie.After-size16 = search in
+    let p = start .pre in
+    rw (after-size16 .size16 .ensures) (p .1, p .2)
 
 returns : tie.Need-returns
 returns c =
-    let a = c .before .before .before .before .before .args in
-    c .spread-one .ensures ∙ ap (λ j. spread (sourceIn (now (a .t)) j) (getD (now (a .targets)) j 0) (now (a .t))) (c .before .before .before .before .size16 .ensures)
+    let start : tie.Start = search in let after-size16 : tie.After-size16 = search in
+    let a = start .args in
+    c .spread-one .ensures ∙ ap (λ j. spread (sourceIn (now (a .t)) j) (getD (now (a .targets)) j 0) (now (a .t))) (after-size16 .size16 .ensures)
 
 pub spread-link-spec : {M : Type 1} → statement M
 spread-link-spec =
-    tie.close (tie.spec size16-requires add-x mul-x element-copy-out-x mul-y element-copy-out-y spread-one-requires returns)
+    tie.close (tie.spec (λ c κs. search needs) (λ c. search needs) (λ c. search needs) (λ c. search needs) (λ c. search needs) (λ c. search needs)
+    spread-one-requires returns)

@@ -28,20 +28,16 @@ loop-holds c =
 
 spread-link-requires : tie.Need-spread-link-requires Inv-loop μ-loop
 spread-link-requires c κs =
-    let l = c .before .before .loop in
-    let w = c .before .before .before .pre .1 (l .j) (omega arith) (omega arith) in
+    let start : tie.Start Inv-loop μ-loop = search in let at-loop : tie.At-loop Inv-loop μ-loop = search in
+    let l = at-loop .loop in
+    let w = start .pre .1 (l .j) (omega arith) (omega arith) in
     (omega arith, rw (l .inv .1 .above (sourceAt + l .j) (omega arith)) (w .0), w .1)
-
-sub-j : tie.Need-sub-j Inv-loop μ-loop
-sub-j c = search needs
-
-loop-less : tie.Need-loop-less Inv-loop μ-loop
-loop-less c = search needs
 
 loop-again : tie.Need-loop-again Inv-loop μ-loop
 loop-again c =
-    let a = c .before .before .before .before .args in
-    let l = c .before .before .before .loop in
+    let start : tie.Start Inv-loop μ-loop = search in let at-loop : tie.At-loop Inv-loop μ-loop = search in
+    let a = start .args in
+    let l = at-loop .loop in
     let src = sourceIn (now (a .t)) in
     let tgt : ℕ → ℕ = λ j. getD (now (a .targets)) j 0 in
     let s = c .spread-link .ensures ∙ ap (λ x. spread x (tgt (l .j)) (l .t)) (l .inv .1 .above (sourceAt + l .j) (omega arith)) in
@@ -49,10 +45,11 @@ loop-again c =
 
 returns : tie.Need-returns Inv-loop μ-loop
 returns c =
-    let a = c .before .before .args in
+    let start : tie.Start Inv-loop μ-loop = search in
+    let a = start .args in
     let l = c .before .loop in
     sym (up-end (sourceIn (now (a .t))) (λ j. getD (now (a .targets)) j 0) (l .j) (l .t) (omega arith)) ∙ l .inv .2
 
 pub spread-up-spec : {M : Type 1} → statement M
 spread-up-spec =
-    tie.close (tie.spec Inv-loop μ-loop loop-holds spread-link-requires sub-j loop-less loop-again returns)
+    tie.close (tie.spec Inv-loop μ-loop loop-holds spread-link-requires (λ c. search needs) (λ c. search needs) loop-again returns)

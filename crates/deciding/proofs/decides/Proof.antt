@@ -12,26 +12,19 @@ use mathlib.Core.Path.{sym, ap, _∙_}
 use Rattle.deciding.proofs.decides.Statement.{statement}
 use Rattle.deciding.proofs.decides.Tie as tie
 
-head-at-requires : tie.Need-head-at-requires
-head-at-requires c κs = search needs
-
 returns : tie.Need-returns
 returns c =
-    let a = c .before .before .before .before .args in
-    let byte : getD (now (a .rules)) (18 * a .i) 0 < 256 = omega (arith, c .before .before .before .shared-slice-known .given (18 * a .i)) in
-    sym (other-head (now (a .rules)) (a .component) (a .phase) (a .elapsed .0) (map messageOf (now (a .bag))) (a .i) (c .before .before .before .before .pre .0) byte (λ q. c .if1 .taken (rw (c .before .before .before .before .pre .1) at (c .before .head-at .ensures) ∙ q ∙ sym (c .before .before .before .before .pre .2))))
-
-rule-at-requires : tie.Need-rule-at-requires
-rule-at-requires c κs = search needs
-
-rule-holds-requires : tie.Need-rule-holds-requires
-rule-holds-requires c κs = search needs
+    let start : tie.Start = search in let after-shared-slice-known : tie.After-shared-slice-known = search in
+    let a = start .args in
+    let byte : getD (now (a .rules)) (18 * a .i) 0 < 256 = omega (arith, after-shared-slice-known .shared-slice-known .given (18 * a .i)) in
+    sym (other-head (now (a .rules)) (a .component) (a .phase) (a .elapsed .0) (map messageOf (now (a .bag))) (a .i) (start .pre .0) byte (λ q. c .if1 .taken (rw (start .pre .1) at (c .before .head-at .ensures) ∙ q ∙ sym (start .pre .2))))
 
 returns-2 : tie.Need-returns-2
 returns-2 c =
-    let a = c .before .before .before .before .before .before .args in
+    let start : tie.Start = search in
+    let a = start .args in
     c .rule-holds .ensures ∙ ap (holds (a .component) (a .phase) (a .elapsed .0) (map messageOf (now (a .bag)))) (c .before .rule-at .ensures)
 
 pub decides-spec : {M : Type 1} → statement M
 decides-spec =
-    tie.close (tie.spec head-at-requires returns rule-at-requires rule-holds-requires returns-2)
+    tie.close (tie.spec (λ c κs. search needs) returns (λ c κs. search needs) (λ c κs. search needs) returns-2)

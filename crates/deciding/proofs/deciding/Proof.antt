@@ -22,54 +22,34 @@ Inv-loop rules first end component phase elapsed bag stop head i₀ at₀ i at =
 abbrev μ-loop : tie.MeasureT-loop
 μ-loop rules first end component phase elapsed bag stop head i₀ at₀ i at = end - i
 
-stop-before-requires : tie.Need-stop-before-requires Inv-loop μ-loop
-stop-before-requires c κs = search needs
-
-head-of-requires : tie.Need-head-of-requires Inv-loop μ-loop
-head-of-requires c κs = search needs
-
-mul-at : tie.Need-mul-at Inv-loop μ-loop
-mul-at c = search needs
-
 loop-holds : tie.Need-loop-holds Inv-loop μ-loop
 loop-holds c =
     (refl, refl)
 
-decided-past-requires : tie.Need-decided-past-requires Inv-loop μ-loop
-decided-past-requires c κs = search needs
-
-decides-requires : tie.Need-decides-requires Inv-loop μ-loop
-decides-requires c κs = search needs
-
-add-i : tie.Need-add-i Inv-loop μ-loop
-add-i c = search needs
-
-add-at : tie.Need-add-at Inv-loop μ-loop
-add-at c = search needs
-
-loop-less : tie.Need-loop-less Inv-loop μ-loop
-loop-less c = search needs
-
 loop-again : tie.Need-loop-again Inv-loop μ-loop
 unfolding decidingIn
 loop-again c =
-    let a = c .before .before .before .before .before .before .before .before .args in
-    let l = c .before .before .before .loop in
+    let start : tie.Start Inv-loop μ-loop = search in let at-loop : tie.At-loop Inv-loop μ-loop = search in
+    let a = start .args in
+    let l = at-loop .loop in
     let p : ℕ → Bool = λ j. holds (a .component) (a .phase) (a .elapsed .0) (map messageOf (now (a .bag))) (getD (rulesIn (now (a .rules))) j noRule) in
     (omega arith, first-later p (a .end) (l .i) (omega arith) (sym (c .before .decides .ensures) ∙ c .if2 .left) ∙ l .inv .1)
 
 returns : tie.Need-returns Inv-loop μ-loop
 returns c =
-    c .decided-past .ensures ∙ c .before .before .loop .inv .1
+    let at-loop : tie.At-loop Inv-loop μ-loop = search in
+    c .decided-past .ensures ∙ at-loop .loop .inv .1
 
 returns-2 : tie.Need-returns-2 Inv-loop μ-loop
 unfolding decidingIn
 returns-2 c =
-    let a = c .before .before .before .before .before .before .before .before .args in
-    let l = c .before .before .before .loop in
+    let start : tie.Start Inv-loop μ-loop = search in let at-loop : tie.At-loop Inv-loop μ-loop = search in
+    let a = start .args in
+    let l = at-loop .loop in
     let p : ℕ → Bool = λ j. holds (a .component) (a .phase) (a .elapsed .0) (map messageOf (now (a .bag))) (getD (rulesIn (now (a .rules))) j noRule) in
     first-here p (a .end) (l .i) (omega arith) (sym (c .before .decides .ensures) ∙ c .if2 .taken) ∙ l .inv .1
 
 pub deciding-spec : {M : Type 1} → statement M
 deciding-spec =
-    tie.close (tie.spec Inv-loop μ-loop stop-before-requires head-of-requires mul-at loop-holds decided-past-requires decides-requires add-i add-at loop-less loop-again returns returns-2)
+    tie.close (tie.spec Inv-loop μ-loop (λ c κs. search needs) (λ c κs. search needs) (λ c. search needs) loop-holds (λ c κs. search needs)
+    (λ c κs. search needs) (λ c. search needs) (λ c. search needs) (λ c. search needs) loop-again returns returns-2)

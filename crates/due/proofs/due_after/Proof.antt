@@ -12,16 +12,12 @@ unfolding dueAfter
 returns c =
     rw (eq-eqb _ _ (c .if1 .taken))
 
-wide-requires : tie.Need-wide-requires
-wide-requires c κs = search needs
-
-plus-requires : tie.Need-plus-requires
-plus-requires c κs = search needs
-
 returns-2 : tie.Need-returns-2
 unfolding dueAfter
 returns-2 c =
-    rw (ne-eqb _ _ (c .before .before .if1 .left), ← c .before .wide .ensures) (ap finite (c .plus .ensures))
+    let else1 : tie.Else1 = search in
+    rw (ne-eqb _ _ (else1 .if1 .left), ← c .before .wide .ensures) (ap finite (c .plus .ensures))
 
 pub due-after-spec : {M : Type 1} → statement M
-due-after-spec = tie.close (tie.spec returns wide-requires plus-requires returns-2)
+due-after-spec =
+    tie.close (tie.spec returns (λ c κs. search needs) (λ c κs. search needs) returns-2)

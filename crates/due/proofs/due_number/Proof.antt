@@ -4,12 +4,6 @@ use Rattle.definition.specs.Engine.{dueNumber}
 use Rattle.due.proofs.due_number.Statement.{statement}
 use Rattle.due.proofs.due_number.Tie as tie
 
-enum-known-due : tie.Need-enum-known-due
-enum-known-due c = search needs
-
-enum-told : tie.Need-enum-told
-enum-told c = search needs
-
 returns : tie.Need-returns
 unfolding dueNumber
 returns c =
@@ -21,4 +15,5 @@ returns-2 c =
     rw (c .enum-told .given .1)
 
 pub due-number-spec : {M : Type 1} → statement M
-due-number-spec = tie.close (tie.spec enum-known-due enum-told returns returns-2)
+due-number-spec =
+    tie.close (tie.spec (λ c. search needs) (λ c. search needs) returns returns-2)

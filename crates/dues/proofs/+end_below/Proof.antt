@@ -52,22 +52,27 @@ end-below-is-atomic-requires t c κs = search needs
 
 end-below-end-of-requires : (t : ℕ) → end-below-lts.Need-end-of-requires (end-below-calls t) (end-below-at t) end-below.Post end-below-Inv-loop end-below-μ-loop
 end-below-end-of-requires t c κs =
-    c .before .before .pre .1
+    let start : end-below-lts.Start (end-below-calls t) (end-below-at t) end-below.Post end-below-Inv-loop end-below-μ-loop = search in
+    start .pre .1
 
 end-below-returns : (t : ℕ) → end-below-lts.Need-returns (end-below-calls t) (end-below-at t) end-below.Post end-below-Inv-loop end-below-μ-loop
 end-below-returns t c =
-    let a = c .before .before .before .args in
-    c .end-of .ensures ∙ end-atomic (now (a .tables)) (now (a .ends)) (a .c) (sym (c .before .before .is-atomic .ensures) ∙ c .before .if1 .taken)
+    let start : end-below-lts.Start (end-below-calls t) (end-below-at t) end-below.Post end-below-Inv-loop end-below-μ-loop = search in
+    let after-is-atomic : end-below-lts.After-is-atomic (end-below-calls t) (end-below-at t) end-below.Post end-below-Inv-loop end-below-μ-loop = search in
+    let a = start .args in
+    c .end-of .ensures ∙ end-atomic (now (a .tables)) (now (a .ends)) (a .c) (sym (after-is-atomic .is-atomic .ensures) ∙ c .before .if1 .taken)
 
 end-below-row-in-requires : (t : ℕ) → end-below-lts.Need-row-in-requires (end-below-calls t) (end-below-at t) end-below.Post end-below-Inv-loop end-below-μ-loop
 end-below-row-in-requires t c κs = search needs
 
 end-below-loop-holds : (t : ℕ) → end-below-lts.Need-loop-holds (end-below-calls t) (end-below-at t) end-below.Post end-below-Inv-loop end-below-μ-loop
 end-below-loop-holds t c =
-    let a = c .before .before .before .args in
-    let q = c .before .before .before .pre .1 in
+    let start : end-below-lts.Start (end-below-calls t) (end-below-at t) end-below.Post end-below-Inv-loop end-below-μ-loop = search in
+    let after-is-atomic : end-below-lts.After-is-atomic (end-below-calls t) (end-below-at t) end-below.Post end-below-Inv-loop end-below-μ-loop = search in
+    let a = start .args in
+    let q = start .pre .1 in
     let child = c .row-in .ensures in
-    (omega arith, rw child (q .1 .children (a .c) (q .0)), rw child (q .1 .children-rise (a .c) (q .0)), omega arith, rw child (end-coupled (now (a .tables)) (now (a .ends)) (a .c) (sym (c .before .before .is-atomic .ensures) ∙ c .before .if1 .left)))
+    (omega arith, rw child (q .1 .children (a .c) (q .0)), rw child (q .1 .children-rise (a .c) (q .0)), omega arith, rw child (end-coupled (now (a .tables)) (now (a .ends)) (a .c) (sym (after-is-atomic .is-atomic .ensures) ∙ c .before .if1 .left)))
 
 end-below-is-atomic-requires-2 : (t : ℕ) → end-below-lts.Need-is-atomic-requires-2 (end-below-calls t) (end-below-at t) end-below.Post end-below-Inv-loop end-below-μ-loop
 end-below-is-atomic-requires-2 t c κs =
@@ -75,54 +80,69 @@ end-below-is-atomic-requires-2 t c κs =
 
 end-below-end-of-requires-2 : (t : ℕ) → end-below-lts.Need-end-of-requires-2 (end-below-calls t) (end-below-at t) end-below.Post end-below-Inv-loop end-below-μ-loop
 end-below-end-of-requires-2 t c κs =
-    (c .before .before .before .loop .inv .1, c .before .before .before .before .before .before .before .pre .1 .1)
+    let start : end-below-lts.Start (end-below-calls t) (end-below-at t) end-below.Post end-below-Inv-loop end-below-μ-loop = search in
+    let at-loop : end-below-lts.At-loop (end-below-calls t) (end-below-at t) end-below.Post end-below-Inv-loop end-below-μ-loop = search in
+    (at-loop .loop .inv .1, start .pre .1 .1)
 
 end-below-lesser-requires : (t : ℕ) → end-below-lts.Need-lesser-requires (end-below-calls t) (end-below-at t) end-below.Post end-below-Inv-loop end-below-μ-loop
 end-below-lesser-requires t c κs = search needs
 
 end-below-end-below-requires : (t : ℕ) → end-below-lts.Need-end-below-requires (end-below-calls t) (end-below-at t) end-below.Post end-below-Inv-loop end-below-μ-loop
 end-below-end-below-requires t c κs =
-    let l = c .before .before .before .loop in
-    let p : 0 < l .d = ltb-true 0 (l .d) (and-right (ltb 0 (l .left)) (ltb 0 (l .d)) (c .before .before .loop-test .taken)) in
-    (omega (arith, l .inv .1, l .inv .2 p, c .before .before .before .before .before .before .before .pre .0), (l .inv .1, c .before .before .before .before .before .before .before .pre .1 .1))
+    let start : end-below-lts.Start (end-below-calls t) (end-below-at t) end-below.Post end-below-Inv-loop end-below-μ-loop = search in
+    let in-loop : end-below-lts.In-loop (end-below-calls t) (end-below-at t) end-below.Post end-below-Inv-loop end-below-μ-loop = search in
+    let at-loop : end-below-lts.At-loop (end-below-calls t) (end-below-at t) end-below.Post end-below-Inv-loop end-below-μ-loop = search in
+    let l = at-loop .loop in
+    let p : 0 < l .d = ltb-true 0 (l .d) (and-right (ltb 0 (l .left)) (ltb 0 (l .d)) (in-loop .loop-test .taken)) in
+    (omega (arith, l .inv .1, l .inv .2 p, start .pre .0), (l .inv .1, start .pre .1 .1))
 
 end-below-lesser-requires-2 : (t : ℕ) → end-below-lts.Need-lesser-requires-2 (end-below-calls t) (end-below-at t) end-below.Post end-below-Inv-loop end-below-μ-loop
 end-below-lesser-requires-2 t c κs = search needs
 
 end-below-row-in-requires-2 : (t : ℕ) → end-below-lts.Need-row-in-requires-2 (end-below-calls t) (end-below-at t) end-below.Post end-below-Inv-loop end-below-μ-loop
 end-below-row-in-requires-2 t c κs =
-    (omega arith, c .before .before .before .loop .inv .1)
+    let at-loop : end-below-lts.At-loop (end-below-calls t) (end-below-at t) end-below.Post end-below-Inv-loop end-below-μ-loop = search in
+    (omega arith, at-loop .loop .inv .1)
 
 end-below-sub-left : (t : ℕ) → end-below-lts.Need-sub-left (end-below-calls t) (end-below-at t) end-below.Post end-below-Inv-loop end-below-μ-loop
 end-below-sub-left t c =
-    let l = c .before .before .before .before .loop in
-    omega (arith, ltb-true 0 (l .left) (and-left (ltb 0 (l .left)) (ltb 0 (l .d)) (c .before .before .before .loop-test .taken)))
+    let in-loop : end-below-lts.In-loop (end-below-calls t) (end-below-at t) end-below.Post end-below-Inv-loop end-below-μ-loop = search in
+    let at-loop : end-below-lts.At-loop (end-below-calls t) (end-below-at t) end-below.Post end-below-Inv-loop end-below-μ-loop = search in
+    let l = at-loop .loop in
+    omega (arith, ltb-true 0 (l .left) (and-left (ltb 0 (l .left)) (ltb 0 (l .d)) (in-loop .loop-test .taken)))
 
 end-below-loop-less : (t : ℕ) → end-below-lts.Need-loop-less (end-below-calls t) (end-below-at t) end-below.Post end-below-Inv-loop end-below-μ-loop
 end-below-loop-less t c =
-    let l = c .before .before .before .before .loop in
-    omega (arith, ltb-true 0 (l .left) (and-left (ltb 0 (l .left)) (ltb 0 (l .d)) (c .before .before .before .loop-test .taken)))
+    let in-loop : end-below-lts.In-loop (end-below-calls t) (end-below-at t) end-below.Post end-below-Inv-loop end-below-μ-loop = search in
+    let at-loop : end-below-lts.At-loop (end-below-calls t) (end-below-at t) end-below.Post end-below-Inv-loop end-below-μ-loop = search in
+    let l = at-loop .loop in
+    omega (arith, ltb-true 0 (l .left) (and-left (ltb 0 (l .left)) (ltb 0 (l .d)) (in-loop .loop-test .taken)))
 
 end-below-loop-again : (t : ℕ) → end-below-lts.Need-loop-again (end-below-calls t) (end-below-at t) end-below.Post end-below-Inv-loop end-below-μ-loop
 end-below-loop-again t c =
-    let a = c .before .before .before .before .before .before .before .before .args in
-    let q = c .before .before .before .before .before .before .before .before .pre .1 in
-    let l = c .before .before .before .before .loop in
+    let start : end-below-lts.Start (end-below-calls t) (end-below-at t) end-below.Post end-below-Inv-loop end-below-μ-loop = search in
+    let after-is-atomic2 : end-below-lts.After-is-atomic2 (end-below-calls t) (end-below-at t) end-below.Post end-below-Inv-loop end-below-μ-loop = search in
+    let in-loop : end-below-lts.In-loop (end-below-calls t) (end-below-at t) end-below.Post end-below-Inv-loop end-below-μ-loop = search in
+    let at-loop : end-below-lts.At-loop (end-below-calls t) (end-below-at t) end-below.Post end-below-Inv-loop end-below-μ-loop = search in
+    let a = start .args in
+    let q = start .pre .1 in
+    let l = at-loop .loop in
     let t = now (a .tables) in
     let es = now (a .ends) in
     let sibling = c .row-in2 .ensures in
-    let p : 0 < l .d = ltb-true 0 (l .d) (and-right (ltb 0 (l .left)) (ltb 0 (l .d)) (c .before .before .before .loop-test .taken)) in
+    let p : 0 < l .d = ltb-true 0 (l .d) (and-right (ltb 0 (l .left)) (ltb 0 (l .d)) (in-loop .loop-test .taken)) in
     let all : endBelow t es maxComponents (l .d) ≡ endBelow t es levelsLeft (l .d) = levels-enough t (q .1) es maxComponents levelsLeft (l .d) (l .inv .1) (omega arith) (omega (arith, p)) in
     let one : c .before .if2 .least ≡ min (l .least) (endBelow t es levelsLeft (l .d)) =
     ⊎-elim
-    (λ w. w .3 ∙ w .2 .ensures ∙ ap (min (l .least)) (w .1 .ensures ∙ end-atomic t es (l .d) (sym (c .before .before .is-atomic2 .ensures) ∙ w .0 .taken) ∙ all))
+    (λ w. w .3 ∙ w .2 .ensures ∙ ap (min (l .least)) (w .1 .ensures ∙ end-atomic t es (l .d) (sym (after-is-atomic2 .is-atomic2 .ensures) ∙ w .0 .taken) ∙ all))
     (λ w. w .3 ∙ w .2 .ensures ∙ ap (min (l .least)) (w .1 .ensures ∙ all))
     (c .before .if2 .came) in
-    (omega arith, rw sibling (q .1 .siblings (l .d) (l .inv .1)), rw sibling (λ z. omega (arith, l .inv .2 p, q .1 .siblings-rise (l .d) (l .inv .1) z)), omega (arith, one, l .inv .3), rw (one, sibling) (least-more t (endBelow t es levelsLeft) (l .left) (l .d) (l .least) (c .before .before .before .loop-test .taken) ∙ l .inv .4))
+    (omega arith, rw sibling (q .1 .siblings (l .d) (l .inv .1)), rw sibling (λ z. omega (arith, l .inv .2 p, q .1 .siblings-rise (l .d) (l .inv .1) z)), omega (arith, one, l .inv .3), rw (one, sibling) (least-more t (endBelow t es levelsLeft) (l .left) (l .d) (l .least) (in-loop .loop-test .taken) ∙ l .inv .4))
 
 end-below-returns-2 : (t : ℕ) → end-below-lts.Need-returns-2 (end-below-calls t) (end-below-at t) end-below.Post end-below-Inv-loop end-below-μ-loop
 end-below-returns-2 t c =
-    let a = c .before .before .before .before .before .args in
+    let start : end-below-lts.Start (end-below-calls t) (end-below-at t) end-below.Post end-below-Inv-loop end-below-μ-loop = search in
+    let a = start .args in
     let l = c .before .loop in
     least-end (now (a .tables)) (endBelow (now (a .tables)) (now (a .ends)) levelsLeft) (l .left) (l .d) (l .least) (l .inv .3) (c .loop-test .left) ∙ l .inv .4
 

@@ -4,13 +4,11 @@ use Rattle.pull_laws.specs.Carried.{nextEnd}
 use Rattle.dues.proofs.next_end.Statement.{statement}
 use Rattle.dues.proofs.next_end.Tie as tie
 
-end-below-requires : tie.Need-end-below-requires
-end-below-requires c κs = search needs
-
 returns : tie.Need-returns
 unfolding nextEnd
 returns c =
     c .end-below .ensures
 
 pub next-end-spec : {M : Type 1} → statement M
-next-end-spec = tie.close (tie.spec end-below-requires returns)
+next-end-spec =
+    tie.close (tie.spec (λ c κs. search needs) returns)

@@ -20,40 +20,25 @@ Inv-loop phases tables n phase last ends₀ i₀ ends i = (i ≤ n) × (length e
 abbrev μ-loop : tie.MeasureT-loop
 μ-loop phases tables n phase last ends₀ i₀ ends i = n - i
 
-whole-requires : tie.Need-whole-requires Inv-loop μ-loop
-whole-requires c κs = search needs
-
 loop-holds : tie.Need-loop-holds Inv-loop μ-loop
 loop-holds c = (omega arith, c .whole .ensures, λ j l. absurd (omega arith))
 
-cast-row-in : tie.Need-cast-row-in Inv-loop μ-loop
-cast-row-in c = search needs
-
-row-in-requires : tie.Need-row-in-requires Inv-loop μ-loop
-row-in-requires c κs = search needs
-
-size-requires : tie.Need-size-requires Inv-loop μ-loop
-size-requires c κs = search needs
-
-phase-at-requires : tie.Need-phase-at-requires Inv-loop μ-loop
-phase-at-requires c κs = search needs
-
 put-end-requires : tie.Need-put-end-requires Inv-loop μ-loop
-put-end-requires c κs = (omega arith, rw (c .before .before .before .row-in .ensures) (c .before .before .before .before .before .before .before .before .before .pre .1 .numbers (c .before .before .before .before .before .loop .i) (omega arith)))
-
-add-i : tie.Need-add-i Inv-loop μ-loop
-add-i c = search needs
-
-loop-less : tie.Need-loop-less Inv-loop μ-loop
-loop-less c = search needs
+put-end-requires c κs =
+    let start : tie.Start Inv-loop μ-loop = search in let after-row-in : tie.After-row-in Inv-loop μ-loop = search in
+    let at-loop : tie.At-loop Inv-loop μ-loop = search in
+    (omega arith, rw (after-row-in .row-in .ensures) (start .pre .1 .numbers (at-loop .loop .i) (omega arith)))
 
 loop-again : tie.Need-loop-again Inv-loop μ-loop
 loop-again c =
-    let a = c .before .before .before .before .before .before .before .before .before .before .args in
-    let l = c .before .before .before .before .before .before .loop in
+    let start : tie.Start Inv-loop μ-loop = search in let after-phase-at : tie.After-phase-at Inv-loop μ-loop = search in
+    let after-size : tie.After-size Inv-loop μ-loop = search in let after-row-in : tie.After-row-in Inv-loop μ-loop = search in
+    let at-loop : tie.At-loop Inv-loop μ-loop = search in
+    let a = start .args in
+    let l = at-loop .loop in
     let st = held (now (a .phase)) (now (a .last)) in
-    let p : c .before .before .phase-at .result ≡ getD (now (a .phase)) (l .i) 0 = c .before .before .phase-at .ensures ∙ ap (λ k. getD (now (a .phase)) k 0) (c .before .before .before .size .ensures) in
-    let put = c .put-end .ensures ∙ ap (λ u. set (l .ends) (l .i) (dueNumber u)) (due-named (phasesIn (now (a .phases))) (now (a .tables)) st (l .i) _ _ (c .before .before .before .before .row-in .ensures) p) in
+    let p : after-phase-at .phase-at .result ≡ getD (now (a .phase)) (l .i) 0 = after-phase-at .phase-at .ensures ∙ ap (λ k. getD (now (a .phase)) k 0) (after-size .size .ensures) in
+    let put = c .put-end .ensures ∙ ap (λ u. set (l .ends) (l .i) (dueNumber u)) (due-named (phasesIn (now (a .phases))) (now (a .tables)) st (l .i) _ _ (after-row-in .row-in .ensures) p) in
     (omega arith, rw put (simp length-set (l .inv .1)), rw put (carried-more (phasesIn (now (a .phases))) (now (a .tables)) st (l .ends) (l .i) (omega arith) (l .inv .2)))
 
 returns : tie.Need-returns Inv-loop μ-loop
@@ -61,5 +46,5 @@ returns c = λ j l. c .before .loop .inv .2 j (omega arith)
 
 pub put-ends-spec : {M : Type 1} → statement M
 put-ends-spec =
-    tie.close
-    (tie.spec Inv-loop μ-loop whole-requires loop-holds cast-row-in row-in-requires size-requires phase-at-requires put-end-requires add-i loop-less loop-again returns)
+    tie.close (tie.spec Inv-loop μ-loop (λ c κs. search needs) loop-holds (λ c. search needs) (λ c κs. search needs) (λ c κs. search needs)
+    (λ c κs. search needs) put-end-requires (λ c. search needs) (λ c. search needs) loop-again returns)

@@ -21,24 +21,10 @@ loop-holds : tie.Need-loop-holds Inv-loop μ-loop
 loop-holds c =
     (omega arith, refl, refl)
 
-mark-requires : tie.Need-mark-requires Inv-loop μ-loop
-mark-requires c κs = search needs
-
-mul-marks : tie.Need-mul-marks Inv-loop μ-loop
-mul-marks c = search needs
-
-slice-write-marks : tie.Need-slice-write-marks Inv-loop μ-loop
-slice-write-marks c = search needs
-
-add-c : tie.Need-add-c Inv-loop μ-loop
-add-c c = search needs
-
-loop-less : tie.Need-loop-less Inv-loop μ-loop
-loop-less c = search needs
-
 loop-again : tie.Need-loop-again Inv-loop μ-loop
 loop-again c =
-    let l = c .before .before .loop in (omega arith, simp length-set (l .inv .1), rw (c .mark .ensures) (marks-more (l .c) (l .marks) (c .before .loop-test .taken) ∙ l .inv .2))
+    let at-loop : tie.At-loop Inv-loop μ-loop = search in
+    let l = at-loop .loop in (omega arith, simp length-set (l .inv .1), rw (c .mark .ensures) (marks-more (l .c) (l .marks) (c .before .loop-test .taken) ∙ l .inv .2))
 
 same-length : tie.Need-same-length Inv-loop μ-loop
 same-length c =
@@ -46,8 +32,10 @@ same-length c =
 
 returns : tie.Need-returns Inv-loop μ-loop
 returns c =
-    let a = c .before .before .before .args in let l = c .before .loop in sym (marks-none (l .c) (l .marks) (c .loop-test .left)) ∙ l .inv .2 ∙ marks-all (now (a .marks)) (c .before .before .before .pre)
+    let start : tie.Start Inv-loop μ-loop = search in
+    let a = start .args in let l = c .before .loop in sym (marks-none (l .c) (l .marks) (c .loop-test .left)) ∙ l .inv .2 ∙ marks-all (now (a .marks)) (start .pre)
 
 pub put-marks-spec : {M : Type 1} → statement M
 put-marks-spec =
-    tie.close (tie.spec Inv-loop μ-loop loop-holds mark-requires mul-marks slice-write-marks add-c loop-less loop-again same-length returns)
+    tie.close (tie.spec Inv-loop μ-loop loop-holds (λ c κs. search needs) (λ c. search needs) (λ c. search needs) (λ c. search needs)
+    (λ c. search needs) loop-again same-length returns)

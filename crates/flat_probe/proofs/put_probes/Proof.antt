@@ -22,21 +22,11 @@ loop-holds : tie.Need-loop-holds Inv-loop μ-loop
 loop-holds c =
     (omega arith, refl, refl)
 
-mul-put-probe : tie.Need-mul-put-probe Inv-loop μ-loop
-mul-put-probe c = search needs
-
-put-probe-requires : tie.Need-put-probe-requires Inv-loop μ-loop
-put-probe-requires c κs = search needs
-
-add-c : tie.Need-add-c Inv-loop μ-loop
-add-c c = search needs
-
-loop-less : tie.Need-loop-less Inv-loop μ-loop
-loop-less c = search needs
-
 loop-again : tie.Need-loop-again Inv-loop μ-loop
 loop-again c =
-    let l = c .before .before .before .before .before .loop in (omega arith, c .before .before .put-probe .kept .1 .0 ∙ l .inv .1, rw (c .before .before .put-probe .ensures) (probes-more (l .c) (l .out) (c .before .before .before .before .loop-test .taken) ∙ l .inv .2))
+    let after-put-probe : tie.After-put-probe Inv-loop μ-loop = search in let in-loop : tie.In-loop Inv-loop μ-loop = search in
+    let at-loop : tie.At-loop Inv-loop μ-loop = search in
+    let l = at-loop .loop in (omega arith, after-put-probe .put-probe .kept .1 .0 ∙ l .inv .1, rw (after-put-probe .put-probe .ensures) (probes-more (l .c) (l .out) (in-loop .loop-test .taken) ∙ l .inv .2))
 
 same-length : tie.Need-same-length Inv-loop μ-loop
 same-length c =
@@ -44,8 +34,10 @@ same-length c =
 
 returns : tie.Need-returns Inv-loop μ-loop
 returns c =
-    let a = c .before .before .before .args in let l = c .before .loop in ap phasesIn (sym (probes-none (l .c) (l .out) (c .loop-test .left)) ∙ l .inv .2) ∙ probes-back (now (a .out)) (c .before .before .before .pre)
+    let start : tie.Start Inv-loop μ-loop = search in
+    let a = start .args in let l = c .before .loop in ap phasesIn (sym (probes-none (l .c) (l .out) (c .loop-test .left)) ∙ l .inv .2) ∙ probes-back (now (a .out)) (start .pre)
 
 pub put-probes-spec : {M : Type 1} → statement M
 put-probes-spec =
-    tie.close (tie.spec Inv-loop μ-loop loop-holds mul-put-probe put-probe-requires add-c loop-less loop-again same-length returns)
+    tie.close (tie.spec Inv-loop μ-loop loop-holds (λ c. search needs) (λ c κs. search needs) (λ c. search needs) (λ c. search needs) loop-again
+    same-length returns)

@@ -13,28 +13,16 @@ use Rattle.flat_ranks.proofs.rank_of.Tie as tie
 returns : tie.Need-returns
 unfolding rankOf
 returns c =
-    let a = c .before .before .args in rw (eq-eqb (a .c) 0 (c .if1 .taken))
-
-size-requires : tie.Need-size-requires
-size-requires c κs = search needs
-
-add-word-at : tie.Need-add-word-at
-add-word-at c = search needs
-
-word-at-requires : tie.Need-word-at-requires
-word-at-requires c κs = search needs
-
-wide-requires : tie.Need-wide-requires
-wide-requires c κs = search needs
-
-add-result : tie.Need-add-result
-add-result c = search needs
+    let start : tie.Start = search in
+    let a = start .args in rw (eq-eqb (a .c) 0 (c .if1 .taken))
 
 returns-2 : tie.Need-returns-2
 unfolding rankOf
 returns-2 c =
-    let a = c .before .before .before .before .before .args in let e : getD (now (a .tables)) (64 + a .c) 0 + 1 ≡ suc (getD (now (a .tables)) (64 + a .c) 0) = omega arith in rw (ne-eqb (a .c) 0 (c .before .before .before .if1 .left), c .wide .ensures, c .before .word-at .ensures, c .before .before .size .ensures) e
+    let start : tie.Start = search in let after-size : tie.After-size = search in let else1 : tie.Else1 = search in
+    let a = start .args in let e : getD (now (a .tables)) (64 + a .c) 0 + 1 ≡ suc (getD (now (a .tables)) (64 + a .c) 0) = omega arith in rw (ne-eqb (a .c) 0 (else1 .if1 .left), c .wide .ensures, c .before .word-at .ensures, after-size .size .ensures) e
 
 pub rank-of-spec : {M : Type 1} → statement M
 rank-of-spec =
-    tie.close (tie.spec returns size-requires add-word-at word-at-requires wide-requires add-result returns-2)
+    tie.close (tie.spec returns (λ c κs. search needs) (λ c. search needs) (λ c κs. search needs) (λ c κs. search needs) (λ c. search needs)
+    returns-2)

@@ -19,47 +19,52 @@ abbrev μ-loop : tie.MeasureT-loop
 
 add-root-requires : tie.Need-add-root-requires Inv-loop μ-loop
 add-root-requires c κs =
-    let a = c .before .before .before .before .before .before .args in
+    let start : tie.Start Inv-loop μ-loop = search in
+    let a = start .args in
     let k = root-room (phasesIn (now (a .phases))) (now (a .tables)) (now (a .marks)) (toBag (now (a .given))) (a .n) in
-    (c .before .before .before .before .before .before .pre .1, omega (arith, k, c .before .before .before .before .before .before .pre .2), omega (arith, k, c .before .before .before .before .before .before .pre .3))
+    (start .pre .1, omega (arith, k, start .pre .2), omega (arith, k, start .pre .3))
 
 loop-holds : tie.Need-loop-holds Inv-loop μ-loop
 loop-holds c =
-    let a = c .before .before .before .before .before .before .before .before .before .before .before .args in (omega arith, refl, refl, rw (c .before .before .before .before .add-root .ensures .0, c .before .before .before .before .add-root .ensures .1) (so-begins (phasesIn (now (a .phases))) (now (a .tables)) (now (a .marks)) (toBag (now (a .given))) (a .n) (now (a .rows)) (c .before .before .before .before .before .before .before .before .before .before .before .pre .3)))
+    let start : tie.Start Inv-loop μ-loop = search in let after-add-root : tie.After-add-root Inv-loop μ-loop = search in
+    let a = start .args in (omega arith, refl, refl, rw (after-add-root .add-root .ensures .0, after-add-root .add-root .ensures .1) (so-begins (phasesIn (now (a .phases))) (now (a .tables)) (now (a .marks)) (toBag (now (a .given))) (a .n) (now (a .rows)) (start .pre .3)))
 
 add-atomic-requires : tie.Need-add-atomic-requires Inv-loop μ-loop
 add-atomic-requires c κs =
-    let a = c .before .before .before .before .before .before .before .before .before .before .before .before .before .before .before .args in
-    let l = c .before .before .before .loop in
-    let k = so-room (phasesIn (now (a .phases))) (now (a .tables)) (now (a .marks)) (toBag (now (a .given))) (a .n) (l .i) (l .at) (l .rows) (c .before .before .loop-test .taken) (l .inv .3) in
-    (omega (arith, c .before .before .before .before .before .before .before .before .before .before .before .before .before .before .before .pre .0), c .before .before .before .before .before .before .before .before .before .before .before .before .before .before .before .pre .1, omega (arith, k, c .before .before .before .before .before .before .before .before .before .before .before .before .before .before .before .pre .2, l .inv .1, c .before .before .before .before .before .before .before .before .add-root .kept .1 .1 .1 .0), omega (arith, k, c .before .before .before .before .before .before .before .before .before .before .before .before .before .before .before .pre .3, l .inv .2, c .before .before .before .before .before .before .before .before .add-root .kept .1 .1 .1 .1 .0))
-
-add-i : tie.Need-add-i Inv-loop μ-loop
-add-i c = search needs
-
-loop-less : tie.Need-loop-less Inv-loop μ-loop
-loop-less c = search needs
+    let start : tie.Start Inv-loop μ-loop = search in let in-loop : tie.In-loop Inv-loop μ-loop = search in
+    let at-loop : tie.At-loop Inv-loop μ-loop = search in let after-add-root : tie.After-add-root Inv-loop μ-loop = search in
+    let a = start .args in
+    let l = at-loop .loop in
+    let k = so-room (phasesIn (now (a .phases))) (now (a .tables)) (now (a .marks)) (toBag (now (a .given))) (a .n) (l .i) (l .at) (l .rows) (in-loop .loop-test .taken) (l .inv .3) in
+    (omega (arith, start .pre .0), start .pre .1, omega (arith, k, start .pre .2, l .inv .1, after-add-root .add-root .kept .1 .1 .1 .0), omega (arith, k, start .pre .3, l .inv .2, after-add-root .add-root .kept .1 .1 .1 .1 .0))
 
 loop-again : tie.Need-loop-again Inv-loop μ-loop
 loop-again c =
-    let a = c .before .before .before .before .before .before .before .before .before .before .before .before .before .before .before .before .before .before .before .before .args in
-    let l = c .before .before .before .before .before .before .before .before .loop in
-    (omega arith, c .before .before .before .before .add-atomic .kept .1 .1 .1 .1 .1 .0 ∙ l .inv .1, c .before .before .before .before .add-atomic .kept .1 .1 .1 .1 .1 .1 .0 ∙ l .inv .2, rw (c .before .before .before .before .add-atomic .ensures .0, c .before .before .before .before .add-atomic .ensures .1) (so-more (phasesIn (now (a .phases))) (now (a .tables)) (now (a .marks)) (toBag (now (a .given))) (a .n) (l .i) (l .at) (l .rows) (c .before .before .before .before .before .before .before .loop-test .taken) (omega (arith, c .before .before .before .before .before .before .before .before .before .before .before .before .before .before .before .before .before .before .before .before .pre .3, l .inv .2, c .before .before .before .before .before .before .before .before .before .before .before .before .before .add-root .kept .1 .1 .1 .1 .0)) (l .inv .3)))
+    let start : tie.Start Inv-loop μ-loop = search in let after-add-atomic : tie.After-add-atomic Inv-loop μ-loop = search in
+    let in-loop : tie.In-loop Inv-loop μ-loop = search in let at-loop : tie.At-loop Inv-loop μ-loop = search in
+    let after-add-root : tie.After-add-root Inv-loop μ-loop = search in
+    let a = start .args in
+    let l = at-loop .loop in
+    (omega arith, after-add-atomic .add-atomic .kept .1 .1 .1 .1 .1 .0 ∙ l .inv .1, after-add-atomic .add-atomic .kept .1 .1 .1 .1 .1 .1 .0 ∙ l .inv .2, rw (after-add-atomic .add-atomic .ensures .0, after-add-atomic .add-atomic .ensures .1) (so-more (phasesIn (now (a .phases))) (now (a .tables)) (now (a .marks)) (toBag (now (a .given))) (a .n) (l .i) (l .at) (l .rows) (in-loop .loop-test .taken) (omega (arith, start .pre .3, l .inv .2, after-add-root .add-root .kept .1 .1 .1 .1 .0)) (l .inv .3)))
 
 same-length : tie.Need-same-length Inv-loop μ-loop
 same-length c =
-    c .before .loop .inv .1 ∙ c .before .before .before .before .before .before .add-root .kept .1 .1 .1 .0
+    let after-add-root : tie.After-add-root Inv-loop μ-loop = search in
+    c .before .loop .inv .1 ∙ after-add-root .add-root .kept .1 .1 .1 .0
 
 same-length-2 : tie.Need-same-length-2 Inv-loop μ-loop
 same-length-2 c =
-    c .before .loop .inv .2 ∙ c .before .before .before .before .before .before .add-root .kept .1 .1 .1 .1 .0
+    let after-add-root : tie.After-add-root Inv-loop μ-loop = search in
+    c .before .loop .inv .2 ∙ after-add-root .add-root .kept .1 .1 .1 .1 .0
 
 returns : tie.Need-returns Inv-loop μ-loop
 returns c =
-    let a = c .before .before .before .before .before .before .before .before .before .before .before .before .before .args in
+    let start : tie.Start Inv-loop μ-loop = search in
+    let a = start .args in
     let l = c .before .loop in
     so-ends (phasesIn (now (a .phases))) (now (a .tables)) (now (a .marks)) (toBag (now (a .given))) (a .n) (l .i) (l .at) (l .rows) (c .loop-test .left) (l .inv .3)
 
 pub add-all-spec : {M : Type 1} → statement M
 add-all-spec =
-    tie.close (tie.spec Inv-loop μ-loop add-root-requires loop-holds add-atomic-requires add-i loop-less loop-again same-length same-length-2 returns)
+    tie.close (tie.spec Inv-loop μ-loop add-root-requires loop-holds add-atomic-requires (λ c. search needs) (λ c. search needs) loop-again
+    same-length same-length-2 returns)

@@ -11,43 +11,33 @@ use denote.Ref.{now}
 use Rattle.flat_rows.proofs.add_atomic.Statement.{statement}
 use Rattle.flat_rows.proofs.add_atomic.Tie as tie
 
-row-in-requires : tie.Need-row-in-requires
-row-in-requires c κs = search needs
-
 collect-bag-requires : tie.Need-collect-bag-requires
 collect-bag-requires c κs =
-    let p = c .before .before .before .before .before .before .pre in
-    (rw (c .before .row-in .ensures) (p .1 .numbers (c .before .before .before .before .before .before .args .i) (p .0)), p .1)
-
-wide-requires : tie.Need-wide-requires
-wide-requires c κs = search needs
-
-add-put-rows : tie.Need-add-put-rows
-add-put-rows c = search needs
+    let start : tie.Start = search in
+    let p = start .pre in
+    (rw (c .before .row-in .ensures) (p .1 .numbers (start .args .i) (p .0)), p .1)
 
 put-rows-requires : tie.Need-put-rows-requires
 put-rows-requires c κs =
-    let a = c .before .before .before .before .before .before .before .before .before .before .before .before .args in
+    let start : tie.Start = search in let after-collect-bag : tie.After-collect-bag = search in let after-row-in : tie.After-row-in = search in
+    let a = start .args in
     let ps = phasesIn (now (a .phases)) in
     let x = toBag (now (a .given)) in
-    let h = atomic-held ps (now (a .tables)) (now (a .marks)) x (a .i) (now (a .keys)) _ (c .before .before .before .before .before .collect-bag .result) (rw (c .before .before .before .before .before .before .before .row-in .ensures) at (c .before .before .before .before .before .collect-bag .ensures)) (c .before .before .before .before .before .before .before .before .before .before .before .before .pre .2) in
-    (h .room, omega (arith, h .count, position-length ps (now (a .tables)) (now (a .marks)) x (a .i), c .before .before .before .before .before .before .before .before .before .before .before .before .pre .3))
-
-same-length : tie.Need-same-length
-same-length c = search needs
-
-same-length-2 : tie.Need-same-length-2
-same-length-2 c = search needs
+    let h = atomic-held ps (now (a .tables)) (now (a .marks)) x (a .i) (now (a .keys)) _ (after-collect-bag .collect-bag .result) (rw (after-row-in .row-in .ensures) at (after-collect-bag .collect-bag .ensures)) (start .pre .2) in
+    (h .room, omega (arith, h .count, position-length ps (now (a .tables)) (now (a .marks)) x (a .i), start .pre .3))
 
 returns : tie.Need-returns
 returns c =
-    let a = c .before .before .before .before .before .before .before .before .before .before .before .before .before .before .before .args in
+    let start : tie.Start = search in let after-put-rows : tie.After-put-rows = search in let after-wide : tie.After-wide = search in
+    let after-collect-bag : tie.After-collect-bag = search in let after-row-in : tie.After-row-in = search in
+    let a = start .args in
     let ps = phasesIn (now (a .phases)) in
     let x = toBag (now (a .given)) in
-    let r = c .before .before .before .before .before .before .before .before .collect-bag .result in
-    let h = atomic-held ps (now (a .tables)) (now (a .marks)) x (a .i) (now (a .keys)) _ r (rw (c .before .before .before .before .before .before .before .before .before .before .row-in .ensures) at (c .before .before .before .before .before .before .before .before .collect-bag .ensures)) (c .before .before .before .before .before .before .before .before .before .before .before .before .before .before .before .pre .2) in
-    (c .before .before .put-rows .ensures .0 ∙ ap (λ k. a .at + k) (h .count ∙ sym (position-length ps (now (a .tables)) (now (a .marks)) x (a .i))), rw (c .before .before .put-rows .ensures .1, c .before .before .before .before .before .wide .ensures) (ap (sets (now (a .rows)) (a .at)) (position-rows ps (now (a .tables)) (now (a .marks)) x (a .i) _ r h)))
+    let r = after-collect-bag .collect-bag .result in
+    let h = atomic-held ps (now (a .tables)) (now (a .marks)) x (a .i) (now (a .keys)) _ r (rw (after-row-in .row-in .ensures) at (after-collect-bag .collect-bag .ensures)) (start .pre .2) in
+    (after-put-rows .put-rows .ensures .0 ∙ ap (λ k. a .at + k) (h .count ∙ sym (position-length ps (now (a .tables)) (now (a .marks)) x (a .i))), rw (after-put-rows .put-rows .ensures .1, after-wide .wide .ensures) (ap (sets (now (a .rows)) (a .at)) (position-rows ps (now (a .tables)) (now (a .marks)) x (a .i) _ r h)))
 
 pub add-atomic-spec : {M : Type 1} → statement M
 add-atomic-spec =
-    tie.close (tie.spec row-in-requires collect-bag-requires wide-requires add-put-rows put-rows-requires same-length same-length-2 returns)
+    tie.close (tie.spec (λ c κs. search needs) collect-bag-requires (λ c κs. search needs) (λ c. search needs) put-rows-requires (λ c. search needs)
+    (λ c. search needs) returns)

@@ -21,47 +21,25 @@ abbrev μ-loop : tie.MeasureT-loop
 
 loop-holds : tie.Need-loop-holds Inv-loop μ-loop
 loop-holds c =
-    let a = c .before .before .args in (omega arith, refl, ap (λ k. sets (now (a .rows)) k (map (rowOf (now (a .tables)) (a .end)) (take (a .count) (now (a .keys))))) (add-zero (a .at)))
-
-mul-row-of : tie.Need-mul-row-of Inv-loop μ-loop
-mul-row-of c = search needs
-
-shared-slice-read-row-of : tie.Need-shared-slice-read-row-of Inv-loop μ-loop
-shared-slice-read-row-of c = search needs
-
-row-of-requires : tie.Need-row-of-requires Inv-loop μ-loop
-row-of-requires c κs = search needs
-
-add-rows : tie.Need-add-rows Inv-loop μ-loop
-add-rows c = search needs
-
-mul-rows : tie.Need-mul-rows Inv-loop μ-loop
-mul-rows c = search needs
-
-slice-write-rows : tie.Need-slice-write-rows Inv-loop μ-loop
-slice-write-rows c = search needs
-
-add-i : tie.Need-add-i Inv-loop μ-loop
-add-i c = search needs
-
-loop-less : tie.Need-loop-less Inv-loop μ-loop
-loop-less c = search needs
+    let start : tie.Start Inv-loop μ-loop = search in
+    let a = start .args in (omega arith, refl, ap (λ k. sets (now (a .rows)) k (map (rowOf (now (a .tables)) (a .end)) (take (a .count) (now (a .keys))))) (add-zero (a .at)))
 
 loop-again : tie.Need-loop-again Inv-loop μ-loop
 loop-again c =
-    let a = c .before .before .before .before .before .before .args in let l = c .before .before .before .loop in (omega arith, simp length-set (l .inv .1), rw (c .row-of .ensures) (put-more (rowOf (now (a .tables)) (a .end)) (now (a .keys)) (a .count) (l .i) (a .at) (l .rows) (c .before .before .loop-test .taken) (c .before .before .before .before .before .before .pre .0) ∙ l .inv .2))
+    let start : tie.Start Inv-loop μ-loop = search in let in-loop : tie.In-loop Inv-loop μ-loop = search in
+    let at-loop : tie.At-loop Inv-loop μ-loop = search in
+    let a = start .args in let l = at-loop .loop in (omega arith, simp length-set (l .inv .1), rw (c .row-of .ensures) (put-more (rowOf (now (a .tables)) (a .end)) (now (a .keys)) (a .count) (l .i) (a .at) (l .rows) (in-loop .loop-test .taken) (start .pre .0) ∙ l .inv .2))
 
 same-length : tie.Need-same-length Inv-loop μ-loop
 same-length c =
     c .before .loop .inv .1
 
-add-result : tie.Need-add-result Inv-loop μ-loop
-add-result c = search needs
-
 returns : tie.Need-returns Inv-loop μ-loop
 returns c =
-    let a = c .before .before .before .before .args in let l = c .before .loop in (refl, sym (put-none (rowOf (now (a .tables)) (a .end)) (now (a .keys)) (a .count) (l .i) (a .at + l .i) (l .rows) (c .loop-test .left) (c .before .before .before .before .pre .0)) ∙ l .inv .2)
+    let start : tie.Start Inv-loop μ-loop = search in
+    let a = start .args in let l = c .before .loop in (refl, sym (put-none (rowOf (now (a .tables)) (a .end)) (now (a .keys)) (a .count) (l .i) (a .at + l .i) (l .rows) (c .loop-test .left) (start .pre .0)) ∙ l .inv .2)
 
 pub put-rows-spec : {M : Type 1} → statement M
 put-rows-spec =
-    tie.close (tie.spec Inv-loop μ-loop loop-holds mul-row-of shared-slice-read-row-of row-of-requires add-rows mul-rows slice-write-rows add-i loop-less loop-again add-result same-length returns)
+    tie.close (tie.spec Inv-loop μ-loop loop-holds (λ c. search needs) (λ c. search needs) (λ c κs. search needs) (λ c. search needs)
+    (λ c. search needs) (λ c. search needs) (λ c. search needs) (λ c. search needs) loop-again (λ c. search needs) same-length returns)

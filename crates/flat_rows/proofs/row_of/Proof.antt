@@ -5,16 +5,11 @@ use Rattle.pull_laws.specs.Tables.{nodeComponent, nodePort}
 use Rattle.flat_rows.proofs.row_of.Statement.{statement}
 use Rattle.flat_rows.proofs.row_of.Tie as tie
 
-rank-of-requires : tie.Need-rank-of-requires
-rank-of-requires c κs = search needs
-
-row-number-requires : tie.Need-row-number-requires
-row-number-requires c κs = search needs
-
 returns : tie.Need-returns
 unfolding rowOf nodeComponent nodePort
 returns c =
     rw (c .row-number .ensures, c .before .rank-of .ensures)
 
 pub row-of-spec : {M : Type 1} → statement M
-row-of-spec = tie.close (tie.spec rank-of-requires row-number-requires returns)
+row-of-spec =
+    tie.close (tie.spec (λ c κs. search needs) (λ c κs. search needs) returns)

@@ -25,42 +25,14 @@ loop-holds : tie.Need-loop-holds Inv-loop μ-loop
 loop-holds c =
     (omega arith, refl, refl)
 
-size-requires : tie.Need-size-requires Inv-loop μ-loop
-size-requires c κs = search needs
-
-add-word-at : tie.Need-add-word-at Inv-loop μ-loop
-add-word-at c = search needs
-
-word-at-requires : tie.Need-word-at-requires Inv-loop μ-loop
-word-at-requires c κs = search needs
-
-size16-requires : tie.Need-size16-requires Inv-loop μ-loop
-size16-requires c κs = search needs
-
-component-at-requires : tie.Need-component-at-requires Inv-loop μ-loop
-component-at-requires c κs = search needs
-
-size-requires-2 : tie.Need-size-requires-2 Inv-loop μ-loop
-size-requires-2 c κs = search needs
-
-mul-put-atomic : tie.Need-mul-put-atomic Inv-loop μ-loop
-mul-put-atomic c = search needs
-
-add-put-atomic : tie.Need-add-put-atomic Inv-loop μ-loop
-add-put-atomic c = search needs
-
-put-atomic-requires : tie.Need-put-atomic-requires Inv-loop μ-loop
-put-atomic-requires c κs = search needs
-
-add-i : tie.Need-add-i Inv-loop μ-loop
-add-i c = search needs
-
-loop-less : tie.Need-loop-less Inv-loop μ-loop
-loop-less c = search needs
-
 loop-again : tie.Need-loop-again Inv-loop μ-loop
 loop-again c =
-    let a = c .before .before .before .before .before .before .before .before .before .before .before .before .before .before .args in let l = c .before .before .before .before .before .before .before .before .before .before .loop in (omega arith, c .before .before .put-atomic .kept .1 .0 ∙ l .inv .1, rw (c .before .before .put-atomic .ensures, c .before .before .before .size2 .ensures, c .before .before .before .before .before .component-at .ensures, c .before .before .before .before .before .before .size16 .ensures, c .before .before .before .before .before .before .before .word-at .ensures, c .before .before .before .before .before .before .before .before .size .ensures) (atomics-more (componentsIn (now (a .components))) (now (a .tables)) (a .n) (l .i) (l .out) (c .before .before .before .before .before .before .before .before .before .loop-test .taken) ∙ l .inv .2))
+    let start : tie.Start Inv-loop μ-loop = search in let after-put-atomic : tie.After-put-atomic Inv-loop μ-loop = search in
+    let after-size2 : tie.After-size2 Inv-loop μ-loop = search in let after-component-at : tie.After-component-at Inv-loop μ-loop = search in
+    let after-size16 : tie.After-size16 Inv-loop μ-loop = search in let after-word-at : tie.After-word-at Inv-loop μ-loop = search in
+    let after-size : tie.After-size Inv-loop μ-loop = search in let in-loop : tie.In-loop Inv-loop μ-loop = search in
+    let at-loop : tie.At-loop Inv-loop μ-loop = search in
+    let a = start .args in let l = at-loop .loop in (omega arith, after-put-atomic .put-atomic .kept .1 .0 ∙ l .inv .1, rw (after-put-atomic .put-atomic .ensures, after-size2 .size2 .ensures, after-component-at .component-at .ensures, after-size16 .size16 .ensures, after-word-at .word-at .ensures, after-size .size .ensures) (atomics-more (componentsIn (now (a .components))) (now (a .tables)) (a .n) (l .i) (l .out) (in-loop .loop-test .taken) ∙ l .inv .2))
 
 same-length : tie.Need-same-length Inv-loop μ-loop
 same-length c =
@@ -68,26 +40,11 @@ same-length c =
 
 returns : tie.Need-returns Inv-loop μ-loop
 returns c =
-    let a = c .before .before .before .before .before .args in let l = c .before .loop in sym (atomics-none (componentsIn (now (a .components))) (now (a .tables)) (a .n) (l .i) (l .out) (c .loop-test .left)) ∙ l .inv .2
+    let start : tie.Start Inv-loop μ-loop = search in
+    let a = start .args in let l = c .before .loop in sym (atomics-none (componentsIn (now (a .components))) (now (a .tables)) (a .n) (l .i) (l .out) (c .loop-test .left)) ∙ l .inv .2
 
 pub put-atomics-spec : {M : Type 1} → statement M
 put-atomics-spec =
-    tie.close
-    (tie.spec
-    Inv-loop
-    μ-loop
-    loop-holds
-    size-requires
-    add-word-at
-    word-at-requires
-    size16-requires
-    component-at-requires
-    size-requires-2
-    mul-put-atomic
-    add-put-atomic
-    put-atomic-requires
-    add-i
-    loop-less
-    loop-again
-    same-length
-    returns)
+    tie.close (tie.spec Inv-loop μ-loop loop-holds (λ c κs. search needs) (λ c. search needs) (λ c κs. search needs) (λ c κs. search needs)
+    (λ c κs. search needs) (λ c κs. search needs) (λ c. search needs) (λ c. search needs) (λ c κs. search needs) (λ c. search needs)
+    (λ c. search needs) loop-again same-length returns)

@@ -22,24 +22,10 @@ loop-holds : tie.Need-loop-holds Inv-loop μ-loop
 loop-holds c =
     let a = c .args in (omega arith, refl, copy-start (now (a .part)) (now (a .out)) (a .at))
 
-shared-slice-read-out : tie.Need-shared-slice-read-out Inv-loop μ-loop
-shared-slice-read-out c = search needs
-
-add-out : tie.Need-add-out Inv-loop μ-loop
-add-out c = search needs
-
-slice-write-out : tie.Need-slice-write-out Inv-loop μ-loop
-slice-write-out c = search needs
-
-add-i : tie.Need-add-i Inv-loop μ-loop
-add-i c = search needs
-
-loop-less : tie.Need-loop-less Inv-loop μ-loop
-loop-less c = search needs
-
 loop-again : tie.Need-loop-again Inv-loop μ-loop
 loop-again c =
-    let a = c .before .before .before .args in let l = c .before .before .loop in (omega arith, simp length-set (l .inv .1), copy-more (now (a .part)) (length (now (a .part))) (l .i) (a .at) (l .out) (omega arith) (le-refl _) ∙ l .inv .2)
+    let start : tie.Start Inv-loop μ-loop = search in let at-loop : tie.At-loop Inv-loop μ-loop = search in
+    let a = start .args in let l = at-loop .loop in (omega arith, simp length-set (l .inv .1), copy-more (now (a .part)) (length (now (a .part))) (l .i) (a .at) (l .out) (omega arith) (le-refl _) ∙ l .inv .2)
 
 same-length : tie.Need-same-length Inv-loop μ-loop
 same-length c =
@@ -47,8 +33,10 @@ same-length c =
 
 returns : tie.Need-returns Inv-loop μ-loop
 returns c =
-    let a = c .before .before .args in let l = c .before .loop in let z : length (now (a .part)) ≡ l .i = omega arith in sym (ap (λ n. sets (l .out) (a .at + l .i) (slice (l .i) n (now (a .part)))) z ∙ copy-none (now (a .part)) (l .i) (a .at + l .i) (l .out)) ∙ l .inv .2
+    let start : tie.Start Inv-loop μ-loop = search in
+    let a = start .args in let l = c .before .loop in let z : length (now (a .part)) ≡ l .i = omega arith in sym (ap (λ n. sets (l .out) (a .at + l .i) (slice (l .i) n (now (a .part)))) z ∙ copy-none (now (a .part)) (l .i) (a .at + l .i) (l .out)) ∙ l .inv .2
 
 pub put-bytes-spec : {M : Type 1} → statement M
 put-bytes-spec =
-    tie.close (tie.spec Inv-loop μ-loop loop-holds shared-slice-read-out add-out slice-write-out add-i loop-less loop-again same-length returns)
+    tie.close (tie.spec Inv-loop μ-loop loop-holds (λ c. search needs) (λ c. search needs) (λ c. search needs) (λ c. search needs)
+    (λ c. search needs) loop-again same-length returns)

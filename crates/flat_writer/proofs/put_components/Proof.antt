@@ -6,31 +6,14 @@ use denote.Ref.{now}
 use Rattle.flat_writer.proofs.put_components.Statement.{statement}
 use Rattle.flat_writer.proofs.put_components.Tie as tie
 
-size-requires : tie.Need-size-requires
-size-requires c κs = search needs
-
-add-wide : tie.Need-add-wide
-add-wide c = search needs
-
-wide-requires : tie.Need-wide-requires
-wide-requires c κs = search needs
-
-put-number-requires : tie.Need-put-number-requires
-put-number-requires c κs = search needs
-
-put-number-requires-2 : tie.Need-put-number-requires-2
-put-number-requires-2 c κs = search needs
-
-put-atomics-requires : tie.Need-put-atomics-requires
-put-atomics-requires c κs = search needs
-
-same-length : tie.Need-same-length
-same-length c = search needs
-
 returns : tie.Need-returns
 returns c =
-    let a = c .before .before .before .before .before .before .before .before .before .before .before .before .before .before .before .before .before .args in rw (c .before .before .put-atomics .ensures, c .before .before .before .before .before .before .put-number2 .ensures, c .before .before .before .before .before .before .before .before .before .before .put-number .ensures, c .before .before .before .before .before .before .before .before .before .before .before .wide .ensures, c .before .before .before .before .before .before .before .before .before .before .before .before .size .ensures) (components-puts (componentsIn (now (a .components))) (now (a .tables)) (a .n) (now (a .out)))
+    let start : tie.Start = search in let after-put-atomics : tie.After-put-atomics = search in
+    let after-put-number2 : tie.After-put-number2 = search in let after-put-number : tie.After-put-number = search in
+    let after-wide : tie.After-wide = search in let after-size : tie.After-size = search in
+    let a = start .args in rw (after-put-atomics .put-atomics .ensures, after-put-number2 .put-number2 .ensures, after-put-number .put-number .ensures, after-wide .wide .ensures, after-size .size .ensures) (components-puts (componentsIn (now (a .components))) (now (a .tables)) (a .n) (now (a .out)))
 
 pub put-components-spec : {M : Type 1} → statement M
 put-components-spec =
-    tie.close (tie.spec size-requires add-wide wide-requires put-number-requires put-number-requires-2 put-atomics-requires same-length returns)
+    tie.close (tie.spec (λ c κs. search needs) (λ c. search needs) (λ c κs. search needs) (λ c κs. search needs) (λ c κs. search needs)
+    (λ c κs. search needs) (λ c. search needs) returns)

@@ -10,25 +10,12 @@ use denote.Ref.{now}
 use Rattle.flat_writer.proofs.put_rows.Statement.{statement}
 use Rattle.flat_writer.proofs.put_rows.Tie as tie
 
-wide-requires : tie.Need-wide-requires
-wide-requires c κs = search needs
-
-put-number-requires : tie.Need-put-number-requires
-put-number-requires c κs = search needs
-
-add-put-row-list : tie.Need-add-put-row-list
-add-put-row-list c = search needs
-
-put-row-list-requires : tie.Need-put-row-list-requires
-put-row-list-requires c κs = search needs
-
-same-length : tie.Need-same-length
-same-length c = search needs
-
 returns : tie.Need-returns
 returns c =
-    let a = c .before .before .before .before .before .before .before .before .before .before .before .args in rw (c .before .before .put-row-list .ensures, c .before .before .before .before .before .before .put-number .ensures, c .before .before .before .before .before .before .before .wide .ensures) (section-puts couplingBytes (map couplingOf (take (a .n) (now (a .rows)))) (a .n) (a .at) (now (a .out)) (sym (length-rows (now (a .rows)) (a .n) (c .before .before .before .before .before .before .before .before .before .before .before .pre .0))))
+    let start : tie.Start = search in let after-put-row-list : tie.After-put-row-list = search in
+    let after-put-number : tie.After-put-number = search in let after-wide : tie.After-wide = search in
+    let a = start .args in rw (after-put-row-list .put-row-list .ensures, after-put-number .put-number .ensures, after-wide .wide .ensures) (section-puts couplingBytes (map couplingOf (take (a .n) (now (a .rows)))) (a .n) (a .at) (now (a .out)) (sym (length-rows (now (a .rows)) (a .n) (start .pre .0))))
 
 pub put-rows-spec : {M : Type 1} → statement M
 put-rows-spec =
-    tie.close (tie.spec wide-requires put-number-requires add-put-row-list put-row-list-requires same-length returns)
+    tie.close (tie.spec (λ c κs. search needs) (λ c κs. search needs) (λ c. search needs) (λ c κs. search needs) (λ c. search needs) returns)

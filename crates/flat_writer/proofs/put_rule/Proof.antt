@@ -8,57 +8,20 @@ use denote.Ref.{now}
 use Rattle.flat_writer.proofs.put_rule.Statement.{statement}
 use Rattle.flat_writer.proofs.put_rule.Tie as tie
 
-byte-at-requires : tie.Need-byte-at-requires
-byte-at-requires c κs = search needs
-
-number-requires : tie.Need-number-requires
-number-requires c κs = search needs
-
-rank-of-requires : tie.Need-rank-of-requires
-rank-of-requires c κs = search needs
-
-wide32-requires : tie.Need-wide32-requires
-wide32-requires c κs = search needs
-
-put-number-requires : tie.Need-put-number-requires
-put-number-requires c κs = search needs
-
-rest-requires : tie.Need-rest-requires
-rest-requires c κs = search needs
-
-sub-front : tie.Need-sub-front
-sub-front c = search needs
-
-front-requires : tie.Need-front-requires
-front-requires c κs = search needs
-
-add-put-bytes : tie.Need-add-put-bytes
-add-put-bytes c = search needs
-
 put-bytes-requires : tie.Need-put-bytes-requires
 put-bytes-requires c κs =
-    rw (c .before .front .ensures) (omega (arith, length-take 17 (now (c .before .before .rest .result)), c .before .before .before .before .before .before .before .before .before .before .before .before .before .before .pre .1, c .before .before .before .before .before .put-number .kept .0))
-
-same-length : tie.Need-same-length
-same-length c = search needs
+    let start : tie.Start = search in let after-rest : tie.After-rest = search in let after-put-number : tie.After-put-number = search in
+    rw (c .before .front .ensures) (omega (arith, length-take 17 (now (after-rest .rest .result)), start .pre .1, after-put-number .put-number .kept .0))
 
 returns : tie.Need-returns
 returns c =
-    let a = c .before .before .before .before .before .before .before .before .before .before .before .before .before .before .before .before .before .args in rw (c .before .before .put-bytes .ensures, c .before .before .before .before .front .ensures, c .before .before .before .before .before .rest .ensures, c .before .before .before .before .before .before .before .before .put-number .ensures, c .before .before .before .before .before .before .before .before .before .wide32 .ensures, c .before .before .before .before .before .before .before .before .before .before .before .rank-of .ensures, c .before .before .before .before .before .before .before .before .before .before .before .before .number .ensures, c .before .before .before .before .before .before .before .before .before .before .before .before .before .byte-at .ensures) (rule-puts (now (a .tables)) (now (a .rule)) (a .at) (now (a .out)) (c .before .before .before .before .before .before .before .before .before .before .before .before .before .before .before .before .before .pre .0) (all-bytes (now (a .rule)) (λ i. c .before .before .before .before .before .before .before .before .before .before .before .before .before .before .before .before .shared-slice-known .given i .fits)))
+    let start : tie.Start = search in let after-put-bytes : tie.After-put-bytes = search in let after-front : tie.After-front = search in
+    let after-rest : tie.After-rest = search in let after-put-number : tie.After-put-number = search in
+    let after-wide32 : tie.After-wide32 = search in let after-rank-of : tie.After-rank-of = search in let after-number : tie.After-number = search in
+    let after-byte-at : tie.After-byte-at = search in let after-shared-slice-known : tie.After-shared-slice-known = search in
+    let a = start .args in rw (after-put-bytes .put-bytes .ensures, after-front .front .ensures, after-rest .rest .ensures, after-put-number .put-number .ensures, after-wide32 .wide32 .ensures, after-rank-of .rank-of .ensures, after-number .number .ensures, after-byte-at .byte-at .ensures) (rule-puts (now (a .tables)) (now (a .rule)) (a .at) (now (a .out)) (start .pre .0) (all-bytes (now (a .rule)) (λ i. after-shared-slice-known .shared-slice-known .given i .fits)))
 
 pub put-rule-spec : {M : Type 1} → statement M
 put-rule-spec =
-    tie.close
-    (tie.spec
-    byte-at-requires
-    number-requires
-    rank-of-requires
-    wide32-requires
-    put-number-requires
-    rest-requires
-    sub-front
-    front-requires
-    add-put-bytes
-    put-bytes-requires
-    same-length
-    returns)
+    tie.close (tie.spec (λ c κs. search needs) (λ c κs. search needs) (λ c κs. search needs) (λ c κs. search needs) (λ c κs. search needs)
+    (λ c κs. search needs) (λ c. search needs) (λ c κs. search needs) (λ c. search needs) put-bytes-requires (λ c. search needs) returns)

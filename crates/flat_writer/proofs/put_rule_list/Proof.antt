@@ -23,36 +23,21 @@ abbrev μ-loop : tie.MeasureT-loop
 
 loop-holds : tie.Need-loop-holds Inv-loop μ-loop
 loop-holds c =
-    let a = c .before .before .before .args in (omega arith, refl, ap (λ k. sets (now (a .out)) k (concat (map ruleBytes (map (ruleBy (now (a .tables))) (rulesIn (now (a .rules))))))) (let e : a .at + 18 * 0 ≡ a .at = omega arith in e))
-
-mul-rest : tie.Need-mul-rest Inv-loop μ-loop
-mul-rest c = search needs
-
-rest-requires : tie.Need-rest-requires Inv-loop μ-loop
-rest-requires c κs = search needs
-
-front-requires : tie.Need-front-requires Inv-loop μ-loop
-front-requires c κs = search needs
-
-mul-put-rule : tie.Need-mul-put-rule Inv-loop μ-loop
-mul-put-rule c = search needs
-
-add-put-rule : tie.Need-add-put-rule Inv-loop μ-loop
-add-put-rule c = search needs
+    let start : tie.Start Inv-loop μ-loop = search in
+    let a = start .args in (omega arith, refl, ap (λ k. sets (now (a .out)) k (concat (map ruleBytes (map (ruleBy (now (a .tables))) (rulesIn (now (a .rules))))))) (let e : a .at + 18 * 0 ≡ a .at = omega arith in e))
 
 put-rule-requires : tie.Need-put-rule-requires Inv-loop μ-loop
 put-rule-requires c κs =
-    let a = c .before .before .before .before .before .before .before .before .args in let l = c .before .before .before .before .loop in (rw (c .before .front .ensures, c .before .before .rest .ensures) (rule-row (now (a .rules)) (l .i) (omega (arith, c .before .before .before .before .before .before .before .before .pre .0))), omega (arith, c .before .before .before .before .before .before .before .before .pre .1, l .inv .1))
-
-add-i : tie.Need-add-i Inv-loop μ-loop
-add-i c = search needs
-
-loop-less : tie.Need-loop-less Inv-loop μ-loop
-loop-less c = search needs
+    let start : tie.Start Inv-loop μ-loop = search in let after-rest : tie.After-rest Inv-loop μ-loop = search in
+    let at-loop : tie.At-loop Inv-loop μ-loop = search in
+    let a = start .args in let l = at-loop .loop in (rw (c .before .front .ensures, after-rest .rest .ensures) (rule-row (now (a .rules)) (l .i) (omega (arith, start .pre .0))), omega (arith, start .pre .1, l .inv .1))
 
 loop-again : tie.Need-loop-again Inv-loop μ-loop
 loop-again c =
-    let a = c .before .before .before .before .before .before .before .before .before .before .before .args in let l = c .before .before .before .before .before .before .before .loop in (omega arith, c .before .before .put-rule .kept .1 .1 .0 ∙ l .inv .1, rw (c .before .before .put-rule .ensures, c .before .before .before .before .front .ensures, c .before .before .before .before .before .rest .ensures) (rules-more (now (a .rules)) (now (a .tables)) (l .i) (a .at) (l .out) (omega (arith, c .before .before .before .before .before .before .before .before .before .before .before .pre .0)) ∙ l .inv .2))
+    let start : tie.Start Inv-loop μ-loop = search in let after-put-rule : tie.After-put-rule Inv-loop μ-loop = search in
+    let after-front : tie.After-front Inv-loop μ-loop = search in let after-rest : tie.After-rest Inv-loop μ-loop = search in
+    let at-loop : tie.At-loop Inv-loop μ-loop = search in
+    let a = start .args in let l = at-loop .loop in (omega arith, after-put-rule .put-rule .kept .1 .1 .0 ∙ l .inv .1, rw (after-put-rule .put-rule .ensures, after-front .front .ensures, after-rest .rest .ensures) (rules-more (now (a .rules)) (now (a .tables)) (l .i) (a .at) (l .out) (omega (arith, start .pre .0)) ∙ l .inv .2))
 
 same-length : tie.Need-same-length Inv-loop μ-loop
 same-length c =
@@ -60,8 +45,10 @@ same-length c =
 
 returns : tie.Need-returns Inv-loop μ-loop
 returns c =
-    let a = c .before .before .before .before .before .args in let l = c .before .loop in sym (rules-none (now (a .rules)) (now (a .tables)) (l .i) (a .at + 18 * l .i) (l .out) (omega (arith, c .before .before .before .before .before .pre .0))) ∙ l .inv .2
+    let start : tie.Start Inv-loop μ-loop = search in
+    let a = start .args in let l = c .before .loop in sym (rules-none (now (a .rules)) (now (a .tables)) (l .i) (a .at + 18 * l .i) (l .out) (omega (arith, start .pre .0))) ∙ l .inv .2
 
 pub put-rule-list-spec : {M : Type 1} → statement M
 put-rule-list-spec =
-    tie.close (tie.spec Inv-loop μ-loop loop-holds mul-rest rest-requires front-requires mul-put-rule add-put-rule put-rule-requires add-i loop-less loop-again same-length returns)
+    tie.close (tie.spec Inv-loop μ-loop loop-holds (λ c. search needs) (λ c κs. search needs) (λ c κs. search needs) (λ c. search needs)
+    (λ c. search needs) put-rule-requires (λ c. search needs) (λ c. search needs) loop-again same-length returns)

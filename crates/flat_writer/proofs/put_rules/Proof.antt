@@ -11,28 +11,14 @@ use denote.Ref.{now}
 use Rattle.flat_writer.proofs.put_rules.Statement.{statement}
 use Rattle.flat_writer.proofs.put_rules.Tie as tie
 
-rule-count-requires : tie.Need-rule-count-requires
-rule-count-requires c κs = search needs
-
-wide-requires : tie.Need-wide-requires
-wide-requires c κs = search needs
-
-put-number-requires : tie.Need-put-number-requires
-put-number-requires c κs = search needs
-
-add-put-rule-list : tie.Need-add-put-rule-list
-add-put-rule-list c = search needs
-
-put-rule-list-requires : tie.Need-put-rule-list-requires
-put-rule-list-requires c κs = search needs
-
-same-length : tie.Need-same-length
-same-length c = search needs
-
 returns : tie.Need-returns
 returns c =
-    let a = c .before .before .before .before .before .before .before .before .before .before .before .before .before .args in rw (c .before .before .put-rule-list .ensures, c .before .before .before .before .before .before .put-number .ensures, c .before .before .before .before .before .before .before .wide .ensures) (section-puts ruleBytes (map (ruleBy (now (a .tables))) (rulesIn (now (a .rules)))) (c .before .before .before .before .before .before .before .before .before .rule-count .result) (a .at) (now (a .out)) (c .before .before .before .before .before .before .before .before .before .rule-count .ensures ∙ sym (length-map (rulesIn (now (a .rules))) (ruleBy (now (a .tables))))))
+    let start : tie.Start = search in let after-put-rule-list : tie.After-put-rule-list = search in
+    let after-put-number : tie.After-put-number = search in let after-wide : tie.After-wide = search in
+    let after-rule-count : tie.After-rule-count = search in
+    let a = start .args in rw (after-put-rule-list .put-rule-list .ensures, after-put-number .put-number .ensures, after-wide .wide .ensures) (section-puts ruleBytes (map (ruleBy (now (a .tables))) (rulesIn (now (a .rules)))) (after-rule-count .rule-count .result) (a .at) (now (a .out)) (after-rule-count .rule-count .ensures ∙ sym (length-map (rulesIn (now (a .rules))) (ruleBy (now (a .tables))))))
 
 pub put-rules-spec : {M : Type 1} → statement M
 put-rules-spec =
-    tie.close (tie.spec rule-count-requires wide-requires put-number-requires add-put-rule-list put-rule-list-requires same-length returns)
+    tie.close (tie.spec (λ c κs. search needs) (λ c κs. search needs) (λ c κs. search needs) (λ c. search needs) (λ c κs. search needs)
+    (λ c. search needs) returns)

@@ -18,105 +18,79 @@ use Rattle.flatten.proofs.flatten_accepted.Statement.{statement}
 use Rattle.flatten.proofs.flatten_accepted.Tie as tie
 
 abbrev file : tie.After-small → Bytes
-file f = f .before .before .before .before .before .before .before .before .before .args .file .now
+file f =
+    let start : tie.Start = search in
+    start .args .file .now
 
 abbrev counts : tie.After-small → Counts
-counts f = f .before .before .before .before .before .before .before .before .before .args .n
+counts f =
+    let start : tie.Start = search in
+    start .args .n
 
 bytes : (f : tie.After-small) (i : ℕ) → getD (file f) i 0 < 256
-bytes f i = f .before .before .before .before .before .before .before .before .shared-slice-known .given i .fits
+bytes f i =
+    let after-shared-slice-known : tie.After-shared-slice-known = search in
+    after-shared-slice-known .shared-slice-known .given i .fits
 
 told : (f : tie.After-small) → ok (modelOf (file f) (counts f)) ≡ accepted (file f)
-told f = f .before .before .before .before .before .before .before .before .before .pre .0
+told f =
+    let start : tie.Start = search in
+    start .pre .0
 
 own : (f : tie.After-small) → f .small .result ≡ length (atomics (componentsIn (componentsPart (file f) (counts f))))
-own f = f .small .ensures ∙ f .before .atomic-count .ensures ∙ ap (λ (s : Bytes). length (atomics (componentsIn s))) (f .before .before .before .before .components-of .ensures)
+own f =
+    let after-components-of : tie.After-components-of = search in
+    f .small .ensures ∙ f .before .atomic-count .ensures ∙ ap (λ (s : Bytes). length (atomics (componentsIn s))) (after-components-of .components-of .ensures)
 
 own-tables : (f : tie.After-small) → TablesOf (modelOf (file f) (counts f)) (f .before .before .before .before .before .before .before .before .before .args .tables .now)
-own-tables f = f .before .before .before .before .before .before .before .before .before .pre .1
-
-components-of-requires : tie.Need-components-of-requires
-components-of-requires c κs = search needs
-
-phases-of-requires : tie.Need-phases-of-requires
-phases-of-requires c κs = search needs
-
-rules-of-requires : tie.Need-rules-of-requires
-rules-of-requires c κs = search needs
-
-atomic-count-requires : tie.Need-atomic-count-requires
-atomic-count-requires c κs = search needs
+own-tables f =
+    let start : tie.Start = search in
+    start .pre .1
 
 small-requires : tie.Need-small-requires
 small-requires c κs =
-    let given = c .before .before .before .before .before .before .before .before in
-    rw (c .atomic-count .ensures, c .before .before .before .components-of .ensures) (few-own (given .args .file .now) (given .args .n) (λ i. c .before .before .before .before .before .before .before .shared-slice-known .given i .fits) (given .pre .0))
+    let given : tie.Start = search in let after-components-of : tie.After-components-of = search in
+    let after-shared-slice-known : tie.After-shared-slice-known = search in
+    rw (c .atomic-count .ensures, after-components-of .components-of .ensures) (few-own (given .args .file .now) (given .args .n) (λ i. after-shared-slice-known .shared-slice-known .given i .fits) (given .pre .0))
 
 flat-rows-requires : tie.Need-flat-rows-requires
 flat-rows-requires c κs =
-    let f = c .before .before in
-    probing (file f) (counts f) (bytes f) (told f) _ (own-tables f) (f .small .result) (own f) _ _ (f .before .before .before .before .before .before .before .before .before .pre .2) (f .before .before .before .before .before .before .before .before .before .pre .3)
+    let start : tie.Start = search in let f : tie.After-small = search in
+    probing (file f) (counts f) (bytes f) (told f) _ (own-tables f) (f .small .result) (own f) _ _ (start .pre .2) (start .pre .3)
 
 flat-size-requires : tie.Need-flat-size-requires
 flat-size-requires c κs =
-    let f = c .before .before .before .before .before .before .before in
-    (rw (f .before .before .before .phases-of .ensures) (few-phases (file f) (counts f) (bytes f) (told f)), rw (f .before .before .rules-of .ensures) (few-rules (file f) (counts f) (bytes f) (told f)), rw (c .before .before .before .before .flat-rows .ensures .0) (rows-fit (file f) (counts f) (bytes f) (told f) _ (own-tables f) (f .small .result) (own f)))
-
-same-length : tie.Need-same-length
-same-length c = search needs
-
-same-length-2 : tie.Need-same-length-2
-same-length-2 c = search needs
+    let after-flat-rows : tie.After-flat-rows = search in let f : tie.After-small = search in let after-rules-of : tie.After-rules-of = search in
+    let after-phases-of : tie.After-phases-of = search in
+    (rw (after-phases-of .phases-of .ensures) (few-phases (file f) (counts f) (bytes f) (told f)), rw (after-rules-of .rules-of .ensures) (few-rules (file f) (counts f) (bytes f) (told f)), rw (after-flat-rows .flat-rows .ensures .0) (rows-fit (file f) (counts f) (bytes f) (told f) _ (own-tables f) (f .small .result) (own f)))
 
 returns : tie.Need-returns
 returns c =
-    let f = c .before .before .before .before .before .before .before .before .before in
-    flatten-short (file f) (counts f) (bytes f) (told f) _ (own-tables f) (f .small .result) (own f) (c .before .before .before .before .before .before .flat-rows .result) (c .before .flat-size .result) (c .before .before .before .before .before .before .flat-rows .ensures .0)
-    (rw (f .before .before .before .phases-of .ensures, f .before .before .rules-of .ensures) at (c .before .flat-size .ensures)) (now (f .before .before .before .before .before .before .before .before .before .args .out)) (c .if1 .taken)
+    let start : tie.Start = search in let after-flat-rows : tie.After-flat-rows = search in let f : tie.After-small = search in
+    let after-rules-of : tie.After-rules-of = search in let after-phases-of : tie.After-phases-of = search in
+    flatten-short (file f) (counts f) (bytes f) (told f) _ (own-tables f) (f .small .result) (own f) (after-flat-rows .flat-rows .result) (c .before .flat-size .result) (after-flat-rows .flat-rows .ensures .0)
+    (rw (after-phases-of .phases-of .ensures, after-rules-of .rules-of .ensures) at (c .before .flat-size .ensures)) (now (start .args .out)) (c .if1 .taken)
 
 put-flat-requires : tie.Need-put-flat-requires
 put-flat-requires c κs =
-    let f = c .before .before .before .before .before .before .before .before .before .before .before .before in
+    let start : tie.Start = search in let else1 : tie.Else1 = search in let after-flat-size : tie.After-flat-size = search in
+    let after-flat-rows : tie.After-flat-rows = search in let f : tie.After-small = search in
     let q = rows-fit (file f) (counts f) (bytes f) (told f) _ (own-tables f) (f .small .result) (own f) in
-    (fits (c .before .before .before .before .before .before .before .before .before .flat-rows .ensures .0) (c .before .before .before .before .before .before .before .before .before .flat-rows .kept .1 .1 .0) (at-most q (f .before .before .before .before .before .before .before .before .before .pre .2)), subst (λ z. z ≤ length (now (f .before .before .before .before .before .before .before .before .before .args .out))) (c .before .before .before .before .flat-size .ensures) (c .before .before .before .if1 .left))
-
-wide-requires : tie.Need-wide-requires
-wide-requires c κs = search needs
-
-same-length-3 : tie.Need-same-length-3
-same-length-3 c = search needs
-
-same-length-4 : tie.Need-same-length-4
-same-length-4 c = search needs
-
-same-length-5 : tie.Need-same-length-5
-same-length-5 c = search needs
+    (fits (after-flat-rows .flat-rows .ensures .0) (after-flat-rows .flat-rows .kept .1 .1 .0) (at-most q (start .pre .2)), subst (λ z. z ≤ length (now (start .args .out))) (after-flat-size .flat-size .ensures) (else1 .if1 .left))
 
 returns-2 : tie.Need-returns-2
 returns-2 c =
-    let f = c .before .before .before .before .before .before .before .before .before .before .before .before .before .before .before .before in
+    let start : tie.Start = search in let after-put-flat : tie.After-put-flat = search in let else1 : tie.Else1 = search in
+    let after-flat-size : tie.After-flat-size = search in let after-flat-rows : tie.After-flat-rows = search in let f : tie.After-small = search in
+    let after-rules-of : tie.After-rules-of = search in let after-phases-of : tie.After-phases-of = search in
+    let after-components-of : tie.After-components-of = search in
     rw (c .wide .ensures)
-    (flatten-whole (file f) (counts f) (bytes f) (told f) _ (own-tables f) (f .small .result) (own f) (c .before .before .before .before .before .before .before .before .before .before .before .before .before .flat-rows .result) (c .before .before .before .before .before .before .before .before .flat-size .result) (c .before .before .before .before .before .before .before .before .before .before .before .before .before .flat-rows .ensures .0)
-    (rw (f .before .before .before .phases-of .ensures, f .before .before .rules-of .ensures) at (c .before .before .before .before .before .before .before .before .flat-size .ensures)) (now (f .before .before .before .before .before .before .before .before .before .args .out)) _ _ (c .before .before .before .before .before .before .before .if1 .left) (c .before .before .before .before .before .before .before .before .before .before .before .before .before .flat-rows .ensures .1)
-    (rw (f .before .before .before .before .components-of .ensures, f .before .before .before .phases-of .ensures, f .before .before .rules-of .ensures) at (c .before .before .before .put-flat .ensures)))
+    (flatten-whole (file f) (counts f) (bytes f) (told f) _ (own-tables f) (f .small .result) (own f) (after-flat-rows .flat-rows .result) (after-flat-size .flat-size .result) (after-flat-rows .flat-rows .ensures .0)
+    (rw (after-phases-of .phases-of .ensures, after-rules-of .rules-of .ensures) at (after-flat-size .flat-size .ensures)) (now (start .args .out)) _ _ (else1 .if1 .left) (after-flat-rows .flat-rows .ensures .1)
+    (rw (after-components-of .components-of .ensures, after-phases-of .phases-of .ensures, after-rules-of .rules-of .ensures) at (after-put-flat .put-flat .ensures)))
 
 pub flatten-accepted-spec : {M : Type 1} → statement M
 flatten-accepted-spec =
-    tie.close
-    (tie.spec
-    components-of-requires
-    phases-of-requires
-    rules-of-requires
-    atomic-count-requires
-    small-requires
-    flat-rows-requires
-    flat-size-requires
-    same-length
-    same-length-2
-    returns
-    put-flat-requires
-    wide-requires
-    same-length-3
-    same-length-4
-    same-length-5
-    returns-2)
+    tie.close (tie.spec (λ c κs. search needs) (λ c κs. search needs) (λ c κs. search needs) (λ c κs. search needs) small-requires
+    flat-rows-requires flat-size-requires (λ c. search needs) (λ c. search needs) returns put-flat-requires (λ c κs. search needs) (λ c. search needs)
+    (λ c. search needs) (λ c. search needs) returns-2)

@@ -4,15 +4,10 @@ use Rattle.definition.specs.Engine.{bagFits}
 use Rattle.given_bag.proofs.bag_fits.Statement.{statement}
 use Rattle.given_bag.proofs.bag_fits.Tie as tie
 
-mul-result : tie.Need-mul-result
-mul-result c = search needs
-
-ports-fit-requires : tie.Need-ports-fit-requires
-ports-fit-requires c κs = search needs
-
 returns : tie.Need-returns
 unfolding bagFits
 returns c = rw (c .ports-fit .ensures)
 
 pub bag-fits-spec : {M : Type 1} → statement M
-bag-fits-spec = tie.close (tie.spec mul-result ports-fit-requires returns)
+bag-fits-spec =
+    tie.close (tie.spec (λ c. search needs) (λ c κs. search needs) returns)

@@ -23,37 +23,31 @@ loop-holds : tie.Need-loop-holds Inv-loop μ-loop
 loop-holds c =
     (omega arith, refl, all-start (portAt (c .before .args .bag .now)) _)
 
-mul-byte-at : tie.Need-mul-byte-at Inv-loop μ-loop
-mul-byte-at c = search needs
-
-byte-at-requires : tie.Need-byte-at-requires Inv-loop μ-loop
-byte-at-requires c κs = search needs
-
 returns : tie.Need-returns Inv-loop μ-loop
 returns c =
-    let s = c .before .before .before .before .before .args .bag .now in
-    let i = c .before .before .before .loop .i in
-    let p : portAt s i ≡ false = port-is s i (c .before .before .loop-test .taken) ∙ le-ltb _ _ (rw (c .before .byte-at .ensures) at (c .if1 .taken)) in
-    sym (ports-all s ∙ sym (c .before .before .before .loop .inv .2) ∙ all-no (portAt s) i (length s / messageSize) (c .before .before .loop-test .taken) p)
-
-add-i : tie.Need-add-i Inv-loop μ-loop
-add-i c = search needs
-
-loop-less : tie.Need-loop-less Inv-loop μ-loop
-loop-less c = search needs
+    let start : tie.Start Inv-loop μ-loop = search in let in-loop : tie.In-loop Inv-loop μ-loop = search in
+    let at-loop : tie.At-loop Inv-loop μ-loop = search in
+    let s = start .args .bag .now in
+    let i = at-loop .loop .i in
+    let p : portAt s i ≡ false = port-is s i (in-loop .loop-test .taken) ∙ le-ltb _ _ (rw (c .before .byte-at .ensures) at (c .if1 .taken)) in
+    sym (ports-all s ∙ sym (at-loop .loop .inv .2) ∙ all-no (portAt s) i (length s / messageSize) (in-loop .loop-test .taken) p)
 
 loop-again : tie.Need-loop-again Inv-loop μ-loop
 loop-again c =
-    let s = c .before .before .before .before .before .args .bag .now in
-    let i = c .before .before .before .loop .i in
-    let p : portAt s i ≡ true = port-is s i (c .before .before .loop-test .taken) ∙ lt-ltb _ _ (rw (c .before .byte-at .ensures) at (c .if1 .left)) in
-    (omega (arith, c .before .before .loop-test .taken), refl, all-more (portAt s) i (length s / messageSize) (c .before .before .loop-test .taken) p ∙ c .before .before .before .loop .inv .2)
+    let start : tie.Start Inv-loop μ-loop = search in let in-loop : tie.In-loop Inv-loop μ-loop = search in
+    let at-loop : tie.At-loop Inv-loop μ-loop = search in
+    let s = start .args .bag .now in
+    let i = at-loop .loop .i in
+    let p : portAt s i ≡ true = port-is s i (in-loop .loop-test .taken) ∙ lt-ltb _ _ (rw (c .before .byte-at .ensures) at (c .if1 .left)) in
+    (omega (arith, in-loop .loop-test .taken), refl, all-more (portAt s) i (length s / messageSize) (in-loop .loop-test .taken) p ∙ at-loop .loop .inv .2)
 
 returns-2 : tie.Need-returns-2 Inv-loop μ-loop
 returns-2 c =
-    let s = c .before .before .before .args .bag .now in
+    let start : tie.Start Inv-loop μ-loop = search in
+    let s = start .args .bag .now in
     sym (ports-all s ∙ sym (c .before .loop .inv .2) ∙ all-end (portAt s) (c .before .loop .i) (length s / messageSize) (omega (arith, c .loop-test .left)))
 
 pub ports-fit-spec : {M : Type 1} → statement M
 ports-fit-spec =
-    tie.close (tie.spec Inv-loop μ-loop loop-holds mul-byte-at byte-at-requires returns add-i loop-less loop-again returns-2)
+    tie.close (tie.spec Inv-loop μ-loop loop-holds (λ c. search needs) (λ c κs. search needs) returns (λ c. search needs) (λ c. search needs)
+    loop-again returns-2)

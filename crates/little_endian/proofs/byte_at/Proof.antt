@@ -8,12 +8,10 @@ use mathlib.Core.Path.{sym, _∙_}
 use Rattle.little_endian.proofs.byte_at.Statement.{statement}
 use Rattle.little_endian.proofs.byte_at.Tie as tie
 
-shared-slice-read-result : tie.Need-shared-slice-read-result
-shared-slice-read-result c = search needs
-
 returns : tie.Need-returns
 returns c =
-    let a = c .before .before .args in
+    let start : tie.Start = search in
+    let a = start .args in
     sym (number-one (a .at) (now (a .s)))
 
 returns-2 : tie.Need-returns-2
@@ -22,4 +20,5 @@ returns-2 c =
     sym (number-one (a .at) (now (a .s)) ∙ List·getD-eq-default (now (a .s)) 0 (c .if1 .left))
 
 pub byte-at-spec : {M : Type 1} → statement M
-byte-at-spec = tie.close (tie.spec shared-slice-read-result returns returns-2)
+byte-at-spec =
+    tie.close (tie.spec (λ c. search needs) returns returns-2)

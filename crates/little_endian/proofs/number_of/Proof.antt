@@ -24,34 +24,26 @@ loop-holds c =
     let e : a .n - a .n ≡ 0 = omega arith in
     (omega arith, rw e (sym (number-none (a .n) (now (a .s)))))
 
-sub-k : tie.Need-sub-k Inv-loop μ-loop
-sub-k c = search needs
-
 mul-v : tie.Need-mul-v Inv-loop μ-loop
 mul-v c =
-    let a = c .before .before .before .args in
+    let start : tie.Start Inv-loop μ-loop = search in let after-shared-slice-known : tie.After-shared-slice-known Inv-loop μ-loop = search in
+    let a = start .args in
     let k = c .before .loop .k in
-    omega (arith, number-fits 7 {w = a .n - k} (omega arith) k (now (a .s)) (λ i. c .before .before .shared-slice-known .given i .fits))
-
-byte-at-requires : tie.Need-byte-at-requires Inv-loop μ-loop
-byte-at-requires c κs = search needs
-
-wide-requires : tie.Need-wide-requires Inv-loop μ-loop
-wide-requires c κs = search needs
+    omega (arith, number-fits 7 {w = a .n - k} (omega arith) k (now (a .s)) (λ i. after-shared-slice-known .shared-slice-known .given i .fits))
 
 add-v : tie.Need-add-v Inv-loop μ-loop
 add-v c =
-    let a = c .before .before .before .before .before .args in
-    let k = c .before .before .before .loop .k in
-    omega (arith, number-fits 7 {w = a .n - k} (omega arith) k (now (a .s)) (λ i. c .before .before .before .before .shared-slice-known .given i .fits))
-
-loop-less : tie.Need-loop-less Inv-loop μ-loop
-loop-less c = search needs
+    let start : tie.Start Inv-loop μ-loop = search in let at-loop : tie.At-loop Inv-loop μ-loop = search in
+    let after-shared-slice-known : tie.After-shared-slice-known Inv-loop μ-loop = search in
+    let a = start .args in
+    let k = at-loop .loop .k in
+    omega (arith, number-fits 7 {w = a .n - k} (omega arith) k (now (a .s)) (λ i. after-shared-slice-known .shared-slice-known .given i .fits))
 
 loop-again : tie.Need-loop-again Inv-loop μ-loop
 loop-again c =
-    let a = c .before .before .before .before .before .args in
-    let k = c .before .before .before .loop .k in
+    let start : tie.Start Inv-loop μ-loop = search in let at-loop : tie.At-loop Inv-loop μ-loop = search in
+    let a = start .args in
+    let k = at-loop .loop .k in
     (omega arith, omega (arith, number-back (a .n) k (now (a .s)) (omega arith) (omega arith)))
 
 returns : tie.Need-returns Inv-loop μ-loop
@@ -61,4 +53,5 @@ returns c =
 
 pub number-of-spec : {M : Type 1} → statement M
 number-of-spec =
-    tie.close (tie.spec Inv-loop μ-loop loop-holds sub-k mul-v byte-at-requires wide-requires add-v loop-less loop-again returns)
+    tie.close (tie.spec Inv-loop μ-loop loop-holds (λ c. search needs) mul-v (λ c κs. search needs) (λ c κs. search needs) add-v (λ c. search needs)
+    loop-again returns)

@@ -8,26 +8,16 @@ use mathlib.Core.Path.{sym}
 use Rattle.little_endian.proofs.rest.Statement.{statement}
 use Rattle.little_endian.proofs.rest.Tie as tie
 
-sub-result : tie.Need-sub-result
-sub-result c = search needs
-
-part-result-start : tie.Need-part-result-start
-part-result-start c = search needs
-
-part-result-end : tie.Need-part-result-end
-part-result-end c = search needs
-
-slice-aggregate-result : tie.Need-slice-aggregate-result
-slice-aggregate-result c = search needs
-
 returns : tie.Need-returns
 returns c =
-    tail (c .before .before .args .at) (now (c .before .before .args .s))
+    let start : tie.Start = search in
+    tail (start .args .at) (now (start .args .s))
 
 returns-2 : tie.Need-returns-2
 returns-2 c =
-    let a = c .before .before .args in sym (drop-of-length-le (now (a .s)) {i = a .at} (omega arith))
+    let start : tie.Start = search in
+    let a = start .args in sym (drop-of-length-le (now (a .s)) {i = a .at} (omega arith))
 
 pub rest-spec : {M : Type 1} → statement M
 rest-spec =
-    tie.close (tie.spec sub-result part-result-start part-result-end slice-aggregate-result returns returns-2)
+    tie.close (tie.spec (λ c. search needs) (λ c. search needs) (λ c. search needs) (λ c. search needs) returns returns-2)

@@ -9,22 +9,19 @@ use Rattle.byte_laws.proofs.Rows.{number-drop, number-fits}
 use Rattle.little_endian.proofs.u32_at.Statement.{statement}
 use Rattle.little_endian.proofs.u32_at.Tie as tie
 
-rest-requires : tie.Need-rest-requires
-rest-requires c κs = search needs
-
-number-of-requires : tie.Need-number-of-requires
-number-of-requires c κs = search needs
-
 cast-result : tie.Need-cast-result
 cast-result c =
-    let a = c .before .before .before .args in
+    let start : tie.Start = search in let after-shared-slice-known : tie.After-shared-slice-known = search in
+    let a = start .args in
     let e = c .number-of .ensures ∙ ap (numberAt 4 0) (c .before .rest .ensures) ∙ number-drop 4 (a .at) (now (a .s)) in
-    record { fits = rw e (number-fits 4 (le-refl 4) (a .at) (now (a .s)) (λ i. c .before .before .shared-slice-known .given i .fits)) }
+    record { fits = rw e (number-fits 4 (le-refl 4) (a .at) (now (a .s)) (λ i. after-shared-slice-known .shared-slice-known .given i .fits)) }
 
 returns : tie.Need-returns
 returns c =
-    let a = c .before .before .before .args in
+    let start : tie.Start = search in
+    let a = start .args in
     c .number-of .ensures ∙ ap (numberAt 4 0) (c .before .rest .ensures) ∙ number-drop 4 (a .at) (now (a .s))
 
 pub u32-at-spec : {M : Type 1} → statement M
-u32-at-spec = tie.close (tie.spec rest-requires number-of-requires cast-result returns)
+u32-at-spec =
+    tie.close (tie.spec (λ c κs. search needs) (λ c κs. search needs) cast-result returns)

@@ -20,9 +20,6 @@ Inv-loop tables marks reached x left₀ link₀ left link = (left ≤ maxCouplin
 abbrev μ-loop : tie.MeasureT-loop
 μ-loop tables marks reached x left₀ link₀ left link = left
 
-first-link-requires : tie.Need-first-link-requires Inv-loop μ-loop
-first-link-requires c κs = search needs
-
 loop-holds : tie.Need-loop-holds Inv-loop μ-loop
 loop-holds c =
     let q = c .before .pre in
@@ -34,42 +31,53 @@ source-of-requires c κs =
 
 may-come-requires : tie.Need-may-come-requires Inv-loop μ-loop
 may-come-requires c κs =
-    rw (c .source-of .ensures) (c .before .before .before .before .pre .1 .sources (c .before .before .loop .link) (c .before .before .loop .inv .1))
+    let start : tie.Start Inv-loop μ-loop = search in let at-loop : tie.At-loop Inv-loop μ-loop = search in
+    rw (c .source-of .ensures) (start .pre .1 .sources (at-loop .loop .link) (at-loop .loop .inv .1))
 
 returns : tie.Need-returns Inv-loop μ-loop
 returns c =
-    let a = c .before .before .before .before .before .before .args in
-    let l = c .before .before .before .before .loop in
+    let start : tie.Start Inv-loop μ-loop = search in let after-source-of : tie.After-source-of Inv-loop μ-loop = search in
+    let in-loop : tie.In-loop Inv-loop μ-loop = search in let at-loop : tie.At-loop Inv-loop μ-loop = search in
+    let a = start .args in
+    let l = at-loop .loop in
     let e : mayCome [] (now (a .tables)) (now (a .marks)) (now (a .reached)) (getD (now (a .tables)) (sourceAt + l .link) 0) ≡ c .before .may-come .result =
-    unfold mayCome in sym (rw (c .before .before .source-of .ensures) at (c .before .may-come .ensures)) in
-    any-here (mayCome [] (now (a .tables)) (now (a .marks)) (now (a .reached))) (now (a .tables)) (l .left) (l .link) (c .before .before .before .loop-test .taken) (e ∙ c .if1 .taken) ∙ l .inv .2
+    unfold mayCome in sym (rw (after-source-of .source-of .ensures) at (c .before .may-come .ensures)) in
+    any-here (mayCome [] (now (a .tables)) (now (a .marks)) (now (a .reached))) (now (a .tables)) (l .left) (l .link) (in-loop .loop-test .taken) (e ∙ c .if1 .taken) ∙ l .inv .2
 
 next-link-requires : tie.Need-next-link-requires Inv-loop μ-loop
 next-link-requires c κs =
-    c .before .before .before .before .loop .inv .1
+    let at-loop : tie.At-loop Inv-loop μ-loop = search in
+    at-loop .loop .inv .1
 
 sub-left : tie.Need-sub-left Inv-loop μ-loop
 sub-left c =
-    omega (arith, both-left (c .before .before .before .before .before .loop .left) (c .before .before .before .before .before .loop .link) (c .before .before .before .before .loop-test .taken) .0)
+    let in-loop : tie.In-loop Inv-loop μ-loop = search in let at-loop : tie.At-loop Inv-loop μ-loop = search in
+    omega (arith, both-left (at-loop .loop .left) (at-loop .loop .link) (in-loop .loop-test .taken) .0)
 
 loop-less : tie.Need-loop-less Inv-loop μ-loop
 loop-less c =
-    omega (arith, both-left (c .before .before .before .before .before .loop .left) (c .before .before .before .before .before .loop .link) (c .before .before .before .before .loop-test .taken) .0)
+    let in-loop : tie.In-loop Inv-loop μ-loop = search in let at-loop : tie.At-loop Inv-loop μ-loop = search in
+    omega (arith, both-left (at-loop .loop .left) (at-loop .loop .link) (in-loop .loop-test .taken) .0)
 
 loop-again : tie.Need-loop-again Inv-loop μ-loop
 loop-again c =
-    let a = c .before .before .before .before .before .before .before .args in
-    let l = c .before .before .before .before .before .loop in
-    let e : mayCome [] (now (a .tables)) (now (a .marks)) (now (a .reached)) (getD (now (a .tables)) (sourceAt + l .link) 0) ≡ c .before .before .may-come .result =
-    unfold mayCome in sym (rw (c .before .before .before .source-of .ensures) at (c .before .before .may-come .ensures)) in
-    (omega arith, rw (c .next-link .ensures) (c .before .before .before .before .before .before .before .pre .1 .nexts (l .link) (l .inv .1)), rw (c .next-link .ensures) (any-later (mayCome [] (now (a .tables)) (now (a .marks)) (now (a .reached))) (now (a .tables)) (l .left) (l .link) (c .before .before .before .before .loop-test .taken) (e ∙ c .before .if1 .left)) ∙ l .inv .2)
+    let start : tie.Start Inv-loop μ-loop = search in let after-may-come : tie.After-may-come Inv-loop μ-loop = search in
+    let after-source-of : tie.After-source-of Inv-loop μ-loop = search in let in-loop : tie.In-loop Inv-loop μ-loop = search in
+    let at-loop : tie.At-loop Inv-loop μ-loop = search in
+    let a = start .args in
+    let l = at-loop .loop in
+    let e : mayCome [] (now (a .tables)) (now (a .marks)) (now (a .reached)) (getD (now (a .tables)) (sourceAt + l .link) 0) ≡ after-may-come .may-come .result =
+    unfold mayCome in sym (rw (after-source-of .source-of .ensures) at (after-may-come .may-come .ensures)) in
+    (omega arith, rw (c .next-link .ensures) (start .pre .1 .nexts (l .link) (l .inv .1)), rw (c .next-link .ensures) (any-later (mayCome [] (now (a .tables)) (now (a .marks)) (now (a .reached))) (now (a .tables)) (l .left) (l .link) (in-loop .loop-test .taken) (e ∙ c .before .if1 .left)) ∙ l .inv .2)
 
 returns-2 : tie.Need-returns-2 Inv-loop μ-loop
 returns-2 c =
-    let a = c .before .before .before .args in
+    let start : tie.Start Inv-loop μ-loop = search in
+    let a = start .args in
     let l = c .before .loop in
     any-end (mayCome [] (now (a .tables)) (now (a .marks)) (now (a .reached))) (now (a .tables)) (l .left) (l .link) (c .loop-test .left) ∙ l .inv .2
 
 pub any-source-spec : {M : Type 1} → statement M
 any-source-spec =
-    tie.close (tie.spec Inv-loop μ-loop first-link-requires loop-holds source-of-requires may-come-requires returns next-link-requires sub-left loop-less loop-again returns-2)
+    tie.close (tie.spec Inv-loop μ-loop (λ c κs. search needs) loop-holds source-of-requires may-come-requires returns next-link-requires sub-left
+    loop-less loop-again returns-2)

@@ -18,42 +18,37 @@ Inv-loop tables marks reached₀ count c₀ reached c = (count ≡ getD tables c
 abbrev μ-loop : tie.MeasureT-loop
 μ-loop tables marks reached₀ count c₀ reached c = count - c
 
-word-in-requires : tie.Need-word-in-requires Inv-loop μ-loop
-word-in-requires c κs = search needs
-
 loop-holds : tie.Need-loop-holds Inv-loop μ-loop
 loop-holds c =
     (c .word-in .ensures, rw (c .word-in .ensures))
 
 may-reach-requires : tie.Need-may-reach-requires Inv-loop μ-loop
 may-reach-requires c κs =
-    (omega (arith, c .before .before .loop .inv .0, c .before .before .before .before .pre .count), c .before .before .before .before .pre)
-
-flag-requires : tie.Need-flag-requires Inv-loop μ-loop
-flag-requires c κs = search needs
+    let start : tie.Start Inv-loop μ-loop = search in let at-loop : tie.At-loop Inv-loop μ-loop = search in
+    (omega (arith, at-loop .loop .inv .0, start .pre .count), start .pre)
 
 put-mark-requires : tie.Need-put-mark-requires Inv-loop μ-loop
 put-mark-requires c κs =
-    omega (arith, c .before .before .before .before .before .loop .inv .0, c .before .before .before .before .before .before .before .pre .count)
-
-add-c : tie.Need-add-c Inv-loop μ-loop
-add-c c = search needs
-
-loop-less : tie.Need-loop-less Inv-loop μ-loop
-loop-less c = search needs
+    let start : tie.Start Inv-loop μ-loop = search in let at-loop : tie.At-loop Inv-loop μ-loop = search in
+    omega (arith, at-loop .loop .inv .0, start .pre .count)
 
 loop-again : tie.Need-loop-again Inv-loop μ-loop
 loop-again c =
-    let a = c .before .before .before .before .before .before .before .before .args in
-    let l = c .before .before .before .before .before .before .loop in
-    (l .inv .0, rw (c .put-mark .ensures, c .before .before .flag .ensures, c .before .before .before .may-reach .ensures) (flags-more (now (a .tables)) (now (a .marks)) (l .reached) (c .before .before .before .before .before .before .before .word-in .result) (l .c) (omega arith)) ∙ l .inv .1)
+    let start : tie.Start Inv-loop μ-loop = search in let after-flag : tie.After-flag Inv-loop μ-loop = search in
+    let after-may-reach : tie.After-may-reach Inv-loop μ-loop = search in let at-loop : tie.At-loop Inv-loop μ-loop = search in
+    let after-word-in : tie.After-word-in Inv-loop μ-loop = search in
+    let a = start .args in
+    let l = at-loop .loop in
+    (l .inv .0, rw (c .put-mark .ensures, after-flag .flag .ensures, after-may-reach .may-reach .ensures) (flags-more (now (a .tables)) (now (a .marks)) (l .reached) (after-word-in .word-in .result) (l .c) (omega arith)) ∙ l .inv .1)
 
 returns : tie.Need-returns Inv-loop μ-loop
 returns c =
-    let a = c .before .before .before .args in
+    let start : tie.Start Inv-loop μ-loop = search in let after-word-in : tie.After-word-in Inv-loop μ-loop = search in
+    let a = start .args in
     let l = c .before .loop in
-    flags-none (now (a .tables)) (now (a .marks)) (l .reached) (c .before .before .word-in .result) (l .c) (omega arith) ∙ l .inv .1
+    flags-none (now (a .tables)) (now (a .marks)) (l .reached) (after-word-in .word-in .result) (l .c) (omega arith) ∙ l .inv .1
 
 pub flag-components-spec : {M : Type 1} → statement M
 flag-components-spec =
-    tie.close (tie.spec Inv-loop μ-loop word-in-requires loop-holds may-reach-requires flag-requires put-mark-requires add-c loop-less loop-again returns)
+    tie.close (tie.spec Inv-loop μ-loop (λ c κs. search needs) loop-holds may-reach-requires (λ c κs. search needs) put-mark-requires
+    (λ c. search needs) (λ c. search needs) loop-again returns)

@@ -3,15 +3,11 @@ use borrow.Author.Needs.{needs}
 use Rattle.marks.proofs.mark.Statement.{statement}
 use Rattle.marks.proofs.mark.Tie as tie
 
-mark-atomics-requires : tie.Need-mark-atomics-requires
-mark-atomics-requires c κs = search needs
-
-mark-parents-requires : tie.Need-mark-parents-requires
-mark-parents-requires c κs = search needs
-
 returns : tie.Need-returns
 returns c =
-    rw (c .before .before .mark-atomics .ensures) at (c .mark-parents .ensures)
+    let after-mark-atomics : tie.After-mark-atomics = search in
+    rw (after-mark-atomics .mark-atomics .ensures) at (c .mark-parents .ensures)
 
 pub mark-spec : {M : Type 1} → statement M
-mark-spec = tie.close (tie.spec mark-atomics-requires mark-parents-requires returns)
+mark-spec =
+    tie.close (tie.spec (λ c κs. search needs) (λ c κs. search needs) returns)

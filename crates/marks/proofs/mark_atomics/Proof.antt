@@ -20,40 +20,35 @@ loop-holds : tie.Need-loop-holds Inv-loop μ-loop
 loop-holds c =
     (omega arith, rw sub-zero)
 
-cast-row-in : tie.Need-cast-row-in Inv-loop μ-loop
-cast-row-in c = search needs
-
-row-in-requires : tie.Need-row-in-requires Inv-loop μ-loop
-row-in-requires c κs = search needs
-
 mark-of-requires : tie.Need-mark-of-requires Inv-loop μ-loop
 mark-of-requires c κs =
-    let q = c .before .before .before .pre in
-    (omega arith, rw (c .row-in .ensures) (q .1 .numbers (c .before .before .loop .i) (omega arith)))
+    let start : tie.Start Inv-loop μ-loop = search in let at-loop : tie.At-loop Inv-loop μ-loop = search in
+    let q = start .pre in
+    (omega arith, rw (c .row-in .ensures) (q .1 .numbers (at-loop .loop .i) (omega arith)))
 
 put-mark-requires : tie.Need-put-mark-requires Inv-loop μ-loop
 put-mark-requires c κs =
-    let q = c .before .before .before .before .before .pre in
-    rw (c .before .before .row-in .ensures) (q .1 .numbers (c .before .before .before .before .loop .i) (omega arith))
-
-add-i : tie.Need-add-i Inv-loop μ-loop
-add-i c = search needs
-
-loop-less : tie.Need-loop-less Inv-loop μ-loop
-loop-less c = search needs
+    let start : tie.Start Inv-loop μ-loop = search in let after-row-in : tie.After-row-in Inv-loop μ-loop = search in
+    let at-loop : tie.At-loop Inv-loop μ-loop = search in
+    let q = start .pre in
+    rw (after-row-in .row-in .ensures) (q .1 .numbers (at-loop .loop .i) (omega arith))
 
 loop-again : tie.Need-loop-again Inv-loop μ-loop
 loop-again c =
-    let a = c .before .before .before .before .before .before .args in
-    let l = c .before .before .before .before .before .loop in
-    (omega arith, rw (c .put-mark .ensures, c .before .before .mark-of .ensures, c .before .before .before .row-in .ensures) (marked-more (now (a .tables)) (a .at .0) (now (a .phase)) (now (a .ends)) (a .n) (l .i) (l .marks) (omega arith) ∙ l .inv .1))
+    let start : tie.Start Inv-loop μ-loop = search in let after-mark-of : tie.After-mark-of Inv-loop μ-loop = search in
+    let after-row-in : tie.After-row-in Inv-loop μ-loop = search in let at-loop : tie.At-loop Inv-loop μ-loop = search in
+    let a = start .args in
+    let l = at-loop .loop in
+    (omega arith, rw (c .put-mark .ensures, after-mark-of .mark-of .ensures, after-row-in .row-in .ensures) (marked-more (now (a .tables)) (a .at .0) (now (a .phase)) (now (a .ends)) (a .n) (l .i) (l .marks) (omega arith) ∙ l .inv .1))
 
 returns : tie.Need-returns Inv-loop μ-loop
 returns c =
-    let a = c .before .before .args in
+    let start : tie.Start Inv-loop μ-loop = search in
+    let a = start .args in
     let l = c .before .loop in
     marked-none (now (a .tables)) (a .at .0) (now (a .phase)) (now (a .ends)) (a .n) (l .i) (l .marks) (omega arith) ∙ l .inv .1
 
 pub mark-atomics-spec : {M : Type 1} → statement M
 mark-atomics-spec =
-    tie.close (tie.spec Inv-loop μ-loop loop-holds cast-row-in row-in-requires mark-of-requires put-mark-requires add-i loop-less loop-again returns)
+    tie.close (tie.spec Inv-loop μ-loop loop-holds (λ c. search needs) (λ c κs. search needs) mark-of-requires put-mark-requires (λ c. search needs)
+    (λ c. search needs) loop-again returns)

@@ -20,40 +20,33 @@ Inv-loop tables marks₀ count c₀ marks c = (c < maxComponents) × (raised [] 
 abbrev μ-loop : tie.MeasureT-loop
 μ-loop tables marks₀ count c₀ marks c = c
 
-word-in-requires : tie.Need-word-in-requires Inv-loop μ-loop
-word-in-requires c κs = search needs
-
-sub-c : tie.Need-sub-c Inv-loop μ-loop
-sub-c c = search needs
-
 loop-holds : tie.Need-loop-holds Inv-loop μ-loop
 loop-holds c =
-    let a = c .before .before .args in
+    let start : tie.Start Inv-loop μ-loop = search in
+    let a = start .args in
     let e : c .if1 .c ≡ c .before .word-in .result - 1 = ⊎-elim (λ w. omega arith) (λ w. omega arith) (c .if1 .came) in
-    (omega (arith, e, c .before .word-in .ensures, c .before .before .pre .count), rw (e, c .before .word-in .ensures))
+    (omega (arith, e, c .before .word-in .ensures, start .pre .count), rw (e, c .before .word-in .ensures))
 
 mark-parent-requires : tie.Need-mark-parent-requires Inv-loop μ-loop
 mark-parent-requires c κs =
-    (c .before .before .loop .inv .0, c .before .before .before .before .before .pre)
-
-sub-c-2 : tie.Need-sub-c-2 Inv-loop μ-loop
-sub-c-2 c = search needs
-
-loop-less : tie.Need-loop-less Inv-loop μ-loop
-loop-less c = search needs
+    let start : tie.Start Inv-loop μ-loop = search in let at-loop : tie.At-loop Inv-loop μ-loop = search in
+    (at-loop .loop .inv .0, start .pre)
 
 loop-again : tie.Need-loop-again Inv-loop μ-loop
 loop-again c =
-    let a = c .before .before .before .before .before .before .before .args in
-    let l = c .before .before .before .before .loop in
+    let start : tie.Start Inv-loop μ-loop = search in let at-loop : tie.At-loop Inv-loop μ-loop = search in
+    let a = start .args in
+    let l = at-loop .loop in
     (omega arith, rw (c .before .mark-parent .ensures) (raised-more (now (a .tables)) (l .c) (l .marks) (omega arith)) ∙ l .inv .1)
 
 returns : tie.Need-returns Inv-loop μ-loop
 returns c =
-    let a = c .before .before .before .before .args in
+    let start : tie.Start Inv-loop μ-loop = search in
+    let a = start .args in
     let l = c .before .loop in
     raised-none (now (a .tables)) (l .c) (l .marks) (omega arith) ∙ l .inv .1
 
 pub mark-parents-spec : {M : Type 1} → statement M
 mark-parents-spec =
-    tie.close (tie.spec Inv-loop μ-loop word-in-requires sub-c loop-holds mark-parent-requires sub-c-2 loop-less loop-again returns)
+    tie.close (tie.spec Inv-loop μ-loop (λ c κs. search needs) (λ c. search needs) loop-holds mark-parent-requires (λ c. search needs)
+    (λ c. search needs) loop-again returns)

@@ -23,41 +23,39 @@ loop-holds : tie.Need-loop-holds Inv-loop μ-loop
 loop-holds c =
     (omega arith, refl)
 
-input-node-requires : tie.Need-input-node-requires Inv-loop μ-loop
-input-node-requires c κs = search needs
-
 any-source-requires : tie.Need-any-source-requires Inv-loop μ-loop
 any-source-requires c κs =
-    let l = c .before .before .loop in
-    let node : inputNode (c .before .before .before .args .c) (l .q) < maxNodes = unfold inputNode in omega arith in
-    (rw (c .input-node .ensures) node, c .before .before .before .pre .1)
+    let start : tie.Start Inv-loop μ-loop = search in let at-loop : tie.At-loop Inv-loop μ-loop = search in
+    let l = at-loop .loop in
+    let node : inputNode (start .args .c) (l .q) < maxNodes = unfold inputNode in omega arith in
+    (rw (c .input-node .ensures) node, start .pre .1)
 
 returns : tie.Need-returns Inv-loop μ-loop
 returns c =
-    let a = c .before .before .before .before .before .args in
-    let l = c .before .before .before .before .loop in
-    let e : anyOf (mayCome [] (now (a .tables)) (now (a .marks)) (now (a .reached))) (chainRows (now (a .tables)) (inputNode (a .c) (l .q))) ≡ c .before .any-source .result = sym (rw (c .before .before .input-node .ensures) at (c .before .any-source .ensures)) in
+    let start : tie.Start Inv-loop μ-loop = search in let after-input-node : tie.After-input-node Inv-loop μ-loop = search in
+    let at-loop : tie.At-loop Inv-loop μ-loop = search in
+    let a = start .args in
+    let l = at-loop .loop in
+    let e : anyOf (mayCome [] (now (a .tables)) (now (a .marks)) (now (a .reached))) (chainRows (now (a .tables)) (inputNode (a .c) (l .q))) ≡ c .before .any-source .result = sym (rw (after-input-node .input-node .ensures) at (c .before .any-source .ensures)) in
     reach-here (now (a .tables)) (now (a .marks)) (now (a .reached)) (a .c) 4 (l .q) (omega arith) (e ∙ c .if1 .taken) ∙ l .inv .1
-
-add-q : tie.Need-add-q Inv-loop μ-loop
-add-q c = search needs
-
-loop-less : tie.Need-loop-less Inv-loop μ-loop
-loop-less c = search needs
 
 loop-again : tie.Need-loop-again Inv-loop μ-loop
 loop-again c =
-    let a = c .before .before .before .before .before .args in
-    let l = c .before .before .before .before .loop in
-    let e : anyOf (mayCome [] (now (a .tables)) (now (a .marks)) (now (a .reached))) (chainRows (now (a .tables)) (inputNode (a .c) (l .q))) ≡ c .before .any-source .result = sym (rw (c .before .before .input-node .ensures) at (c .before .any-source .ensures)) in
+    let start : tie.Start Inv-loop μ-loop = search in let after-input-node : tie.After-input-node Inv-loop μ-loop = search in
+    let at-loop : tie.At-loop Inv-loop μ-loop = search in
+    let a = start .args in
+    let l = at-loop .loop in
+    let e : anyOf (mayCome [] (now (a .tables)) (now (a .marks)) (now (a .reached))) (chainRows (now (a .tables)) (inputNode (a .c) (l .q))) ≡ c .before .any-source .result = sym (rw (after-input-node .input-node .ensures) at (c .before .any-source .ensures)) in
     (omega arith, reach-later (now (a .tables)) (now (a .marks)) (now (a .reached)) (a .c) 4 (l .q) (omega arith) (e ∙ c .if1 .left) ∙ l .inv .1)
 
 returns-2 : tie.Need-returns-2 Inv-loop μ-loop
 returns-2 c =
-    let a = c .before .before .args in
+    let start : tie.Start Inv-loop μ-loop = search in
+    let a = start .args in
     let l = c .before .loop in
     reach-none (now (a .tables)) (now (a .marks)) (now (a .reached)) (a .c) 4 (l .q) (omega arith) ∙ l .inv .1
 
 pub may-reach-spec : {M : Type 1} → statement M
 may-reach-spec =
-    tie.close (tie.spec Inv-loop μ-loop loop-holds input-node-requires any-source-requires returns add-q loop-less loop-again returns-2)
+    tie.close (tie.spec Inv-loop μ-loop loop-holds (λ c κs. search needs) any-source-requires returns (λ c. search needs) (λ c. search needs)
+    loop-again returns-2)

@@ -4,13 +4,11 @@ use Rattle.model.specs.Checked.{afterComponents}
 use Rattle.model.proofs.after_components.Statement.{statement}
 use Rattle.model.proofs.after_components.Tie as tie
 
-section-rest-requires : tie.Need-section-rest-requires
-section-rest-requires c κs = search needs
-
 returns : tie.Need-returns
 unfolding afterComponents
 returns c =
     c .section-rest .ensures
 
 pub after-components-spec : {M : Type 1} → statement M
-after-components-spec = tie.close (tie.spec section-rest-requires returns)
+after-components-spec =
+    tie.close (tie.spec (λ c κs. search needs) returns)

@@ -4,16 +4,11 @@ use Rattle.model.specs.Checked.{couplingsPart}
 use Rattle.model.proofs.couplings_of.Statement.{statement}
 use Rattle.model.proofs.couplings_of.Tie as tie
 
-after-rules-requires : tie.Need-after-rules-requires
-after-rules-requires c κs = search needs
-
-section-part-requires : tie.Need-section-part-requires
-section-part-requires c κs = search needs
-
 returns : tie.Need-returns
 unfolding couplingsPart
 returns c =
     rw (c .section-part .ensures, c .before .after-rules .ensures)
 
 pub couplings-of-spec : {M : Type 1} → statement M
-couplings-of-spec = tie.close (tie.spec after-rules-requires section-part-requires returns)
+couplings-of-spec =
+    tie.close (tie.spec (λ c κs. search needs) (λ c κs. search needs) returns)

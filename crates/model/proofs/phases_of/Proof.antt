@@ -4,16 +4,11 @@ use Rattle.model.specs.Checked.{phasesPart}
 use Rattle.model.proofs.phases_of.Statement.{statement}
 use Rattle.model.proofs.phases_of.Tie as tie
 
-after-components-requires : tie.Need-after-components-requires
-after-components-requires c κs = search needs
-
-section-part-requires : tie.Need-section-part-requires
-section-part-requires c κs = search needs
-
 returns : tie.Need-returns
 unfolding phasesPart
 returns c =
     rw (c .section-part .ensures, c .before .after-components .ensures)
 
 pub phases-of-spec : {M : Type 1} → statement M
-phases-of-spec = tie.close (tie.spec after-components-requires section-part-requires returns)
+phases-of-spec =
+    tie.close (tie.spec (λ c κs. search needs) (λ c κs. search needs) returns)

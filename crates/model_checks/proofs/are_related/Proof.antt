@@ -27,9 +27,7 @@ returns c =
 
 returns-2 : tie.Need-returns-2
 returns-2 c =
-    let start : tie.Start = search in
-    let over-source : tie.After-size = search in
-    let over-target : tie.After-size2 = search in
+    let start : tie.Start = search in let over-source : tie.After-size = search in let over-target : tie.After-size2 = search in
     let a = start .args in
     let q = start .pre in
     let cs = componentsIn (now (a .components)) in

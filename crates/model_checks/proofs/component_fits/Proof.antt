@@ -15,24 +15,19 @@ use Rattle.model_checks.proofs.component_fits.Tie as tie
 returns : tie.Need-returns
 unfolding fitsBehind rootFields
 returns c =
-    let root : tie.Then1 = search in
-    let kind : tie.After-kind-fields = search in
+    let root : tie.Then1 = search in let kind : tie.After-kind-fields = search in
     rw (eq-eqb _ _ (root .if1 .taken), kind .kind-fields .ensures)
 
 returns-2 : tie.Need-returns-2
 unfolding fitsBehind
 returns-2 c =
-    let other : tie.Else1 = search in
-    let parent : tie.After-size = search in
+    let other : tie.Else1 = search in let parent : tie.After-size = search in
     rw (ne-eqb _ _ (other .if1 .left), ← parent .size .ensures, le-ltb _ _ (c .if2 .taken)) (simp and-false)
 
 returns-3 : tie.Need-returns-3
 unfolding fitsBehind
 returns-3 c =
-    let start : tie.Start = search in
-    let other : tie.Else1 = search in
-    let parent : tie.After-size = search in
-    let earlier : tie.Else2 = search in
+    let start : tie.Start = search in let other : tie.Else1 = search in let parent : tie.After-size = search in let earlier : tie.Else2 = search in
     let depth : tie.After-size2 = search in
     let e : (eqb (getD (now (start .args .phase-counts)) (parent .size .result) 0) 0 && ltb (depth .size2 .result) 8) ≡ false = not-true _ (c .if3 .taken) in
     rw (ne-eqb _ _ (other .if1 .left), ← parent .size .ensures, lt-ltb _ _ (earlier .if2 .left), ← depth .size2 .ensures, e) (simp and-false)
@@ -40,10 +35,7 @@ returns-3 c =
 returns-4 : tie.Need-returns-4
 unfolding fitsBehind
 returns-4 c =
-    let start : tie.Start = search in
-    let other : tie.Else1 = search in
-    let parent : tie.After-size = search in
-    let earlier : tie.Else2 = search in
+    let start : tie.Start = search in let other : tie.Else1 = search in let parent : tie.After-size = search in let earlier : tie.Else2 = search in
     let depth : tie.After-size2 = search in
     let e : (eqb (getD (now (start .args .phase-counts)) (parent .size .result) 0) 0 && ltb (depth .size2 .result) 8) ≡ true = not-false _ (c .before .if3 .left) in
     let k = componentOf (start .args .component) in

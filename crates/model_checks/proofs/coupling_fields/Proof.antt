@@ -13,9 +13,7 @@ use Rattle.model_checks.proofs.coupling_fields.Tie as tie
 returns : tie.Need-returns
 unfolding couplingFields
 returns c =
-    let start : tie.Start = search in
-    let there : tie.After-component-count = search in
-    let source : tie.After-size = search in
+    let start : tie.Start = search in let there : tie.After-component-count = search in let source : tie.After-size = search in
     let target : tie.After-size2 = search in
     let n = there .component-count .result in
     let k = start .args .coupling in
@@ -24,9 +22,7 @@ returns c =
 
 are-related-requires : tie.Need-are-related-requires
 are-related-requires c κs =
-    let start : tie.Start = search in
-    let there : tie.After-component-count = search in
-    let source : tie.After-size = search in
+    let start : tie.Start = search in let there : tie.After-component-count = search in let source : tie.After-size = search in
     let target : tie.After-size2 = search in
     let n = there .component-count .result in
     let s = source .size .result in
@@ -38,9 +34,7 @@ are-related-requires c κs =
 returns-2 : tie.Need-returns-2
 unfolding couplingFields
 returns-2 c =
-    let start : tie.Start = search in
-    let there : tie.After-component-count = search in
-    let source : tie.After-size = search in
+    let start : tie.Start = search in let there : tie.After-component-count = search in let source : tie.After-size = search in
     let target : tie.After-size2 = search in
     let n = there .component-count .result in
     let k = start .args .coupling in

@@ -18,15 +18,14 @@ element-copy-out-depths c =
 
 add-depths : tie.Need-add-depths
 add-depths c =
-    let start : tie.Start = search in
-    let parent : tie.After-size = search in
-    let shallow = start .pre .shallow (c .before .before .if1 .left) in
+    let else1 : tie.Else1 = search in let start : tie.Start = search in let parent : tie.After-size = search in
+    let shallow = start .pre .shallow (else1 .if1 .left) in
     record { fits = rw (parent .size .ensures) (omega arith) }
 
 returns-2 : tie.Need-returns-2
 returns-2 c =
-    let parent : tie.After-size = search in
-    record { parent = refl; count = refl; depth = rw (ne-eqb _ _ (c .before .before .if1 .left), parent .size .ensures) }
+    let else1 : tie.Else1 = search in let parent : tie.After-size = search in
+    record { parent = refl; count = refl; depth = rw (ne-eqb _ _ (else1 .if1 .left), parent .size .ensures) }
 
 pub keep-component-spec : {M : Type 1} → statement M
 keep-component-spec =

@@ -16,16 +16,15 @@ component-fits-requires c κs =
 
 returns : tie.Need-returns
 returns c =
-    let start : tie.Start = search in
-    let read : tie.After-component-in = search in
+    let start : tie.Start = search in let read : tie.After-component-in = search in
     let e = read .component-in .ensures in
     rw e (sym (keeps _ 4 _ (sym (fits-known (start .pre) e) ∙ sym (c .before .component-fits .ensures) ∙ c .if1 .taken)))
 
 returns-2 : tie.Need-returns-2
 returns-2 c =
-    let start : tie.Start = search in
-    let read : tie.After-component-in = search in
+    let start : tie.Start = search in let read : tie.After-component-in = search in
     sym (breaks _ 4 _ (sym (fits-known (start .pre) (read .component-in .ensures)) ∙ sym (c .before .component-fits .ensures) ∙ c .if1 .left))
 
 pub read-component-spec : {M : Type 1} → statement M
-read-component-spec = tie.close (tie.spec component-in-requires component-fits-requires returns returns-2)
+read-component-spec =
+    tie.close (tie.spec component-in-requires component-fits-requires returns returns-2)

@@ -10,34 +10,29 @@ use Rattle.model_checks.proofs.Slots.{numbers-break, slots-break, phase
 use Rattle.model_checks.proofs.read_phase.Statement.{statement}
 use Rattle.model_checks.proofs.read_phase.Tie as tie
 
-phase-in-requires : tie.Need-phase-in-requires
-phase-in-requires c κs = search needs
-
-phase-numbers-requires : tie.Need-phase-numbers-requires
-phase-numbers-requires c κs = search needs
-
 returns : tie.Need-returns
 returns c =
+    let start : tie.Start = search in let after-phase-in : tie.After-phase-in = search in
     let n = c .before .phase-numbers .result in
-    let e : phaseFields (c .before .before .before .before .args .bound) (phaseOf (c .before .before .phase-in .result)) ≡ false = numbers-break _ _ (sym (c .before .phase-numbers .ensures) ∙ not-true n (c .if1 .taken)) in
-    rw (← c .before .before .phase-in .ensures) (sym (breaks _ 6 _ e))
-
-slots-fit-requires : tie.Need-slots-fit-requires
-slots-fit-requires c κs = search needs
+    let e : phaseFields (start .args .bound) (phaseOf (after-phase-in .phase-in .result)) ≡ false = numbers-break _ _ (sym (c .before .phase-numbers .ensures) ∙ not-true n (c .if1 .taken)) in
+    rw (← after-phase-in .phase-in .ensures) (sym (breaks _ 6 _ e))
 
 returns-2 : tie.Need-returns-2
 returns-2 c =
+    let start : tie.Start = search in let after-phase-in : tie.After-phase-in = search in
     let n = c .before .slots-fit .result in
-    let e : phaseFields (c .before .before .before .before .before .before .args .bound) (phaseOf (c .before .before .before .before .phase-in .result)) ≡ false = slots-break _ _ (sym (c .before .slots-fit .ensures) ∙ not-true n (c .if2 .taken)) in
-    rw (← c .before .before .before .before .phase-in .ensures) (sym (breaks _ 6 _ e))
+    let e : phaseFields (start .args .bound) (phaseOf (after-phase-in .phase-in .result)) ≡ false = slots-break _ _ (sym (c .before .slots-fit .ensures) ∙ not-true n (c .if2 .taken)) in
+    rw (← after-phase-in .phase-in .ensures) (sym (breaks _ 6 _ e))
 
 returns-3 : tie.Need-returns-3
 returns-3 c =
-    let m = c .before .before .before .phase-numbers .result in
+    let start : tie.Start = search in let else1 : tie.Else1 = search in let after-phase-numbers : tie.After-phase-numbers = search in
+    let after-phase-in : tie.After-phase-in = search in
+    let m = after-phase-numbers .phase-numbers .result in
     let n = c .before .slots-fit .result in
-    let e : phaseFields (c .before .before .before .before .before .before .args .bound) (phaseOf (c .before .before .before .before .phase-in .result)) ≡ true = phase-keeps _ _ (sym (c .before .before .before .phase-numbers .ensures) ∙ not-false m (c .before .before .if1 .left)) (sym (c .before .slots-fit .ensures) ∙ not-false n (c .if2 .left)) in
-    rw (← c .before .before .before .before .phase-in .ensures) (sym (keeps _ 6 _ e))
+    let e : phaseFields (start .args .bound) (phaseOf (after-phase-in .phase-in .result)) ≡ true = phase-keeps _ _ (sym (after-phase-numbers .phase-numbers .ensures) ∙ not-false m (else1 .if1 .left)) (sym (c .before .slots-fit .ensures) ∙ not-false n (c .if2 .left)) in
+    rw (← after-phase-in .phase-in .ensures) (sym (keeps _ 6 _ e))
 
 pub read-phase-spec : {M : Type 1} → statement M
 read-phase-spec =
-    tie.close (tie.spec phase-in-requires phase-numbers-requires returns slots-fit-requires returns-2 returns-3)
+    tie.close (tie.spec (λ c κs. search needs) (λ c κs. search needs) returns (λ c κs. search needs) returns-2 returns-3)

@@ -27,9 +27,7 @@ element-copy-out-phases c =
 
 returns-2 : tie.Need-returns-2
 returns-2 c =
-    let start : tie.Start = search in
-    let component : tie.After-size = search in
-    let there : tie.After-component-count = search in
+    let start : tie.Start = search in let component : tie.After-size = search in let there : tie.After-component-count = search in
     let cs = componentsIn (now (start .args .components)) in
     let number = component .size .result in
     let e = component .size .ensures in

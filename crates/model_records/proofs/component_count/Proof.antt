@@ -15,4 +15,5 @@ returns c =
     sym (length-records componentSize toComponent (now (c .args .components)))
 
 pub component-count-spec : {M : Type 1} → statement M
-component-count-spec = tie.close (tie.spec returns)
+component-count-spec =
+    tie.close (tie.spec returns)

@@ -15,4 +15,5 @@ returns c =
     sym (length-records couplingSize toCoupling (now (c .args .couplings)))
 
 pub coupling-count-spec : {M : Type 1} → statement M
-coupling-count-spec = tie.close (tie.spec returns)
+coupling-count-spec =
+    tie.close (tie.spec returns)

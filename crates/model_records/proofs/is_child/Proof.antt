@@ -4,16 +4,11 @@ use Rattle.definition.specs.Model.{isChild}
 use Rattle.model_records.proofs.is_child.Statement.{statement}
 use Rattle.model_records.proofs.is_child.Tie as tie
 
-component-at-requires : tie.Need-component-at-requires
-component-at-requires c κs = search needs
-
-size-requires : tie.Need-size-requires
-size-requires c κs = search needs
-
 returns : tie.Need-returns
 unfolding isChild
 returns c =
     rw (← c .before .component-at .ensures, c .size .ensures)
 
 pub is-child-spec : {M : Type 1} → statement M
-is-child-spec = tie.close (tie.spec component-at-requires size-requires returns)
+is-child-spec =
+    tie.close (tie.spec (λ c κs. search needs) (λ c κs. search needs) returns)

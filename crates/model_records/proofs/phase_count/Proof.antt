@@ -15,4 +15,5 @@ returns c =
     sym (length-records phaseSize toPhase (now (c .args .phases)))
 
 pub phase-count-spec : {M : Type 1} → statement M
-phase-count-spec = tie.close (tie.spec returns)
+phase-count-spec =
+    tie.close (tie.spec returns)

@@ -21,37 +21,23 @@ loop-holds : tie.Need-loop-holds Inv-loop μ-loop
 loop-holds c =
     (omega arith, omega arith, sym (before-none (componentsIn (now (c .before .args .components)))))
 
-size-requires : tie.Need-size-requires Inv-loop μ-loop
-size-requires c κs = search needs
-
-component-at-requires : tie.Need-component-at-requires Inv-loop μ-loop
-component-at-requires c κs = search needs
-
-size-requires-2 : tie.Need-size-requires-2 Inv-loop μ-loop
-size-requires-2 c κs = search needs
-
-add-total : tie.Need-add-total Inv-loop μ-loop
-add-total c = search needs
-
-add-i : tie.Need-add-i Inv-loop μ-loop
-add-i c = search needs
-
-loop-less : tie.Need-loop-less Inv-loop μ-loop
-loop-less c = search needs
-
 loop-again : tie.Need-loop-again Inv-loop μ-loop
 loop-again c =
-    let l = c .before .before .before .before .loop in
-    let cs = componentsIn (now (c .before .before .before .before .before .before .args .components)) in
-    let e : c .size2 .result ≡ componentAt cs (l .i) .phases = c .size2 .ensures ∙ ap (λ k. k .phases) (c .before .component-at .ensures) ∙ ap (λ i. componentAt cs i .phases) (c .before .before .size .ensures) in
+    let start : tie.Start Inv-loop μ-loop = search in let after-size : tie.After-size Inv-loop μ-loop = search in
+    let at-loop : tie.At-loop Inv-loop μ-loop = search in
+    let l = at-loop .loop in
+    let cs = componentsIn (now (start .args .components)) in
+    let e : c .size2 .result ≡ componentAt cs (l .i) .phases = c .size2 .ensures ∙ ap (λ k. k .phases) (c .before .component-at .ensures) ∙ ap (λ i. componentAt cs i .phases) (after-size .size .ensures) in
     (omega arith, omega arith, omega (arith, before-more cs (l .i)))
 
 returns : tie.Need-returns Inv-loop μ-loop
 returns c =
+    let start : tie.Start Inv-loop μ-loop = search in
     let l = c .before .loop in
-    let e : l .i ≡ c .before .before .before .args .c = omega arith in
-    l .inv .2 ∙ ap (phasesBefore (componentsIn (now (c .before .before .before .args .components)))) e
+    let e : l .i ≡ start .args .c = omega arith in
+    l .inv .2 ∙ ap (phasesBefore (componentsIn (now (start .args .components)))) e
 
 pub phases-before-spec : {M : Type 1} → statement M
 phases-before-spec =
-    tie.close (tie.spec Inv-loop μ-loop loop-holds size-requires component-at-requires size-requires-2 add-total add-i loop-less loop-again returns)
+    tie.close (tie.spec Inv-loop μ-loop loop-holds (λ c κs. search needs) (λ c κs. search needs) (λ c κs. search needs) (λ c. search needs)
+    (λ c. search needs) (λ c. search needs) loop-again returns)

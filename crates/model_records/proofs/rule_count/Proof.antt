@@ -15,4 +15,5 @@ returns c =
     sym (length-records ruleSize toRule (now (c .args .rules)))
 
 pub rule-count-spec : {M : Type 1} → statement M
-rule-count-spec = tie.close (tie.spec returns)
+rule-count-spec =
+    tie.close (tie.spec returns)

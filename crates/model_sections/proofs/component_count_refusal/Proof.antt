@@ -14,4 +14,5 @@ returns-2 c =
     rw (c .if1 .left)
 
 pub component-count-refusal-spec : {M : Type 1} → statement M
-component-count-refusal-spec = tie.close (tie.spec returns returns-2)
+component-count-refusal-spec =
+    tie.close (tie.spec returns returns-2)

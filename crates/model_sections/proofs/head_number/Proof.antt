@@ -17,17 +17,13 @@ returns-2 c = rw (le-ltb _ _ (c .before .if1 .left), lt-ltb _ _ (c .if2 .taken))
 returns-3 : tie.Need-returns-3
 unfolding sectionCount
 returns-3 c =
-    let counted : tie.Else1 = search in
-    let judged : tie.Else2 = search in
-    let count : tie.After-u16-at = search in
+    let counted : tie.Else1 = search in let judged : tie.Else2 = search in let count : tie.After-u16-at = search in
     rw (le-ltb _ _ (counted .if1 .left), le-ltb _ _ (judged .if2 .left), ← count .u16-at .ensures, ← c .before .length-of .ensures .0, lt-ltb _ _ (c .if3 .taken))
 
 returns-4 : tie.Need-returns-4
 unfolding sectionCount
 returns-4 c =
-    let counted : tie.Else1 = search in
-    let judged : tie.Else2 = search in
-    let count : tie.After-u16-at = search in
+    let counted : tie.Else1 = search in let judged : tie.Else2 = search in let count : tie.After-u16-at = search in
     rw (le-ltb _ _ (counted .if1 .left), le-ltb _ _ (judged .if2 .left), ← count .u16-at .ensures, ← c .before .length-of .ensures .0, le-ltb _ _ (c .if3 .left))
 
 pub head-number-spec : {M : Type 1} → statement M

@@ -15,4 +15,5 @@ returns-2 c =
     rw (le-ltb _ _ (c .if1 .left))
 
 pub limit-refusal-spec : {M : Type 1} → statement M
-limit-refusal-spec = tie.close (tie.spec returns returns-2)
+limit-refusal-spec =
+    tie.close (tie.spec returns returns-2)

@@ -20,4 +20,5 @@ returns-3 c =
     rw (le-ltb _ _ (c .before .if1 .left), eq-eqb _ _ (c .if2 .left))
 
 pub phase-count-refusal-spec : {M : Type 1} → statement M
-phase-count-refusal-spec = tie.close (tie.spec returns returns-2 returns-3)
+phase-count-refusal-spec =
+    tie.close (tie.spec returns returns-2 returns-3)

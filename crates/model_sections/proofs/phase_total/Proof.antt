@@ -22,50 +22,46 @@ abbrev μ-loop : tie.MeasureT-loop
 -- The phase count that is read, and its bound.
 own : (c : tie.After-size Inv-loop μ-loop) → (c .size .result ≡ componentAt (componentsIn (now (c .before .before .before .before .before .before .args .components))) (c .before .before .before .loop .c) .phases) × (c .size .result ≤ 64)
 own c =
-    let cs = componentsIn (now (c .before .before .before .before .before .before .args .components)) in
-    let b : c .before .before .before .loop .c < length cs = omega (arith, c .before .before .before .before .component-count .ensures) in
-    let e = c .size .ensures ∙ c .before .before .before .before .before .before .pre .1 .holds (c .before .before .before .loop .c) b in
-    (e, rw e (phases-few cs (c .before .before .before .loop .c) (c .before .before .before .before .before .before .pre .0 .fit (c .before .before .before .loop .c) b)))
-
-component-count-requires : tie.Need-component-count-requires Inv-loop μ-loop
-component-count-requires c κs = search needs
+    let start : tie.Start Inv-loop μ-loop = search in let at-loop : tie.At-loop Inv-loop μ-loop = search in
+    let after-component-count : tie.After-component-count Inv-loop μ-loop = search in
+    let cs = componentsIn (now (start .args .components)) in
+    let b : at-loop .loop .c < length cs = omega (arith, after-component-count .component-count .ensures) in
+    let e = c .size .ensures ∙ start .pre .1 .holds (at-loop .loop .c) b in
+    (e, rw e (phases-few cs (at-loop .loop .c) (start .pre .0 .fit (at-loop .loop .c) b)))
 
 loop-holds : tie.Need-loop-holds Inv-loop μ-loop
 loop-holds c =
-    (omega arith, omega arith, sym (before-none (componentsIn (now (c .before .before .args .components)))))
+    let start : tie.Start Inv-loop μ-loop = search in
+    (omega arith, omega arith, sym (before-none (componentsIn (now (start .args .components)))))
 
 element-copy-out-size : tie.Need-element-copy-out-size Inv-loop μ-loop
 element-copy-out-size c =
-    omega (arith, c .before .before .component-count .ensures, c .before .before .before .before .pre .0 .few)
-
-size-requires : tie.Need-size-requires Inv-loop μ-loop
-size-requires c κs = search needs
+    let start : tie.Start Inv-loop μ-loop = search in let after-component-count : tie.After-component-count Inv-loop μ-loop = search in
+    omega (arith, after-component-count .component-count .ensures, start .pre .0 .few)
 
 add-total : tie.Need-add-total Inv-loop μ-loop
 add-total c =
+    let start : tie.Start Inv-loop μ-loop = search in let after-component-count : tie.After-component-count Inv-loop μ-loop = search in
     let k = own c in
-    record { fits = omega (arith, c .before .before .before .before .component-count .ensures, c .before .before .before .before .before .before .pre .0 .few) }
-
-add-c : tie.Need-add-c Inv-loop μ-loop
-add-c c = search needs
-
-loop-less : tie.Need-loop-less Inv-loop μ-loop
-loop-less c = search needs
+    record { fits = omega (arith, after-component-count .component-count .ensures, start .pre .0 .few) }
 
 loop-again : tie.Need-loop-again Inv-loop μ-loop
 loop-again c =
-    let l = c .before .before .before .loop in
-    let cs = componentsIn (now (c .before .before .before .before .before .before .args .components)) in
+    let start : tie.Start Inv-loop μ-loop = search in let at-loop : tie.At-loop Inv-loop μ-loop = search in
+    let l = at-loop .loop in
+    let cs = componentsIn (now (start .args .components)) in
     let k = own c in
     (omega arith, omega arith, omega (arith, before-more cs (l .c)))
 
 returns : tie.Need-returns Inv-loop μ-loop
 returns c =
+    let start : tie.Start Inv-loop μ-loop = search in let after-component-count : tie.After-component-count Inv-loop μ-loop = search in
     let l = c .before .loop in
-    let cs = componentsIn (now (c .before .before .before .before .args .components)) in
-    let e : l .c ≡ length cs = omega (arith, c .before .before .component-count .ensures) in
+    let cs = componentsIn (now (start .args .components)) in
+    let e : l .c ≡ length cs = omega (arith, after-component-count .component-count .ensures) in
     l .inv .2 ∙ ap (phasesBefore cs) e ∙ before-all cs
 
 pub phase-total-spec : {M : Type 1} → statement M
 phase-total-spec =
-    tie.close (tie.spec Inv-loop μ-loop component-count-requires loop-holds element-copy-out-size size-requires add-total add-c loop-less loop-again returns)
+    tie.close (tie.spec Inv-loop μ-loop (λ c κs. search needs) loop-holds element-copy-out-size (λ c κs. search needs) add-total (λ c. search needs)
+    (λ c. search needs) loop-again returns)

@@ -32,17 +32,14 @@ few c =
 returns : tie.Need-returns Inv-loop μ-loop
 unfolding componentSection
 returns c =
-    let announced : tie.After-u16-at Inv-loop μ-loop = search in
-    let count : tie.After-size16 Inv-loop μ-loop = search in
+    let announced : tie.After-u16-at Inv-loop μ-loop = search in let count : tie.After-size16 Inv-loop μ-loop = search in
     let judged : tie.After-component-count-refusal Inv-loop μ-loop = search in
     (head-refused componentForm _ (announced .u16-at .ensures) (count .size16 .ensures) (judged .component-count-refusal .ensures) (c .before .head-number .ensures) (c .if1 .taken), tt)
 
 loop-holds : tie.Need-loop-holds Inv-loop μ-loop
 loop-holds c =
-    let start : tie.Start Inv-loop μ-loop = search in
-    let announced : tie.After-u16-at Inv-loop μ-loop = search in
-    let count : tie.After-size16 Inv-loop μ-loop = search in
-    let judged : tie.After-component-count-refusal Inv-loop μ-loop = search in
+    let start : tie.Start Inv-loop μ-loop = search in let announced : tie.After-u16-at Inv-loop μ-loop = search in
+    let count : tie.After-size16 Inv-loop μ-loop = search in let judged : tie.After-component-count-refusal Inv-loop μ-loop = search in
     let head : tie.After-head-number Inv-loop μ-loop = search in
     (reading-starts componentForm _ (announced .u16-at .ensures) (count .size16 .ensures) (judged .component-count-refusal .ensures) (head .head-number .ensures) (c .before .if1 .left) (c .section-part .ensures) (omega arith), known-none (start .pre .0) (start .pre .1) (length-replicate {A = ℕ} 64 0))
 
@@ -56,18 +53,15 @@ read-component-requires c κs =
 returns-2 : tie.Need-returns-2 Inv-loop μ-loop
 unfolding componentsIn componentSection
 returns-2 c =
-    let loop : tie.At-loop Inv-loop μ-loop = search in
-    let turn : tie.In-loop Inv-loop μ-loop = search in
+    let loop : tie.At-loop Inv-loop μ-loop = search in let turn : tie.In-loop Inv-loop μ-loop = search in
     let read : tie.After-read-component Inv-loop μ-loop = search in
     (reading-refused (loop .loop .inv .0) (turn .loop-test .taken) _ (read .read-component .ensures) (ap componentRead (c .before .enum-told .given .1)) (c .refusal .ensures), tt)
 
 keep-component-requires : tie.Need-keep-component-requires Inv-loop μ-loop
 unfolding componentsIn
 keep-component-requires c κs =
-    let loop : tie.At-loop Inv-loop μ-loop = search in
-    let turn : tie.In-loop Inv-loop μ-loop = search in
-    let read : tie.After-read-component Inv-loop μ-loop = search in
-    let told : tie.After-read Inv-loop μ-loop = search in
+    let loop : tie.At-loop Inv-loop μ-loop = search in let turn : tie.In-loop Inv-loop μ-loop = search in
+    let read : tie.After-read-component Inv-loop μ-loop = search in let told : tie.After-read Inv-loop μ-loop = search in
     let at = loop .loop .inv .0 in
     let e = read .read-component .ensures in
     let f = ap componentRead (told .read .given .1) in
@@ -76,10 +70,8 @@ keep-component-requires c κs =
 loop-again : tie.Need-loop-again Inv-loop μ-loop
 unfolding componentsIn
 loop-again c =
-    let loop : tie.At-loop Inv-loop μ-loop = search in
-    let turn : tie.In-loop Inv-loop μ-loop = search in
-    let read : tie.After-read-component Inv-loop μ-loop = search in
-    let told : tie.After-read Inv-loop μ-loop = search in
+    let loop : tie.At-loop Inv-loop μ-loop = search in let turn : tie.In-loop Inv-loop μ-loop = search in
+    let read : tie.After-read-component Inv-loop μ-loop = search in let told : tie.After-read Inv-loop μ-loop = search in
     let at = loop .loop .inv .0 in
     let e = read .read-component .ensures in
     let f = ap componentRead (told .read .given .1) in

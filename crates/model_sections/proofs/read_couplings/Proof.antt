@@ -24,17 +24,14 @@ abbrev μ-loop : tie.MeasureT-loop
 returns : tie.Need-returns Inv-loop μ-loop
 unfolding couplingSection
 returns c =
-    let announced : tie.After-u16-at Inv-loop μ-loop = search in
-    let count : tie.After-size16 Inv-loop μ-loop = search in
+    let announced : tie.After-u16-at Inv-loop μ-loop = search in let count : tie.After-size16 Inv-loop μ-loop = search in
     let judged : tie.After-limit-refusal Inv-loop μ-loop = search in
     head-refused (couplingForm _) _ (announced .u16-at .ensures) (count .size16 .ensures) (judged .limit-refusal .ensures) (c .before .head-number .ensures) (c .if1 .taken)
 
 loop-holds : tie.Need-loop-holds Inv-loop μ-loop
 loop-holds c =
-    let announced : tie.After-u16-at Inv-loop μ-loop = search in
-    let count : tie.After-size16 Inv-loop μ-loop = search in
-    let judged : tie.After-limit-refusal Inv-loop μ-loop = search in
-    let head : tie.After-head-number Inv-loop μ-loop = search in
+    let announced : tie.After-u16-at Inv-loop μ-loop = search in let count : tie.After-size16 Inv-loop μ-loop = search in
+    let judged : tie.After-limit-refusal Inv-loop μ-loop = search in let head : tie.After-head-number Inv-loop μ-loop = search in
     (reading-starts (couplingForm _) _ (announced .u16-at .ensures) (count .size16 .ensures) (judged .limit-refusal .ensures) (head .head-number .ensures) (c .before .if1 .left) (c .section-part .ensures) (omega arith), refl)
 
 read-coupling-requires : tie.Need-read-coupling-requires Inv-loop μ-loop
@@ -47,18 +44,15 @@ read-coupling-requires c κs =
 returns-2 : tie.Need-returns-2 Inv-loop μ-loop
 unfolding couplingsIn couplingSection
 returns-2 c =
-    let loop : tie.At-loop Inv-loop μ-loop = search in
-    let turn : tie.In-loop Inv-loop μ-loop = search in
+    let loop : tie.At-loop Inv-loop μ-loop = search in let turn : tie.In-loop Inv-loop μ-loop = search in
     let read : tie.After-read-coupling Inv-loop μ-loop = search in
     reading-refused (loop .loop .inv .0) (turn .loop-test .taken) _ (read .read-coupling .ensures) (ap couplingRead (c .before .enum-told .given .1)) (c .refusal .ensures)
 
 loop-again : tie.Need-loop-again Inv-loop μ-loop
 unfolding couplingsIn
 loop-again c =
-    let loop : tie.At-loop Inv-loop μ-loop = search in
-    let turn : tie.In-loop Inv-loop μ-loop = search in
-    let read : tie.After-read-coupling Inv-loop μ-loop = search in
-    let told : tie.After-read Inv-loop μ-loop = search in
+    let loop : tie.At-loop Inv-loop μ-loop = search in let turn : tie.In-loop Inv-loop μ-loop = search in
+    let read : tie.After-read-coupling Inv-loop μ-loop = search in let told : tie.After-read Inv-loop μ-loop = search in
     let e = read .read-coupling .ensures in
     let f = ap couplingRead (told .read .given .1) in
     let at = loop .loop .inv .0 in

@@ -59,8 +59,7 @@ loop2-holds : tie.Need-loop2-holds Inv-loop2 μ-loop2 Inv-loop μ-loop
 loop2-holds c =
     let start : tie.Start Inv-loop2 μ-loop2 Inv-loop μ-loop = search in
     let there : tie.After-component-count Inv-loop2 μ-loop2 Inv-loop μ-loop = search in
-    let loop : tie.At-loop Inv-loop2 μ-loop2 Inv-loop μ-loop = search in
-    let turn : tie.In-loop Inv-loop2 μ-loop2 Inv-loop μ-loop = search in
+    let loop : tie.At-loop Inv-loop2 μ-loop2 Inv-loop μ-loop = search in let turn : tie.In-loop Inv-loop2 μ-loop2 Inv-loop μ-loop = search in
     let below : loop .loop .c < length (componentsIn (now (start .args .components))) = omega (arith, there .component-count .ensures, turn .loop-test .taken) in
     (loop .loop .inv .0, standing-first (start .pre .1 .holds (loop .loop .c) below) (start .pre .0 .fit (loop .loop .c) below) (loop .loop .inv .2))
 
@@ -76,8 +75,7 @@ returns-2 : tie.Need-returns-2 Inv-loop2 μ-loop2 Inv-loop μ-loop
 unfolding phasesIn phaseSection
 returns-2 c =
     let part : tie.After-section-part Inv-loop2 μ-loop2 Inv-loop μ-loop = search in
-    let loop : tie.At-loop2 Inv-loop2 μ-loop2 Inv-loop μ-loop = search in
-    let turn : tie.In-loop2 Inv-loop2 μ-loop2 Inv-loop μ-loop = search in
+    let loop : tie.At-loop2 Inv-loop2 μ-loop2 Inv-loop μ-loop = search in let turn : tie.In-loop2 Inv-loop2 μ-loop2 Inv-loop μ-loop = search in
     let read : tie.After-read-phase Inv-loop2 μ-loop2 Inv-loop μ-loop = search in
     let at = loop .loop2 .inv .0 in
     let phase = loop .loop2 .inv .1 in
@@ -85,24 +83,21 @@ returns-2 c =
 
 add-i : tie.Need-add-i Inv-loop2 μ-loop2 Inv-loop μ-loop
 add-i c =
-    let count : tie.After-size16 Inv-loop2 μ-loop2 Inv-loop μ-loop = search in
-    let loop : tie.At-loop2 Inv-loop2 μ-loop2 Inv-loop μ-loop = search in
+    let count : tie.After-size16 Inv-loop2 μ-loop2 Inv-loop μ-loop = search in let loop : tie.At-loop2 Inv-loop2 μ-loop2 Inv-loop μ-loop = search in
     let turn : tie.In-loop2 Inv-loop2 μ-loop2 Inv-loop μ-loop = search in
     let below : loop .loop2 .i < count .size16 .result = standing-below (loop .loop2 .inv .1) (turn .loop2-test .taken) _ (reading-right (loop .loop2 .inv .0)) in
     omega arith
 
 add-p : tie.Need-add-p Inv-loop2 μ-loop2 Inv-loop μ-loop
 add-p c =
-    let loop : tie.At-loop2 Inv-loop2 μ-loop2 Inv-loop μ-loop = search in
-    let turn : tie.In-loop2 Inv-loop2 μ-loop2 Inv-loop μ-loop = search in
+    let loop : tie.At-loop2 Inv-loop2 μ-loop2 Inv-loop μ-loop = search in let turn : tie.In-loop2 Inv-loop2 μ-loop2 Inv-loop μ-loop = search in
     omega (arith, loop .loop2 .inv .1 .few, turn .loop2-test .taken)
 
 loop2-again : tie.Need-loop2-again Inv-loop2 μ-loop2 Inv-loop μ-loop
 unfolding phasesIn
 loop2-again c =
     let part : tie.After-section-part Inv-loop2 μ-loop2 Inv-loop μ-loop = search in
-    let loop : tie.At-loop2 Inv-loop2 μ-loop2 Inv-loop μ-loop = search in
-    let turn : tie.In-loop2 Inv-loop2 μ-loop2 Inv-loop μ-loop = search in
+    let loop : tie.At-loop2 Inv-loop2 μ-loop2 Inv-loop μ-loop = search in let turn : tie.In-loop2 Inv-loop2 μ-loop2 Inv-loop μ-loop = search in
     let read : tie.After-read-phase Inv-loop2 μ-loop2 Inv-loop μ-loop = search in
     let at = loop .loop2 .inv .0 in
     let phase = loop .loop2 .inv .1 in

@@ -21,17 +21,14 @@ abbrev μ-loop : tie.MeasureT-loop
 returns : tie.Need-returns Inv-loop μ-loop
 unfolding ruleSection
 returns c =
-    let announced : tie.After-u16-at Inv-loop μ-loop = search in
-    let count : tie.After-size16 Inv-loop μ-loop = search in
+    let announced : tie.After-u16-at Inv-loop μ-loop = search in let count : tie.After-size16 Inv-loop μ-loop = search in
     let judged : tie.After-limit-refusal Inv-loop μ-loop = search in
     head-refused (ruleForm _) _ (announced .u16-at .ensures) (count .size16 .ensures) (judged .limit-refusal .ensures) (c .before .head-number .ensures) (c .if1 .taken)
 
 loop-holds : tie.Need-loop-holds Inv-loop μ-loop
 loop-holds c =
-    let announced : tie.After-u16-at Inv-loop μ-loop = search in
-    let count : tie.After-size16 Inv-loop μ-loop = search in
-    let judged : tie.After-limit-refusal Inv-loop μ-loop = search in
-    let head : tie.After-head-number Inv-loop μ-loop = search in
+    let announced : tie.After-u16-at Inv-loop μ-loop = search in let count : tie.After-size16 Inv-loop μ-loop = search in
+    let judged : tie.After-limit-refusal Inv-loop μ-loop = search in let head : tie.After-head-number Inv-loop μ-loop = search in
     reading-starts (ruleForm _) _ (announced .u16-at .ensures) (count .size16 .ensures) (judged .limit-refusal .ensures) (head .head-number .ensures) (c .before .if1 .left) (c .section-part .ensures) (omega arith)
 
 read-rule-requires : tie.Need-read-rule-requires Inv-loop μ-loop
@@ -44,16 +41,14 @@ read-rule-requires c κs =
 returns-2 : tie.Need-returns-2 Inv-loop μ-loop
 unfolding rulesIn ruleSection ruleFits
 returns-2 c =
-    let loop : tie.At-loop Inv-loop μ-loop = search in
-    let turn : tie.In-loop Inv-loop μ-loop = search in
+    let loop : tie.At-loop Inv-loop μ-loop = search in let turn : tie.In-loop Inv-loop μ-loop = search in
     let read : tie.After-read-rule Inv-loop μ-loop = search in
     reading-refused (loop .loop .inv) (turn .loop-test .taken) _ (read .read-rule .ensures) (ap ruleRead (c .before .enum-told2 .given .1)) (c .refusal .ensures)
 
 loop-again : tie.Need-loop-again Inv-loop μ-loop
 unfolding rulesIn ruleFits
 loop-again c =
-    let loop : tie.At-loop Inv-loop μ-loop = search in
-    let turn : tie.In-loop Inv-loop μ-loop = search in
+    let loop : tie.At-loop Inv-loop μ-loop = search in let turn : tie.In-loop Inv-loop μ-loop = search in
     let read : tie.After-read-rule Inv-loop μ-loop = search in
     reading-more (loop .loop .inv) (turn .loop-test .taken) _ (read .read-rule .ensures) (ap ruleRead (c .enum-told .given .1))
 

@@ -4,19 +4,11 @@ use Rattle.byte_laws.specs.Parts.{restAfter}
 use Rattle.model_sections.proofs.section_rest.Statement.{statement}
 use Rattle.model_sections.proofs.section_rest.Tie as tie
 
-length-of-requires : tie.Need-length-of-requires
-length-of-requires c κs = search needs
-
-add-rest : tie.Need-add-rest
-add-rest c = search needs
-
-rest-requires : tie.Need-rest-requires
-rest-requires c κs = search needs
-
 returns : tie.Need-returns
 unfolding restAfter
 returns c =
     rw (c .rest .ensures, c .before .length-of .ensures .0)
 
 pub section-rest-spec : {M : Type 1} → statement M
-section-rest-spec = tie.close (tie.spec length-of-requires add-rest rest-requires returns)
+section-rest-spec =
+    tie.close (tie.spec (λ c κs. search needs) (λ c. search needs) (λ c κs. search needs) returns)

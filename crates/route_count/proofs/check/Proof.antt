@@ -15,4 +15,5 @@ returns c =
     c .check-linked .ensures .0
 
 pub check-spec : {M : Type 1} → statement M
-check-spec = tie.close (tie.spec check-linked-requires returns)
+check-spec =
+    tie.close (tie.spec check-linked-requires returns)

@@ -9,16 +9,12 @@ use Rattle.definition.specs.Pinned.Decoder.{checkModel}
 use Rattle.route_count.proofs.check_model.Statement.{statement}
 use Rattle.route_count.proofs.check_model.Tie as tie
 
-check-requires : tie.Need-check-requires
-check-requires c κs = search needs
-
-refusal-requires : tie.Need-refusal-requires
-refusal-requires c κs = search needs
-
 returns : tie.Need-returns
 unfolding checkModel
 returns c =
-    c .refusal .ensures ∙ number-of (now (c .before .before .before .args .file)) (c .before .check .result) ∙ ap numberOf (c .before .check .ensures)
+    let start : tie.Start = search in
+    c .refusal .ensures ∙ number-of (now (start .args .file)) (c .before .check .result) ∙ ap numberOf (c .before .check .ensures)
 
 pub check-model-spec : {M : Type 1} → statement M
-check-model-spec = tie.close (tie.spec check-requires refusal-requires returns)
+check-model-spec =
+    tie.close (tie.spec (λ c κs. search needs) (λ c κs. search needs) returns)

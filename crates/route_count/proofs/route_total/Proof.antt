@@ -29,45 +29,36 @@ Inv-loop components ways n total₀ c₀ total c = (c ≤ n) × (total ≤ waysC
 abbrev μ-loop : tie.MeasureT-loop
 μ-loop components ways n total₀ c₀ total c = n - c
 
-component-count-requires : tie.Need-component-count-requires Inv-loop μ-loop
-component-count-requires c κs = search needs
-
-four-ways-requires : tie.Need-four-ways-requires Inv-loop μ-loop
-four-ways-requires c κs = search needs
-
 loop-holds : tie.Need-loop-holds Inv-loop μ-loop
 unfolding tableRoutes
 loop-holds c =
-    let a = c .before .before .before .args in
+    let start : tie.Start Inv-loop μ-loop = search in
+    let a = start .args in
     let f = own (componentsIn (now (a .components))) (now (a .ways)) in
     let e : sumOf f (upFrom 0 (c .before .component-count .result - 0)) ≡ sumOf f (upFrom 0 (length (componentsIn (now (a .components))))) = over-start f (c .before .component-count .result) ∙ ap (λ n. sumOf f (upFrom 0 n)) (c .before .component-count .ensures) in
     (omega arith, omega arith, omega (arith, e, c .four-ways .ensures))
 
 own-ways-requires : tie.Need-own-ways-requires Inv-loop μ-loop
 own-ways-requires c κs =
-    omega (arith, c .before .before .before .before .before .pre, c .before .before .before .component-count .ensures)
-
-capped-requires : tie.Need-capped-requires Inv-loop μ-loop
-capped-requires c κs = search needs
-
-add-c : tie.Need-add-c Inv-loop μ-loop
-add-c c = search needs
-
-loop-less : tie.Need-loop-less Inv-loop μ-loop
-loop-less c = search needs
+    let start : tie.Start Inv-loop μ-loop = search in let after-component-count : tie.After-component-count Inv-loop μ-loop = search in
+    omega (arith, start .pre, after-component-count .component-count .ensures)
 
 loop-again : tie.Need-loop-again Inv-loop μ-loop
 loop-again c =
-    let a = c .before .before .before .before .before .before .before .args in
+    let start : tie.Start Inv-loop μ-loop = search in let at-loop : tie.At-loop Inv-loop μ-loop = search in
+    let after-component-count : tie.After-component-count Inv-loop μ-loop = search in
+    let a = start .args in
     let f = own (componentsIn (now (a .components))) (now (a .ways)) in
-    (omega arith, omega arith, omega (arith, over-more f (c .before .before .before .loop .c) (c .before .before .before .before .before .component-count .result) (omega arith)))
+    (omega arith, omega arith, omega (arith, over-more f (at-loop .loop .c) (after-component-count .component-count .result) (omega arith)))
 
 returns : tie.Need-returns Inv-loop μ-loop
 returns c =
-    let a = c .before .before .before .before .before .args in
+    let start : tie.Start Inv-loop μ-loop = search in let after-component-count : tie.After-component-count Inv-loop μ-loop = search in
+    let a = start .args in
     let f = own (componentsIn (now (a .components))) (now (a .ways)) in
-    omega (arith, over-end f (c .before .loop .c) (c .before .before .before .component-count .result) (omega arith))
+    omega (arith, over-end f (c .before .loop .c) (after-component-count .component-count .result) (omega arith))
 
 pub route-total-spec : {M : Type 1} → statement M
 route-total-spec =
-    tie.close (tie.spec Inv-loop μ-loop component-count-requires four-ways-requires loop-holds own-ways-requires capped-requires add-c loop-less loop-again returns)
+    tie.close (tie.spec Inv-loop μ-loop (λ c κs. search needs) (λ c κs. search needs) loop-holds own-ways-requires (λ c κs. search needs)
+    (λ c. search needs) (λ c. search needs) loop-again returns)

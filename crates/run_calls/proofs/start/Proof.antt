@@ -11,45 +11,31 @@ use mathlib.Core.Path.{_∙_, ap, sym}
 use Rattle.run_calls.proofs.start.Statement.{statement}
 use Rattle.run_calls.proofs.start.Tie as tie
 
-check-requires : tie.Need-check-requires
-check-requires c κs = search needs
-
-enum-known-checked : tie.Need-enum-known-checked
-enum-known-checked c = search needs
-
-enum-told : tie.Need-enum-told
-enum-told c = search needs
-
-refusal-requires : tie.Need-refusal-requires
-refusal-requires c κs = search needs
-
-wide16-requires : tie.Need-wide16-requires
-wide16-requires c κs = search needs
-
 returns : tie.Need-returns
 returns c =
-    let a = c .before .before .before .before .before .before .before .args in
-    let told = sym (ap (checkedAs (a .file .now)) (c .before .before .enum-told .given .1)) ∙ c .before .before .before .before .check .ensures in
-    rw (c .wide16 .ensures, c .before .refusal .ensures, c .before .before .enum-told .given .1) (start-refused (a .file .now) (a .run .now) _ told)
-
-components-of-requires : tie.Need-components-of-requires
-components-of-requires c κs = search needs
+    let start : tie.Start = search in let after-enum-told : tie.After-enum-told = search in let after-check : tie.After-check = search in
+    let a = start .args in
+    let told = sym (ap (checkedAs (a .file .now)) (after-enum-told .enum-told .given .1)) ∙ after-check .check .ensures in
+    rw (c .wide16 .ensures, c .before .refusal .ensures, after-enum-told .enum-told .given .1) (start-refused (a .file .now) (a .run .now) _ told)
 
 start-run-requires : tie.Need-start-run-requires
 start-run-requires c κs =
-    let a = c .before .before .before .before .before .before .before .before .args in
-    let told = sym (ap (checkedAs (a .file .now)) (c .before .before .before .checked .given .1)) ∙ c .before .before .before .before .before .check .ensures in
-    rw (c .before .components-of .ensures) (few-components (a .file .now) (c .before .before .before .checked .given .0 .0) (λ i. c .before .before .before .before .before .before .before .shared-slice-known .given i .fits) told)
-
-same-length : tie.Need-same-length
-same-length c = search needs
+    let start : tie.Start = search in let after-checked : tie.After-checked = search in let after-check : tie.After-check = search in
+    let after-shared-slice-known : tie.After-shared-slice-known = search in
+    let a = start .args in
+    let told = sym (ap (checkedAs (a .file .now)) (after-checked .checked .given .1)) ∙ after-check .check .ensures in
+    rw (c .before .components-of .ensures) (few-components (a .file .now) (after-checked .checked .given .0 .0) (λ i. after-shared-slice-known .shared-slice-known .given i .fits) told)
 
 returns-2 : tie.Need-returns-2
 returns-2 c =
-    let a = c .before .before .before .before .before .before .before .before .before .before .before .args in
-    let told = sym (ap (checkedAs (a .file .now)) (c .before .before .before .before .before .before .checked .given .1)) ∙ c .before .before .before .before .before .before .before .before .check .ensures in
-    c .before .before .start-run .ensures ∙ ap (λ s. wrote (a .run .now) (ok (runBytes (startRun (bare s []))))) (c .before .before .before .before .components-of .ensures) ∙ start-accepted (a .file .now) (a .run .now) (c .before .before .before .before .before .before .checked .given .0 .0) told
+    let start : tie.Start = search in let after-start-run : tie.After-start-run = search in
+    let after-components-of : tie.After-components-of = search in let after-checked : tie.After-checked = search in
+    let after-check : tie.After-check = search in
+    let a = start .args in
+    let told = sym (ap (checkedAs (a .file .now)) (after-checked .checked .given .1)) ∙ after-check .check .ensures in
+    after-start-run .start-run .ensures ∙ ap (λ s. wrote (a .run .now) (ok (runBytes (startRun (bare s []))))) (after-components-of .components-of .ensures) ∙ start-accepted (a .file .now) (a .run .now) (after-checked .checked .given .0 .0) told
 
 pub start-spec : {M : Type 1} → statement M
 start-spec =
-    tie.close (tie.spec check-requires enum-known-checked enum-told refusal-requires wide16-requires returns components-of-requires start-run-requires same-length returns-2)
+    tie.close (tie.spec (λ c κs. search needs) (λ c. search needs) (λ c. search needs) (λ c κs. search needs) (λ c κs. search needs) returns
+    (λ c κs. search needs) start-run-requires (λ c. search needs) returns-2)

@@ -6,18 +6,10 @@ use Rattle.run_state.proofs.put_at.Tie as tie
 use Rattle.run_state.proofs.put_at.Reads as reads
 use Rattle.run_state.proofs.put_at.Lts as lts
 
-element-write-phase : tie.Need-element-write-phase
-element-write-phase c = search needs
-
-mul-last : tie.Need-mul-last
-mul-last c = search needs
-
-element-write-last : tie.Need-element-write-last
-element-write-last c = search needs
-
 returns : tie.Need-returns
 unfolding changedAt
 returns c = search needs
 
 pub put-at-spec : {M : Type 1} → statement M
-put-at-spec = tie.close (tie.spec element-write-phase mul-last element-write-last returns)
+put-at-spec =
+    tie.close (tie.spec (λ c. search needs) (λ c. search needs) (λ c. search needs) returns)

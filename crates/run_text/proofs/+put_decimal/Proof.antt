@@ -34,7 +34,8 @@ put-decimal-calls t = (digit-reads.Asked, digit-reads.Learnt, put-byte-reads.Ask
 
 put-decimal-returns : (t : ℕ) → put-decimal-lts.Need-returns (put-decimal-calls t) (put-decimal-at t) put-decimal.Post
 put-decimal-returns t c =
-    let a = c .before .before .args in sym (decimal-none (a .k) (a .n) (now (a .out), a .at) (c .if1 .taken))
+    let start : put-decimal-lts.Start (put-decimal-calls t) (put-decimal-at t) put-decimal.Post = search in
+    let a = start .args in sym (decimal-none (a .k) (a .n) (now (a .out), a .at) (c .if1 .taken))
 
 put-decimal-digit-requires : (t : ℕ) → put-decimal-lts.Need-digit-requires (put-decimal-calls t) (put-decimal-at t) put-decimal.Post
 put-decimal-digit-requires t c κs = search needs
@@ -47,9 +48,13 @@ put-decimal-same-length t c = search needs
 
 put-decimal-returns-2 : (t : ℕ) → put-decimal-lts.Need-returns-2 (put-decimal-calls t) (put-decimal-at t) put-decimal.Post
 put-decimal-returns-2 t c =
-    let a = c .before .before .before .before .before .before .before .before .args in
+    let start : put-decimal-lts.Start (put-decimal-calls t) (put-decimal-at t) put-decimal.Post = search in
+    let after-put-byte : put-decimal-lts.After-put-byte (put-decimal-calls t) (put-decimal-at t) put-decimal.Post = search in
+    let after-digit : put-decimal-lts.After-digit (put-decimal-calls t) (put-decimal-at t) put-decimal.Post = search in
+    let then2 : put-decimal-lts.Then2 (put-decimal-calls t) (put-decimal-at t) put-decimal.Post = search in
+    let a = start .args in
     let page : Page = (now (a .out), a .at) in
-    c .before .before .put-byte .ensures ∙ ap (λ b. put1 b page) (c .before .before .before .digit .ensures) ∙ sym (decimal-one (a .k) (a .n) page (omega arith) (c .before .before .before .before .before .if2 .taken))
+    after-put-byte .put-byte .ensures ∙ ap (λ b. put1 b page) (after-digit .digit .ensures) ∙ sym (decimal-one (a .k) (a .n) page (omega arith) (then2 .if2 .taken))
 
 put-decimal-sub-put-decimal : (t : ℕ) → put-decimal-lts.Need-sub-put-decimal (put-decimal-calls t) (put-decimal-at t) put-decimal.Post
 put-decimal-sub-put-decimal t c = search needs
@@ -68,10 +73,14 @@ put-decimal-same-length-2 t c = search needs
 
 put-decimal-returns-3 : (t : ℕ) → put-decimal-lts.Need-returns-3 (put-decimal-calls t) (put-decimal-at t) put-decimal.Post
 put-decimal-returns-3 t c =
-    let a = c .before .before .before .before .before .before .before .before .before .before .before .before .args in
+    let start : put-decimal-lts.Start (put-decimal-calls t) (put-decimal-at t) put-decimal.Post = search in
+    let after-put-byte2 : put-decimal-lts.After-put-byte2 (put-decimal-calls t) (put-decimal-at t) put-decimal.Post = search in
+    let after-digit2 : put-decimal-lts.After-digit2 (put-decimal-calls t) (put-decimal-at t) put-decimal.Post = search in
+    let after-put-decimal : put-decimal-lts.After-put-decimal (put-decimal-calls t) (put-decimal-at t) put-decimal.Post = search in
+    let a = start .args in
     let page : Page = (now (a .out), a .at) in
-    let p = c .before .before .before .before .before .before .before .put-decimal in
-    c .before .before .put-byte2 .ensures ∙ ap (λ b. put1 b (p .last .0, p .result)) (c .before .before .before .digit2 .ensures) ∙ ap (put1 (digit (a .n % 10))) (p .ensures)
+    let p = after-put-decimal .put-decimal in
+    after-put-byte2 .put-byte2 .ensures ∙ ap (λ b. put1 b (p .last .0, p .result)) (after-digit2 .digit2 .ensures) ∙ ap (put1 (digit (a .n % 10))) (p .ensures)
     ∙ sym (decimal-more (a .k) (a .n) page (omega arith) (omega arith))
 
 pub +put-decimal-spec : {M : Type 1} → statement M

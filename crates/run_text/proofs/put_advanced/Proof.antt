@@ -16,39 +16,18 @@ use Rattle.little_endian.proofs.front.Reads as front-reads
 use Rattle.run_text.proofs.put_last.Reads as put-last-reads
 use Rattle.run_text.proofs.put_trace.Reads as put-trace-reads
 
-front-requires : tie.Need-front-requires
-front-requires c κs = search needs
-
-advance-requires : tie.Need-advance-requires
-advance-requires c κs = search needs
-
-front-requires-2 : tie.Need-front-requires-2
-front-requires-2 c κs = search needs
-
-put-trace-requires : tie.Need-put-trace-requires
-put-trace-requires c κs = search needs
-
-put-last-requires : tie.Need-put-last-requires
-put-last-requires c κs = search needs
-
-same-length : tie.Need-same-length
-same-length c = search needs
-
-same-length-2 : tie.Need-same-length-2
-same-length-2 c = search needs
-
-same-length-3 : tie.Need-same-length-3
-same-length-3 c = search needs
-
 returns : tie.Need-returns
 returns c =
-    let a = c .before .before .before .before .before .before .before .before .before .before .before .before .before .before .before .before .before .before .before .before .before .before .before .args in
-    let r = c .before .before .before .before .before .before .before .before .before .before .before .before .before .before .before .advance in
-    let n : now (c .before .before .before .before .before .before .before .before .before .before .before .before .before .before .before .before .before .front .result) ≡ [] = c .before .before .before .before .before .before .before .before .before .before .before .before .before .before .before .before .before .front .ensures in
+    let start : tie.Start = search in let after-put-last : tie.After-put-last = search in let after-put-trace : tie.After-put-trace = search in
+    let after-front2 : tie.After-front2 = search in let after-advance : tie.After-advance = search in let after-front : tie.After-front = search in
+    let a = start .args in
+    let r = after-advance .advance in
+    let n : now (after-front .front .result) ≡ [] = after-front .front .ensures in
     let e : advancedOf (r .last .1 .0) (r .last .1 .1 .1 .1 .0) (r .result) ≡ advance (now (a .model)) (now (a .run)) (a .end) [] (now (a .trace)) = r .ensures ∙ ap (λ b. advance (now (a .model)) (now (a .run)) (a .end) b (now (a .trace))) n in
-    rw (← e, c .before .before .put-last .ensures, c .before .before .before .before .before .before .before .put-trace .ensures, c .before .before .before .before .before .before .before .before .front2 .ensures)
+    rw (← e, after-put-last .put-last .ensures, after-put-trace .put-trace .ensures, after-front2 .front2 .ensures)
     (sym (advanced-text (r .last .1 .0) (r .last .1 .1 .1 .1 .0) (r .result) (now (a .out), a .at)))
 
 pub put-advanced-spec : {M : Type 1} → statement M
 put-advanced-spec =
-    tie.close (tie.spec front-requires advance-requires front-requires-2 put-trace-requires put-last-requires same-length same-length-2 same-length-3 returns)
+    tie.close (tie.spec (λ c κs. search needs) (λ c κs. search needs) (λ c κs. search needs) (λ c κs. search needs) (λ c κs. search needs)
+    (λ c. search needs) (λ c. search needs) (λ c. search needs) returns)

@@ -10,15 +10,6 @@ use Rattle.run_text.proofs.put_byte.Tie as tie
 use Rattle.run_text.proofs.put_byte.Reads as reads
 use Rattle.run_text.proofs.put_byte.Lts as lts
 
-slice-write-out : tie.Need-slice-write-out
-slice-write-out c = search needs
-
-add-result : tie.Need-add-result
-add-result c = search needs
-
-same-length : tie.Need-same-length
-same-length c = search needs
-
 returns : tie.Need-returns
 unfolding put1
 returns c =
@@ -30,4 +21,5 @@ returns-2 c =
     let a = c .before .args in simp (le-ltb _ _ (c .if1 .left), set-out (now (a .out)) (a .at) (a .b) (c .if1 .left))
 
 pub put-byte-spec : {M : Type 1} → statement M
-put-byte-spec = tie.close (tie.spec slice-write-out add-result same-length returns returns-2)
+put-byte-spec =
+    tie.close (tie.spec (λ c. search needs) (λ c. search needs) (λ c. search needs) returns returns-2)

@@ -13,21 +13,14 @@ use Rattle.run_text.proofs.put_field.Lts as lts
 use Rattle.run_text.proofs.put_byte.Reads as put-byte-reads
 use Rattle.run_text.proofs.put_decimal.Reads as put-decimal-reads
 
-put-decimal-requires : tie.Need-put-decimal-requires
-put-decimal-requires c κs = search needs
-
-put-byte-requires : tie.Need-put-byte-requires
-put-byte-requires c κs = search needs
-
-same-length : tie.Need-same-length
-same-length c = search needs
-
 returns : tie.Need-returns
 unfolding field
 returns c =
-    let a = c .before .before .before .before .before .before .before .before .before .args in
-    c .before .before .put-byte .ensures ∙ ap (put1 (a .after)) (c .before .before .before .before .before .before .put-decimal .ensures)
+    let start : tie.Start = search in let after-put-byte : tie.After-put-byte = search in let after-put-decimal : tie.After-put-decimal = search in
+    let a = start .args in
+    after-put-byte .put-byte .ensures ∙ ap (put1 (a .after)) (after-put-decimal .put-decimal .ensures)
     ∙ sym (put-snoc (decimalIn maxDigits (a .n)) (a .after) (now (a .out), a .at))
 
 pub put-field-spec : {M : Type 1} → statement M
-put-field-spec = tie.close (tie.spec put-decimal-requires put-byte-requires same-length returns)
+put-field-spec =
+    tie.close (tie.spec (λ c κs. search needs) (λ c κs. search needs) (λ c. search needs) returns)

@@ -24,32 +24,17 @@ Inv-loop out₀ at moment step count rows n k₀ to₀ out k to = (length out �
 abbrev μ-loop : tie.MeasureT-loop
 μ-loop out₀ at moment step count rows n k₀ to₀ out k to = n - k
 
-size16-requires : tie.Need-size16-requires Inv-loop μ-loop
-size16-requires c κs = search needs
-
 loop-holds : tie.Need-loop-holds Inv-loop μ-loop
 loop-holds c =
     (refl, omega arith, rw (c .size16 .ensures, sub-zero))
 
-mul-rest : tie.Need-mul-rest Inv-loop μ-loop
-mul-rest c = search needs
-
-rest-requires : tie.Need-rest-requires Inv-loop μ-loop
-rest-requires c κs = search needs
-
-put-message-requires : tie.Need-put-message-requires Inv-loop μ-loop
-put-message-requires c κs = search needs
-
-add-k : tie.Need-add-k Inv-loop μ-loop
-add-k c = search needs
-
-loop-less : tie.Need-loop-less Inv-loop μ-loop
-loop-less c = search needs
-
 loop-again : tie.Need-loop-again Inv-loop μ-loop
 loop-again c =
-    let a = c .before .before .before .before .before .before .before .before .before .before .args in let l = c .before .before .before .before .before .before .loop in
-    (c .before .before .put-message .kept .0 ∙ l .inv .0, omega arith, rw (c .before .before .put-message .ensures, c .before .before .before .rest .ensures) (messages-more (c .before .before .before .before .before .before .before .size16 .result) (l .k) (a .moment) (a .step) (now (a .rows)) (l .out, l .to) (omega arith) ∙ l .inv .2))
+    let start : tie.Start Inv-loop μ-loop = search in let after-put-message : tie.After-put-message Inv-loop μ-loop = search in
+    let after-rest : tie.After-rest Inv-loop μ-loop = search in let at-loop : tie.At-loop Inv-loop μ-loop = search in
+    let after-size16 : tie.After-size16 Inv-loop μ-loop = search in
+    let a = start .args in let l = at-loop .loop in
+    (after-put-message .put-message .kept .0 ∙ l .inv .0, omega arith, rw (after-put-message .put-message .ensures, after-rest .rest .ensures) (messages-more (after-size16 .size16 .result) (l .k) (a .moment) (a .step) (now (a .rows)) (l .out, l .to) (omega arith) ∙ l .inv .2))
 
 same-length : tie.Need-same-length Inv-loop μ-loop
 same-length c =
@@ -57,10 +42,12 @@ same-length c =
 
 returns : tie.Need-returns Inv-loop μ-loop
 returns c =
-    let a = c .before .before .before .before .before .args in let l = c .before .loop in
-    let z : c .before .before .size16 .result - l .k ≡ 0 = omega arith in
+    let start : tie.Start Inv-loop μ-loop = search in let after-size16 : tie.After-size16 Inv-loop μ-loop = search in
+    let a = start .args in let l = c .before .loop in
+    let z : after-size16 .size16 .result - l .k ≡ 0 = omega arith in
     sym (messages-none (a .moment) (a .step) (drop (messageSize * l .k) (now (a .rows))) (l .out, l .to)) ∙ rw (← z) (l .inv .2)
 
 pub put-messages-spec : {M : Type 1} → statement M
 put-messages-spec =
-    tie.close (tie.spec Inv-loop μ-loop size16-requires loop-holds mul-rest rest-requires put-message-requires add-k loop-less loop-again same-length returns)
+    tie.close (tie.spec Inv-loop μ-loop (λ c κs. search needs) loop-holds (λ c. search needs) (λ c κs. search needs) (λ c κs. search needs)
+    (λ c. search needs) (λ c. search needs) loop-again same-length returns)

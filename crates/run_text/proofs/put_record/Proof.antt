@@ -11,30 +11,19 @@ use Rattle.little_endian.proofs.u16_at.Reads as u16-at-reads
 use Rattle.little_endian.proofs.u64_at.Reads as u64-at-reads
 use Rattle.run_text.proofs.put_messages.Reads as put-messages-reads
 
-u64-at-requires : tie.Need-u64-at-requires
-u64-at-requires c κs = search needs
-
-u16-at-requires : tie.Need-u16-at-requires
-u16-at-requires c κs = search needs
-
-u16-at-requires-2 : tie.Need-u16-at-requires-2
-u16-at-requires-2 c κs = search needs
-
-rest-requires : tie.Need-rest-requires
-rest-requires c κs = search needs
-
-put-messages-requires : tie.Need-put-messages-requires
-put-messages-requires c κs = search needs
-
 same-length : tie.Need-same-length
 same-length c =
-    c .before .before .put-messages .kept .0
+    let after-put-messages : tie.After-put-messages = search in
+    after-put-messages .put-messages .kept .0
 
 returns : tie.Need-returns
 unfolding recordLines
 returns c =
-    rw (c .before .before .put-messages .ensures, c .before .before .before .rest .ensures, c .before .before .before .before .u16-at2 .ensures, c .before .before .before .before .before .u16-at .ensures, c .before .before .before .before .before .before .u64-at .ensures)
+    let after-put-messages : tie.After-put-messages = search in let after-rest : tie.After-rest = search in
+    let after-u16-at2 : tie.After-u16-at2 = search in let after-u16-at : tie.After-u16-at = search in let after-u64-at : tie.After-u64-at = search in
+    rw (after-put-messages .put-messages .ensures, after-rest .rest .ensures, after-u16-at2 .u16-at2 .ensures, after-u16-at .u16-at .ensures, after-u64-at .u64-at .ensures)
 
 pub put-record-spec : {M : Type 1} → statement M
 put-record-spec =
-    tie.close (tie.spec u64-at-requires u16-at-requires u16-at-requires-2 rest-requires put-messages-requires same-length returns)
+    tie.close (tie.spec (λ c κs. search needs) (λ c κs. search needs) (λ c κs. search needs) (λ c κs. search needs) (λ c κs. search needs)
+    same-length returns)

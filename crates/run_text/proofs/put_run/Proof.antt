@@ -14,44 +14,25 @@ use Rattle.engine.proofs.start.Reads as start-reads
 use Rattle.run_text.proofs.put_advanced.Reads as put-advanced-reads
 use Rattle.run_text.proofs.put_refused.Reads as put-refused-reads
 
-start-requires : tie.Need-start-requires
-start-requires c κs = search needs
-
-put-advanced-requires : tie.Need-put-advanced-requires
-put-advanced-requires c κs = search needs
-
-put-refused-requires : tie.Need-put-refused-requires
-put-refused-requires c κs = search needs
-
-same-length : tie.Need-same-length
-same-length c = search needs
-
-same-length-2 : tie.Need-same-length-2
-same-length-2 c = search needs
-
-same-length-3 : tie.Need-same-length-3
-same-length-3 c = search needs
-
 returns : tie.Need-returns
 returns c =
-    let a = c .before .before .before .before .before .before .before .before .before .before .before .before .before .before .before .before .before .before .before .before .args in
-    let s = c .before .before .before .before .before .before .before .before .before .before .before .before .before .before .start in
+    let start′ : tie.Start = search in let after-put-advanced : tie.After-put-advanced = search in let then1 : tie.Then1 = search in
+    let after-start : tie.After-start = search in
+    let a = start′ .args in
+    let s = after-start .start in
     let e : wroteOf (s .last .1 .0) (s .result) ≡ start (now (a .model)) (now (a .run)) = s .ensures in
-    rw (← e, started-on (now (a .model)) (a .end) (now (a .trace)) (s .last .1 .0) (s .result) (c .before .before .before .before .before .before .before .before .before .before .if1 .taken)) (c .before .before .before .before .before .before .put-advanced .ensures)
-
-same-length-4 : tie.Need-same-length-4
-same-length-4 c = search needs
-
-same-length-5 : tie.Need-same-length-5
-same-length-5 c = search needs
+    rw (← e, started-on (now (a .model)) (a .end) (now (a .trace)) (s .last .1 .0) (s .result) (then1 .if1 .taken)) (after-put-advanced .put-advanced .ensures)
 
 returns-2 : tie.Need-returns-2
 returns-2 c =
-    let a = c .before .before .before .before .before .before .before .before .before .before .before .before .before .before .args in
-    let s = c .before .before .before .before .before .before .before .before .start in
+    let start′ : tie.Start = search in let after-put-refused : tie.After-put-refused = search in let else1 : tie.Else1 = search in
+    let after-start : tie.After-start = search in
+    let a = start′ .args in
+    let s = after-start .start in
     let e : wroteOf (s .last .1 .0) (s .result) ≡ start (now (a .model)) (now (a .run)) = s .ensures in
-    rw (← e, started-off (now (a .model)) (a .end) (now (a .trace)) (s .last .1 .0) (s .result) (c .before .before .before .before .if1 .left)) (c .before .before .put-refused .ensures)
+    rw (← e, started-off (now (a .model)) (a .end) (now (a .trace)) (s .last .1 .0) (s .result) (else1 .if1 .left)) (after-put-refused .put-refused .ensures)
 
 pub put-run-spec : {M : Type 1} → statement M
 put-run-spec =
-    tie.close (tie.spec start-requires put-advanced-requires put-refused-requires same-length same-length-2 same-length-3 returns same-length-4 same-length-5 returns-2)
+    tie.close (tie.spec (λ c κs. search needs) (λ c κs. search needs) (λ c κs. search needs) (λ c. search needs) (λ c. search needs)
+    (λ c. search needs) returns (λ c. search needs) (λ c. search needs) returns-2)

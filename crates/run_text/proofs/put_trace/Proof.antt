@@ -30,44 +30,21 @@ loop-holds c =
 
 same-length : tie.Need-same-length Inv-loop μ-loop
 same-length c =
-    c .before .before .loop .inv .0
+    let at-loop : tie.At-loop Inv-loop μ-loop = search in
+    at-loop .loop .inv .0
 
 returns : tie.Need-returns Inv-loop μ-loop
 returns c =
-    let a = c .before .before .before .before .before .args in let l = c .before .before .loop in
+    let start : tie.Start Inv-loop μ-loop = search in let at-loop : tie.At-loop Inv-loop μ-loop = search in
+    let a = start .args in let l = at-loop .loop in
     sym (lines-past (l .turns) (l .from) (now (a .trace)) (l .out, l .to) (c .if1 .taken)) ∙ l .inv .1
-
-rest-requires : tie.Need-rest-requires Inv-loop μ-loop
-rest-requires c κs = search needs
-
-put-record-requires : tie.Need-put-record-requires Inv-loop μ-loop
-put-record-requires c κs = search needs
-
-u16-at-requires : tie.Need-u16-at-requires Inv-loop μ-loop
-u16-at-requires c κs = search needs
-
-size16-requires : tie.Need-size16-requires Inv-loop μ-loop
-size16-requires c κs = search needs
-
-mul-from : tie.Need-mul-from Inv-loop μ-loop
-mul-from c = search needs
-
-add-from : tie.Need-add-from Inv-loop μ-loop
-add-from c = search needs
-
-add-from-2 : tie.Need-add-from-2 Inv-loop μ-loop
-add-from-2 c = search needs
-
-sub-turns : tie.Need-sub-turns Inv-loop μ-loop
-sub-turns c = search needs
-
-loop-less : tie.Need-loop-less Inv-loop μ-loop
-loop-less c = search needs
 
 loop-again : tie.Need-loop-again Inv-loop μ-loop
 loop-again c =
-    let a = c .before .before .before .before .before .before .before .before .before .before .before .before .args in let l = c .before .before .before .before .before .before .before .before .before .loop in
-    (c .before .before .before .before .put-record .kept .0 ∙ l .inv .0, rw (c .size16 .ensures, c .before .u16-at .ensures, c .before .before .before .before .put-record .ensures, c .before .before .before .before .before .before .rest .ensures) (lines-more (l .turns) (l .from) (now (a .trace)) (l .out, l .to) (omega arith) (omega arith) ∙ l .inv .1))
+    let start : tie.Start Inv-loop μ-loop = search in let after-put-record : tie.After-put-record Inv-loop μ-loop = search in
+    let after-rest : tie.After-rest Inv-loop μ-loop = search in let at-loop : tie.At-loop Inv-loop μ-loop = search in
+    let a = start .args in let l = at-loop .loop in
+    (after-put-record .put-record .kept .0 ∙ l .inv .0, rw (c .size16 .ensures, c .before .u16-at .ensures, after-put-record .put-record .ensures, after-rest .rest .ensures) (lines-more (l .turns) (l .from) (now (a .trace)) (l .out, l .to) (omega arith) (omega arith) ∙ l .inv .1))
 
 same-length-2 : tie.Need-same-length-2 Inv-loop μ-loop
 same-length-2 c =
@@ -75,28 +52,13 @@ same-length-2 c =
 
 returns-2 : tie.Need-returns-2 Inv-loop μ-loop
 returns-2 c =
-    let a = c .before .before .before .before .args in let l = c .before .loop in
+    let start : tie.Start Inv-loop μ-loop = search in
+    let a = start .args in let l = c .before .loop in
     let z : l .turns ≡ 0 = omega arith in
     sym (lines-none (l .from) (now (a .trace)) (l .out, l .to)) ∙ (rw z at (l .inv .1))
 
 pub put-trace-spec : {M : Type 1} → statement M
 put-trace-spec =
-    tie.close
-    (tie.spec
-    Inv-loop
-    μ-loop
-    loop-holds
-    same-length
-    returns
-    rest-requires
-    put-record-requires
-    u16-at-requires
-    size16-requires
-    mul-from
-    add-from
-    add-from-2
-    sub-turns
-    loop-less
-    loop-again
-    same-length-2
-    returns-2)
+    tie.close (tie.spec Inv-loop μ-loop loop-holds same-length returns (λ c κs. search needs) (λ c κs. search needs) (λ c κs. search needs)
+    (λ c κs. search needs) (λ c. search needs) (λ c. search needs) (λ c. search needs) (λ c. search needs) (λ c. search needs) loop-again
+    same-length-2 returns-2)

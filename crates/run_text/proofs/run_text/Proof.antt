@@ -8,23 +8,12 @@ use Rattle.run_text.proofs.run_text.Reads as reads
 use Rattle.run_text.proofs.run_text.Lts as lts
 use Rattle.run_text.proofs.put_input.Reads as put-input-reads
 
-slice-aggregate-put-input : tie.Need-slice-aggregate-put-input
-slice-aggregate-put-input c = search needs
-
-slice-aggregate-put-input-2 : tie.Need-slice-aggregate-put-input-2
-slice-aggregate-put-input-2 c = search needs
-
-put-input-requires : tie.Need-put-input-requires
-put-input-requires c κs = search needs
-
-same-length : tie.Need-same-length
-same-length c = search needs
-
 returns : tie.Need-returns
 unfolding runText
 returns c =
-    c .before .before .before .before .put-input .ensures
+    let after-put-input : tie.After-put-input = search in
+    after-put-input .put-input .ensures
 
 pub run-text-spec : {M : Type 1} → statement M
 run-text-spec =
-    tie.close (tie.spec slice-aggregate-put-input slice-aggregate-put-input-2 put-input-requires same-length returns)
+    tie.close (tie.spec (λ c. search needs) (λ c. search needs) (λ c κs. search needs) (λ c. search needs) returns)

@@ -16,24 +16,20 @@ use Rattle.run_text.proofs.whole_text.Lts as lts
 use Rattle.little_endian.proofs.front.Reads as front-reads
 use Rattle.run_text.proofs.run_text.Reads as run-text-reads
 
-front-requires : tie.Need-front-requires
-front-requires c κs = search needs
-
-run-text-requires : tie.Need-run-text-requires
-run-text-requires c κs = search needs
-
 returns : tie.Need-returns
 returns c =
-    let a = c .before .before .before .before .args in
+    let start : tie.Start = search in let after-front : tie.After-front = search in
+    let a = start .args in
     let page : length (now (a .text)) ≡ textRoom = search needs in
     let buffer : length (now (a .input)) ≡ inputRoom = search needs in (
       λ input read.
-          let same : runText (now (c .before .before .front .result)) ≡ runText input
-          = ap runText (c .before .before .front .ensures ∙ read ∙ ap (λ k. take k input) buffer) ∙ front-same input in
+          let same : runText (now (after-front .front .result)) ≡ runText input
+          = ap runText (after-front .front .ensures ∙ read ∙ ap (λ k. take k input) buffer) ∙ front-same input in
           put-whole (runText input) (now (a .text)) (c .run-text .last .1 .0) (c .run-text .result) (omega (arith, text-fits input, page))
           (c .run-text .ensures ∙ ap (λ t. put t (now (a .text), 0)) same),
       c .run-text .kept .1 .0 ∙ page,
     )
 
 pub whole-text-spec : {M : Type 1} → statement M
-whole-text-spec = tie.close (tie.spec front-requires run-text-requires returns)
+whole-text-spec =
+    tie.close (tie.spec (λ c κs. search needs) (λ c κs. search needs) returns)

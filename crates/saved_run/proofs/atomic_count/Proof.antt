@@ -20,47 +20,35 @@ Inv-loop components n k₀ c₀ k c = (c ≤ n) × (k ≤ c) × (k ≡ length (k
 abbrev μ-loop : tie.MeasureT-loop
 μ-loop components n k₀ c₀ k c = n - c
 
-component-count-requires : tie.Need-component-count-requires Inv-loop μ-loop
-component-count-requires c κs = search needs
-
 loop-holds : tie.Need-loop-holds Inv-loop μ-loop
 unfolding keep upFrom
 loop-holds c =
     (omega arith, omega arith, refl)
-
-is-atomic-requires : tie.Need-is-atomic-requires Inv-loop μ-loop
-is-atomic-requires c κs = search needs
-
-one-if-requires : tie.Need-one-if-requires Inv-loop μ-loop
-one-if-requires c κs = search needs
 
 add-k : tie.Need-add-k Inv-loop μ-loop
 add-k c =
     let b = one-most (c .before .is-atomic .result) in
     search needs
 
-add-c : tie.Need-add-c Inv-loop μ-loop
-add-c c = search needs
-
-loop-less : tie.Need-loop-less Inv-loop μ-loop
-loop-less c = search needs
-
 loop-again : tie.Need-loop-again Inv-loop μ-loop
 loop-again c =
-    let l = c .before .before .before .loop in
+    let start : tie.Start Inv-loop μ-loop = search in let at-loop : tie.At-loop Inv-loop μ-loop = search in
+    let l = at-loop .loop in
     let b = one-most (c .before .is-atomic .result) in (
       omega arith,
       omega (arith, c .one-if .ensures, b),
-      ap₂ _+_ (l .inv .2) (c .one-if .ensures ∙ ap (λ (b : Bool). cond b 1 0) (c .before .is-atomic .ensures)) ∙ kept-more (isAtomic (componentsIn (c .before .before .before .before .before .before .args .components .now))) (l .c),
+      ap₂ _+_ (l .inv .2) (c .one-if .ensures ∙ ap (λ (b : Bool). cond b 1 0) (c .before .is-atomic .ensures)) ∙ kept-more (isAtomic (componentsIn (start .args .components .now))) (l .c),
     )
 
 returns : tie.Need-returns Inv-loop μ-loop
 unfolding atomics
 returns c =
+    let after-component-count : tie.After-component-count Inv-loop μ-loop = search in
     let l = c .before .loop in
-    let e : l .c ≡ c .before .before .component-count .result = omega arith in
-    rw (← c .before .before .component-count .ensures, ← e) (l .inv .2)
+    let e : l .c ≡ after-component-count .component-count .result = omega arith in
+    rw (← after-component-count .component-count .ensures, ← e) (l .inv .2)
 
 pub atomic-count-spec : {M : Type 1} → statement M
 atomic-count-spec =
-    tie.close (tie.spec Inv-loop μ-loop component-count-requires loop-holds is-atomic-requires one-if-requires add-k add-c loop-less loop-again returns)
+    tie.close (tie.spec Inv-loop μ-loop (λ c κs. search needs) loop-holds (λ c κs. search needs) (λ c κs. search needs) add-k (λ c. search needs)
+    (λ c. search needs) loop-again returns)

@@ -24,103 +24,69 @@ Inv-loop components phases run opening n k₀ first₀ c₀ k first c = (c ≤ n
 abbrev μ-loop : tie.MeasureT-loop
 μ-loop components phases run opening n k₀ first₀ c₀ k first c = n - c
 
-opening-of-requires : tie.Need-opening-of-requires Inv-loop μ-loop
-opening-of-requires c κs = search needs
-
-component-count-requires : tie.Need-component-count-requires Inv-loop μ-loop
-component-count-requires c κs = search needs
-
 loop-holds : tie.Need-loop-holds Inv-loop μ-loop
 loop-holds c =
-    let a = c .before .before .before .before .before .args in
+    let start : tie.Start Inv-loop μ-loop = search in
+    let a = start .args in
     (omega arith, omega arith, omega arith, sym (before-none (componentsIn (a .components .now))), omega (arith, ap length (from-first (componentsIn (a .components .now)))), sym (fit-first (a .components .now) (a .phases .now) (a .run .now)))
-
-component-at-requires : tie.Need-component-at-requires Inv-loop μ-loop
-component-at-requires c κs = search needs
-
-entry-at-requires : tie.Need-entry-at-requires Inv-loop μ-loop
-entry-at-requires c κs = search needs
-
-entry-due-requires : tie.Need-entry-due-requires Inv-loop μ-loop
-entry-due-requires c κs = search needs
-
-entry-fits-requires : tie.Need-entry-fits-requires Inv-loop μ-loop
-entry-fits-requires c κs = search needs
 
 returns : tie.Need-returns Inv-loop μ-loop
 returns c =
-    let a = c .before .before .before .before .before .before .before .before .before .before .before .before .before .args in
-    let l = c .before .before .before .before .before .before .before .loop in
+    let start : tie.Start Inv-loop μ-loop = search in let after-entry-fits : tie.After-entry-fits Inv-loop μ-loop = search in
+    let after-entry-due : tie.After-entry-due Inv-loop μ-loop = search in let after-entry-at : tie.After-entry-at Inv-loop μ-loop = search in
+    let after-component-at : tie.After-component-at Inv-loop μ-loop = search in let at-loop : tie.At-loop Inv-loop μ-loop = search in
+    let after-component-count : tie.After-component-count Inv-loop μ-loop = search in
+    let after-opening-of : tie.After-opening-of Inv-loop μ-loop = search in
+    let after-shared-slice-known3 : tie.After-shared-slice-known3 Inv-loop μ-loop = search in
+    let a = start .args in
+    let l = at-loop .loop in
     let s = a .run .now in
-    let f = tested-at (a .components .now) (a .phases .now) s (l .c) (l .k) (l .first) (c .before .before .before .before .before .before .before .before .before .opening-of .result .0) (componentOf (c .before .before .before .before .before .component-at .result)) (entryOf (c .before .before .before .before .entry-at .result)) (timeOf (c .before .before .before .entry-due .result)) (c .before .before .entry-fits .result) (c .before .before .before .before .before .component-at .ensures) (l .inv .3) (c .before .before .before .before .before .before .before .before .before .opening-of .ensures) (rw (c .before .before .before .before .before .before .before .before .before .opening-of .ensures) (omega (arith, number-below 8 0 s (λ i. c .before .before .before .before .before .before .before .before .before .before .shared-slice-known3 .given i .fits)))) (c .before .before .before .before .entry-at .ensures) (c .before .before .before .entry-due .ensures) (c .before .before .entry-fits .ensures) in
-    let g = atomic-said (componentsIn (a .components .now)) (l .c) (componentOf (c .before .before .before .before .before .component-at .result)) (c .before .before .before .before .before .component-at .ensures) in
+    let f = tested-at (a .components .now) (a .phases .now) s (l .c) (l .k) (l .first) (after-opening-of .opening-of .result .0) (componentOf (after-component-at .component-at .result)) (entryOf (after-entry-at .entry-at .result)) (timeOf (after-entry-due .entry-due .result)) (after-entry-fits .entry-fits .result) (after-component-at .component-at .ensures) (l .inv .3) (after-opening-of .opening-of .ensures) (rw (after-opening-of .opening-of .ensures) (omega (arith, number-below 8 0 s (λ i. after-shared-slice-known3 .shared-slice-known3 .given i .fits)))) (after-entry-at .entry-at .ensures) (after-entry-due .entry-due .ensures) (after-entry-fits .entry-fits .ensures) in
+    let g = atomic-said (componentsIn (a .components .now)) (l .c) (componentOf (after-component-at .component-at .result)) (after-component-at .component-at .ensures) in
     let e = ap₂ (λ (x y : Bool). x && not y) g f in
-    let h : l .c < length (componentsIn (a .components .now)) = omega (arith, c .before .before .before .before .before .before .before .before .component-count .ensures) in
+    let h : l .c < length (componentsIn (a .components .now)) = omega (arith, after-component-count .component-count .ensures) in
     sym (fit-fails (a .components .now) (a .phases .now) s (l .c) (l .k) h (l .inv .4) (sym e ∙ c .if1 .taken)) ∙ l .inv .5
-
-one-if-requires : tie.Need-one-if-requires Inv-loop μ-loop
-one-if-requires c κs = search needs
 
 add-k : tie.Need-add-k Inv-loop μ-loop
 add-k c =
-    let b = one-most (eqb (c .before .before .before .before .before .before .component-at .result .kind) 1) in
+    let after-component-at : tie.After-component-at Inv-loop μ-loop = search in
+    let b = one-most (eqb (after-component-at .component-at .result .kind) 1) in
     search needs
-
-size-requires : tie.Need-size-requires Inv-loop μ-loop
-size-requires c κs = search needs
-
-add-first : tie.Need-add-first Inv-loop μ-loop
-add-first c = search needs
-
-add-c : tie.Need-add-c Inv-loop μ-loop
-add-c c = search needs
-
-loop-less : tie.Need-loop-less Inv-loop μ-loop
-loop-less c = search needs
 
 loop-again : tie.Need-loop-again Inv-loop μ-loop
 loop-again c =
-    let a = c .before .before .before .before .before .before .before .before .before .before .before .before .before .before .before .args in
-    let l = c .before .before .before .before .before .before .before .before .before .loop in
+    let start : tie.Start Inv-loop μ-loop = search in let else1 : tie.Else1 Inv-loop μ-loop = search in
+    let after-struct-known : tie.After-struct-known Inv-loop μ-loop = search in
+    let after-entry-fits : tie.After-entry-fits Inv-loop μ-loop = search in let after-entry-due : tie.After-entry-due Inv-loop μ-loop = search in
+    let after-entry-at : tie.After-entry-at Inv-loop μ-loop = search in let after-component-at : tie.After-component-at Inv-loop μ-loop = search in
+    let at-loop : tie.At-loop Inv-loop μ-loop = search in let after-component-count : tie.After-component-count Inv-loop μ-loop = search in
+    let after-opening-of : tie.After-opening-of Inv-loop μ-loop = search in
+    let after-shared-slice-known3 : tie.After-shared-slice-known3 Inv-loop μ-loop = search in
+    let a = start .args in
+    let l = at-loop .loop in
     let s = a .run .now in
-    let f = tested-at (a .components .now) (a .phases .now) s (l .c) (l .k) (l .first) (c .before .before .before .before .before .before .before .before .before .before .before .opening-of .result .0) (componentOf (c .before .before .before .before .before .before .before .component-at .result)) (entryOf (c .before .before .before .before .before .before .entry-at .result)) (timeOf (c .before .before .before .before .before .entry-due .result)) (c .before .before .before .before .entry-fits .result) (c .before .before .before .before .before .before .before .component-at .ensures) (l .inv .3) (c .before .before .before .before .before .before .before .before .before .before .before .opening-of .ensures) (rw (c .before .before .before .before .before .before .before .before .before .before .before .opening-of .ensures) (omega (arith, number-below 8 0 s (λ i. c .before .before .before .before .before .before .before .before .before .before .before .before .shared-slice-known3 .given i .fits)))) (c .before .before .before .before .before .before .entry-at .ensures) (c .before .before .before .before .before .entry-due .ensures) (c .before .before .before .before .entry-fits .ensures) in
-    let g = atomic-said (componentsIn (a .components .now)) (l .c) (componentOf (c .before .before .before .before .before .before .before .component-at .result)) (c .before .before .before .before .before .before .before .component-at .ensures) in
+    let f = tested-at (a .components .now) (a .phases .now) s (l .c) (l .k) (l .first) (after-opening-of .opening-of .result .0) (componentOf (after-component-at .component-at .result)) (entryOf (after-entry-at .entry-at .result)) (timeOf (after-entry-due .entry-due .result)) (after-entry-fits .entry-fits .result) (after-component-at .component-at .ensures) (l .inv .3) (after-opening-of .opening-of .ensures) (rw (after-opening-of .opening-of .ensures) (omega (arith, number-below 8 0 s (λ i. after-shared-slice-known3 .shared-slice-known3 .given i .fits)))) (after-entry-at .entry-at .ensures) (after-entry-due .entry-due .ensures) (after-entry-fits .entry-fits .ensures) in
+    let g = atomic-said (componentsIn (a .components .now)) (l .c) (componentOf (after-component-at .component-at .result)) (after-component-at .component-at .ensures) in
     let e = ap₂ (λ (x y : Bool). x && not y) g f in
-    let h : l .c < length (componentsIn (a .components .now)) = omega (arith, c .before .before .before .before .before .before .before .before .before .before .component-count .ensures) in
+    let h : l .c < length (componentsIn (a .components .now)) = omega (arith, after-component-count .component-count .ensures) in
     let o = c .before .one-if .ensures ∙ ap (λ (b : Bool). cond b 1 0) g in (
       omega arith,
-      omega (arith, c .before .one-if .ensures, one-most (eqb (c .before .before .before .before .before .before .before .component-at .result .kind) 1)),
-      omega (arith, c .size .ensures, c .before .before .before .struct-known .given),
-      ap₂ _+_ (l .inv .3) (c .size .ensures ∙ ap (λ (k : Component). k .phases) (c .before .before .before .before .before .before .before .component-at .ensures)) ∙ sym (before-more (componentsIn (a .components .now)) (l .c)),
+      omega (arith, c .before .one-if .ensures, one-most (eqb (after-component-at .component-at .result .kind) 1)),
+      omega (arith, c .size .ensures, after-struct-known .struct-known .given),
+      ap₂ _+_ (l .inv .3) (c .size .ensures ∙ ap (λ (k : Component). k .phases) (after-component-at .component-at .ensures)) ∙ sym (before-more (componentsIn (a .components .now)) (l .c)),
       rw o (left-more (componentsIn (a .components .now)) (l .c) h (l .k) _ (l .inv .4)),
-      rw o (fit-more (a .components .now) (a .phases .now) s (l .c) (l .k) h (l .inv .4) (sym e ∙ c .before .before .if1 .left)) ∙ l .inv .5,
+      rw o (fit-more (a .components .now) (a .phases .now) s (l .c) (l .k) h (l .inv .4) (sym e ∙ else1 .if1 .left)) ∙ l .inv .5,
     )
 
 returns-2 : tie.Need-returns-2 Inv-loop μ-loop
 returns-2 c =
+    let start : tie.Start Inv-loop μ-loop = search in let after-component-count : tie.After-component-count Inv-loop μ-loop = search in
     let l = c .before .loop in
-    let a = c .before .before .before .before .before .before .before .args in
-    sym (fit-end (a .components .now) (a .phases .now) (a .run .now) (l .c) (l .k) (omega (arith, c .before .before .component-count .ensures))) ∙ l .inv .5
+    let a = start .args in
+    sym (fit-end (a .components .now) (a .phases .now) (a .run .now) (l .c) (l .k) (omega (arith, after-component-count .component-count .ensures))) ∙ l .inv .5
 
 pub entries-fit-spec : {M : Type 1} → statement M
 entries-fit-spec =
-    tie.close
-    (tie.spec
-    Inv-loop
-    μ-loop
-    opening-of-requires
-    component-count-requires
-    loop-holds
-    component-at-requires
-    entry-at-requires
-    entry-due-requires
-    entry-fits-requires
-    returns
-    one-if-requires
-    add-k
-    size-requires
-    add-first
-    add-c
-    loop-less
-    loop-again
-    returns-2)
+    tie.close (tie.spec Inv-loop μ-loop (λ c κs. search needs) (λ c κs. search needs) loop-holds (λ c κs. search needs) (λ c κs. search needs)
+    (λ c κs. search needs) (λ c κs. search needs) returns (λ c κs. search needs) add-k (λ c κs. search needs) (λ c. search needs) (λ c. search needs)
+    (λ c. search needs) loop-again returns-2)

@@ -20,36 +20,28 @@ loop-holds : tie.Need-loop-holds Inv-loop μ-loop
 loop-holds c =
     (omega arith, (c .before .pre .1, c .before .pre .2), load-none _ (c .before .args .run .now))
 
-entry-at-requires : tie.Need-entry-at-requires Inv-loop μ-loop
-entry-at-requires c κs = search needs
-
-put-at-requires : tie.Need-put-at-requires Inv-loop μ-loop
-put-at-requires c κs = search needs
-
-add-i : tie.Need-add-i Inv-loop μ-loop
-add-i c = search needs
-
-loop-less : tie.Need-loop-less Inv-loop μ-loop
-loop-less c = search needs
-
 loop-again : tie.Need-loop-again Inv-loop μ-loop
 loop-again c =
-    let a = c .before .before .before .before .before .before .before .args in
-    let l = c .before .before .before .before .before .loop in
-    let e = c .before .before .before .entry-at .result in
+    let start : tie.Start Inv-loop μ-loop = search in let after-entry-at : tie.After-entry-at Inv-loop μ-loop = search in
+    let at-loop : tie.At-loop Inv-loop μ-loop = search in
+    let a = start .args in
+    let l = at-loop .loop in
+    let e = after-entry-at .entry-at .result in
     let st = held (l .phase) (l .last) in
     let new = sym (c .put-at .ensures) in (
       omega arith,
       subst Wide new (wide-changed st (l .i) (e .phase) (e .last .0) (l .inv .1)),
-      subst (λ (s : State). entriesOf (l .i + 1) s ≡ toRun (l .i + 1) (a .run .now) .entries) new (load-more (a .run .now) st (l .i) (e .phase) (e .last .0) (l .inv .1) (omega arith) (c .before .before .before .entry-at .ensures) (l .inv .2)),
+      subst (λ (s : State). entriesOf (l .i + 1) s ≡ toRun (l .i + 1) (a .run .now) .entries) new (load-more (a .run .now) st (l .i) (e .phase) (e .last .0) (l .inv .1) (omega arith) (after-entry-at .entry-at .ensures) (l .inv .2)),
     )
 
 returns : tie.Need-returns Inv-loop μ-loop
 returns c =
+    let start : tie.Start Inv-loop μ-loop = search in
     let l = c .before .loop in
-    let e : l .i ≡ c .before .before .before .args .n = omega arith in
+    let e : l .i ≡ start .args .n = omega arith in
     (rw e at (l .inv .2), l .inv .1 .0, l .inv .1 .1)
 
 pub load-spec : {M : Type 1} → statement M
 load-spec =
-    tie.close (tie.spec Inv-loop μ-loop loop-holds entry-at-requires put-at-requires add-i loop-less loop-again returns)
+    tie.close (tie.spec Inv-loop μ-loop loop-holds (λ c κs. search needs) (λ c κs. search needs) (λ c. search needs) (λ c. search needs) loop-again
+    returns)

@@ -27,17 +27,13 @@ unfolding runLength
 put-entry-requires c κs =
     (omega arith, omega arith)
 
-add-i : tie.Need-add-i Inv-loop μ-loop
-add-i c = search needs
-
-loop-less : tie.Need-loop-less Inv-loop μ-loop
-loop-less c = search needs
-
 loop-again : tie.Need-loop-again Inv-loop μ-loop
 loop-again c =
-    let a = c .before .before .before .before .before .before .before .args in
-    let l = c .before .before .before .before .before .loop in
-    (omega arith, c .before .before .put-entry .kept .0 ∙ l .inv .1, rw (c .before .before .put-entry .ensures) (rows-put (held (a .phase .now) (a .last .now)) (a .n) (l .i) (l .run) (omega arith)) ∙ l .inv .2)
+    let start : tie.Start Inv-loop μ-loop = search in let after-put-entry : tie.After-put-entry Inv-loop μ-loop = search in
+    let at-loop : tie.At-loop Inv-loop μ-loop = search in
+    let a = start .args in
+    let l = at-loop .loop in
+    (omega arith, after-put-entry .put-entry .kept .0 ∙ l .inv .1, rw (after-put-entry .put-entry .ensures) (rows-put (held (a .phase .now) (a .last .now)) (a .n) (l .i) (l .run) (omega arith)) ∙ l .inv .2)
 
 same-length : tie.Need-same-length Inv-loop μ-loop
 same-length c =
@@ -45,11 +41,12 @@ same-length c =
 
 returns : tie.Need-returns Inv-loop μ-loop
 returns c =
-    let a = c .before .before .before .args in
+    let start : tie.Start Inv-loop μ-loop = search in
+    let a = start .args in
     let l = c .before .loop in
     let z : a .n - 0 ≡ a .n = omega arith in
     sym (rows-none (held (a .phase .now) (a .last .now)) (l .i) (a .n - l .i) (runLength (l .i)) (l .run) (omega arith)) ∙ l .inv .2 ∙ ap (λ k. sets (a .run .now) (runLength 0) (entryRows (held (a .phase .now) (a .last .now)) 0 k)) z
 
 pub put-entries-spec : {M : Type 1} → statement M
 put-entries-spec =
-    tie.close (tie.spec Inv-loop μ-loop loop-holds put-entry-requires add-i loop-less loop-again same-length returns)
+    tie.close (tie.spec Inv-loop μ-loop loop-holds put-entry-requires (λ c. search needs) (λ c. search needs) loop-again same-length returns)

@@ -7,40 +7,23 @@ use Rattle.definition.specs.SavedRun.{runLength}
 use Rattle.saved_run.proofs.put_entry.Statement.{statement}
 use Rattle.saved_run.proofs.put_entry.Tie as tie
 
-mul-at : tie.Need-mul-at
-mul-at c = search needs
-
-add-at : tie.Need-add-at
-add-at c = search needs
-
-last-at-requires : tie.Need-last-at-requires
-last-at-requires c κs = search needs
-
-phase-at-requires : tie.Need-phase-at-requires
-phase-at-requires c κs = search needs
-
-wide-requires : tie.Need-wide-requires
-wide-requires c κs = search needs
-
 put-number-requires : tie.Need-put-number-requires
 unfolding runLength
 put-number-requires c κs = search needs
-
-add-put-number : tie.Need-add-put-number
-add-put-number c = search needs
 
 put-number-requires-2 : tie.Need-put-number-requires-2
 unfolding runLength
 put-number-requires-2 c κs = search needs
 
-same-length : tie.Need-same-length
-same-length c = search needs
-
 returns : tie.Need-returns
 returns c =
-    let a = c .before .before .before .before .before .before .before .before .before .before .before .before .args in
-    rw (c .before .before .put-number2 .ensures, c .before .before .before .before .before .before .put-number .ensures, c .before .before .before .before .before .before .before .wide .ensures, c .before .before .before .before .before .before .before .before .phase-at .ensures, c .before .before .before .before .before .before .before .before .before .before .last-at .ensures) (entry-put (a .run .now) (a .i) (heldAt (held (a .phase .now) (a .last .now)) (a .i)))
+    let start : tie.Start = search in let after-put-number2 : tie.After-put-number2 = search in
+    let after-put-number : tie.After-put-number = search in let after-wide : tie.After-wide = search in
+    let after-phase-at : tie.After-phase-at = search in let after-last-at : tie.After-last-at = search in
+    let a = start .args in
+    rw (after-put-number2 .put-number2 .ensures, after-put-number .put-number .ensures, after-wide .wide .ensures, after-phase-at .phase-at .ensures, after-last-at .last-at .ensures) (entry-put (a .run .now) (a .i) (heldAt (held (a .phase .now) (a .last .now)) (a .i)))
 
 pub put-entry-spec : {M : Type 1} → statement M
 put-entry-spec =
-    tie.close (tie.spec mul-at add-at last-at-requires phase-at-requires wide-requires put-number-requires add-put-number put-number-requires-2 same-length returns)
+    tie.close (tie.spec (λ c. search needs) (λ c. search needs) (λ c κs. search needs) (λ c κs. search needs) (λ c κs. search needs)
+    put-number-requires (λ c. search needs) put-number-requires-2 (λ c. search needs) returns)

@@ -23,58 +23,47 @@ Inv-loop components phase₀ last₀ n k₀ c₀ phase last k c = (c ≤ n) × (
 abbrev μ-loop : tie.MeasureT-loop
 μ-loop components phase₀ last₀ n k₀ c₀ phase last k c = n - c
 
-component-count-requires : tie.Need-component-count-requires Inv-loop μ-loop
-component-count-requires c κs = search needs
-
 loop-holds : tie.Need-loop-holds Inv-loop μ-loop
 unfolding keep upFrom
 loop-holds c =
-    (omega arith, omega arith, refl, (c .before .before .pre .1, c .before .before .pre .2), started-none (componentsIn (c .before .before .args .components .now)) _)
-
-component-at-requires : tie.Need-component-at-requires Inv-loop μ-loop
-component-at-requires c κs = search needs
-
-put-at-requires : tie.Need-put-at-requires Inv-loop μ-loop
-put-at-requires c κs = search needs
-
-one-if-requires : tie.Need-one-if-requires Inv-loop μ-loop
-one-if-requires c κs = search needs
+    let start : tie.Start Inv-loop μ-loop = search in
+    (omega arith, omega arith, refl, (start .pre .1, start .pre .2), started-none (componentsIn (start .args .components .now)) _)
 
 add-k : tie.Need-add-k Inv-loop μ-loop
 add-k c =
-    let b = one-most (eqb (c .before .before .before .before .before .component-at .result .kind) 1) in
+    let after-component-at : tie.After-component-at Inv-loop μ-loop = search in
+    let b = one-most (eqb (after-component-at .component-at .result .kind) 1) in
     search needs
-
-add-c : tie.Need-add-c Inv-loop μ-loop
-add-c c = search needs
-
-loop-less : tie.Need-loop-less Inv-loop μ-loop
-loop-less c = search needs
 
 loop-again : tie.Need-loop-again Inv-loop μ-loop
 loop-again c =
-    let l = c .before .before .before .before .before .before .before .loop in
-    let cs = componentsIn (c .before .before .before .before .before .before .before .before .before .before .args .components .now) in
-    let own = c .before .before .before .before .before .component-at .result in
-    let g = atomic-said cs (l .c) (componentOf own) (c .before .before .before .before .before .component-at .ensures) in
+    let start : tie.Start Inv-loop μ-loop = search in let after-put-at : tie.After-put-at Inv-loop μ-loop = search in
+    let after-component-at : tie.After-component-at Inv-loop μ-loop = search in let at-loop : tie.At-loop Inv-loop μ-loop = search in
+    let after-component-count : tie.After-component-count Inv-loop μ-loop = search in
+    let l = at-loop .loop in
+    let cs = componentsIn (start .args .components .now) in
+    let own = after-component-at .component-at .result in
+    let g = atomic-said cs (l .c) (componentOf own) (after-component-at .component-at .ensures) in
     let o = c .one-if .ensures ∙ ap (λ (b : Bool). cond b 1 0) g in
     let st = held (l .phase) (l .last) in
-    let new = sym (c .before .before .put-at .ensures) in (
+    let new = sym (after-put-at .put-at .ensures) in (
       omega arith,
       omega (arith, c .one-if .ensures, one-most (eqb (own .kind) 1)),
       ap₂ _+_ (l .inv .2) o ∙ kept-more (isAtomic cs) (l .c),
       subst Wide new (wide-changed st (l .k) (own .initial) 0 (l .inv .3)),
-      subst (λ (s : State). entriesOf (l .k + c .one-if .result) s ≡ startedTo cs (l .c + 1)) new (rw o (started-more cs st (l .c) (l .k) (own .initial) (l .inv .3) (omega (arith, c .before .before .before .before .before .before .before .before .component-count .ensures, c .before .before .before .before .before .before .before .before .before .before .pre .0)) (ap (λ (k : Component). k .initial) (c .before .before .before .before .before .component-at .ensures)) (l .inv .4))),
+      subst (λ (s : State). entriesOf (l .k + c .one-if .result) s ≡ startedTo cs (l .c + 1)) new (rw o (started-more cs st (l .c) (l .k) (own .initial) (l .inv .3) (omega (arith, after-component-count .component-count .ensures, start .pre .0)) (ap (λ (k : Component). k .initial) (after-component-at .component-at .ensures)) (l .inv .4))),
     )
 
 returns : tie.Need-returns Inv-loop μ-loop
 returns c =
+    let start : tie.Start Inv-loop μ-loop = search in let after-component-count : tie.After-component-count Inv-loop μ-loop = search in
     let l = c .before .loop in
-    let cs = componentsIn (c .before .before .before .before .args .components .now) in
-    let e : l .c ≡ length cs = omega (arith, c .before .before .component-count .ensures) in
+    let cs = componentsIn (start .args .components .now) in
+    let e : l .c ≡ length cs = omega (arith, after-component-count .component-count .ensures) in
     let f : l .k ≡ length (atomics cs) = rw e at (l .inv .2) ∙ length-atomics cs in
     rw (← f) (l .inv .4 ∙ ap (startedTo cs) e ∙ started-all cs)
 
 pub start-state-spec : {M : Type 1} → statement M
 start-state-spec =
-    tie.close (tie.spec Inv-loop μ-loop component-count-requires loop-holds component-at-requires put-at-requires one-if-requires add-k add-c loop-less loop-again returns)
+    tie.close (tie.spec Inv-loop μ-loop (λ c κs. search needs) loop-holds (λ c κs. search needs) (λ c κs. search needs) (λ c κs. search needs) add-k
+    (λ c. search needs) (λ c. search needs) loop-again returns)

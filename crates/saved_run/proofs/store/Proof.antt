@@ -14,17 +14,13 @@ put-number-requires-2 : tie.Need-put-number-requires-2
 unfolding runLength
 put-number-requires-2 c κs = search needs
 
-put-entries-requires : tie.Need-put-entries-requires
-put-entries-requires c κs = search needs
-
-same-length : tie.Need-same-length
-same-length c = search needs
-
 returns : tie.Need-returns
 returns c =
-    let a = c .before .before .before .before .before .before .before .before .before .before .before .before .before .args in
-    rw (c .before .before .put-entries .ensures, c .before .before .before .before .before .before .put-number2 .ensures, c .before .before .before .before .before .before .before .before .before .before .put-number .ensures) (run-put (a .opening .0) (a .n) (held (a .phase .now) (a .last .now)) (a .run .now) (c .before .before .before .before .before .before .before .before .before .before .before .before .before .pre .1))
+    let start : tie.Start = search in let after-put-entries : tie.After-put-entries = search in
+    let after-put-number2 : tie.After-put-number2 = search in let after-put-number : tie.After-put-number = search in
+    let a = start .args in
+    rw (after-put-entries .put-entries .ensures, after-put-number2 .put-number2 .ensures, after-put-number .put-number .ensures) (run-put (a .opening .0) (a .n) (held (a .phase .now) (a .last .now)) (a .run .now) (start .pre .1))
 
 pub store-spec : {M : Type 1} → statement M
 store-spec =
-    tie.close (tie.spec put-number-requires put-number-requires-2 put-entries-requires same-length returns)
+    tie.close (tie.spec put-number-requires put-number-requires-2 (λ c κs. search needs) (λ c. search needs) returns)

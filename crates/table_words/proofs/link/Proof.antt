@@ -7,44 +7,15 @@ use borrow.Author.Tests.{lt-ltb, le-ltb}
 use Rattle.table_words.proofs.link.Statement.{statement}
 use Rattle.table_words.proofs.link.Tie as tie
 
-add-t : tie.Need-add-t
-add-t c = search needs
-
-mul-t : tie.Need-mul-t
-mul-t c = search needs
-
-slice-read-t : tie.Need-slice-read-t
-slice-read-t c = search needs
-
-size16-requires : tie.Need-size16-requires
-size16-requires c κs = search needs
-
-add-t-2 : tie.Need-add-t-2
-add-t-2 c = search needs
-
-mul-t-2 : tie.Need-mul-t-2
-mul-t-2 c = search needs
-
-slice-write-t : tie.Need-slice-write-t
-slice-write-t c = search needs
-
-add-t-3 : tie.Need-add-t-3
-add-t-3 c = search needs
-
-mul-t-3 : tie.Need-mul-t-3
-mul-t-3 c = search needs
-
 slice-write-t-2 : tie.Need-slice-write-t-2
 slice-write-t-2 c =
     simp length-set (omega arith)
 
-same-length : tie.Need-same-length
-same-length c = search needs
-
 returns : tie.Need-returns
 unfolding linkAt
 returns c =
-    rw (lt-ltb _ _ (c .before .before .if1 .taken), c .size16 .ensures)
+    let then1 : tie.Then1 = search in
+    rw (lt-ltb _ _ (then1 .if1 .taken), c .size16 .ensures)
 
 returns-2 : tie.Need-returns-2
 unfolding linkAt
@@ -53,4 +24,5 @@ returns-2 c =
 
 pub link-spec : {M : Type 1} → statement M
 link-spec =
-    tie.close (tie.spec add-t mul-t slice-read-t size16-requires add-t-2 mul-t-2 slice-write-t add-t-3 mul-t-3 slice-write-t-2 same-length returns returns-2)
+    tie.close (tie.spec (λ c. search needs) (λ c. search needs) (λ c. search needs) (λ c κs. search needs) (λ c. search needs) (λ c. search needs)
+    (λ c. search needs) (λ c. search needs) (λ c. search needs) slice-write-t-2 (λ c. search needs) returns returns-2)

@@ -20,32 +20,17 @@ loop-holds : tie.Need-loop-holds Inv-loop μ-loop
 loop-holds c =
     (omega arith, refl, refl)
 
-size16-requires : tie.Need-size16-requires Inv-loop μ-loop
-size16-requires c κs = search needs
-
-word-at-requires : tie.Need-word-at-requires Inv-loop μ-loop
-word-at-requires c κs = search needs
-
-size16-requires-2 : tie.Need-size16-requires-2 Inv-loop μ-loop
-size16-requires-2 c κs = search needs
-
-link-requires : tie.Need-link-requires Inv-loop μ-loop
-link-requires c κs = search needs
-
-sub-j : tie.Need-sub-j Inv-loop μ-loop
-sub-j c = search needs
-
-loop-less : tie.Need-loop-less Inv-loop μ-loop
-loop-less c = search needs
-
 loop-again : tie.Need-loop-again Inv-loop μ-loop
 loop-again c =
-    let a = c .before .before .before .before .before .before .before .before .before .before .before .args in
-    let l = c .before .before .before .before .before .before .before .before .loop in
+    let start : tie.Start Inv-loop μ-loop = search in let after-link : tie.After-link Inv-loop μ-loop = search in
+    let after-size162 : tie.After-size162 Inv-loop μ-loop = search in let after-word-at : tie.After-word-at Inv-loop μ-loop = search in
+    let after-size16 : tie.After-size16 Inv-loop μ-loop = search in let at-loop : tie.At-loop Inv-loop μ-loop = search in
+    let a = start .args in
+    let l = at-loop .loop in
     let key : ℕ → ℕ = λ j. getD (now (a .keys)) j 0 in
-    let k : c .before .before .before .before .size162 .result ≡ key (l .j) = c .before .before .before .before .size162 .ensures ∙ c .before .before .before .before .before .word-at .ensures ∙ ap key (c .before .before .before .before .before .before .size16 .ensures) in
-    let s : c .before .before .link .last .0 ≡ linkAt (a .first) (a .size) (a .next) (key (l .j)) (l .j) (l .t) = rw k at (c .before .before .link .ensures) in
-    (omega arith, c .before .before .link .kept .0 ∙ l .inv .1, ap (linked (a .first) (a .size) (a .next) key (l .j - 1)) s ∙ linked-more (a .first) (a .size) (a .next) key (l .j) (l .t) (omega arith) ∙ l .inv .2)
+    let k : after-size162 .size162 .result ≡ key (l .j) = after-size162 .size162 .ensures ∙ after-word-at .word-at .ensures ∙ ap key (after-size16 .size16 .ensures) in
+    let s : after-link .link .last .0 ≡ linkAt (a .first) (a .size) (a .next) (key (l .j)) (l .j) (l .t) = rw k at (after-link .link .ensures) in
+    (omega arith, after-link .link .kept .0 ∙ l .inv .1, ap (linked (a .first) (a .size) (a .next) key (l .j - 1)) s ∙ linked-more (a .first) (a .size) (a .next) key (l .j) (l .t) (omega arith) ∙ l .inv .2)
 
 same-length : tie.Need-same-length Inv-loop μ-loop
 same-length c =
@@ -53,10 +38,12 @@ same-length c =
 
 returns : tie.Need-returns Inv-loop μ-loop
 returns c =
-    let a = c .before .before .before .before .args in
+    let start : tie.Start Inv-loop μ-loop = search in
+    let a = start .args in
     let l = c .before .loop in
     sym (linked-end (a .first) (a .size) (a .next) (λ j. getD (now (a .keys)) j 0) (l .j) (l .t) (omega arith)) ∙ l .inv .2
 
 pub link-all-spec : {M : Type 1} → statement M
 link-all-spec =
-    tie.close (tie.spec Inv-loop μ-loop loop-holds size16-requires word-at-requires size16-requires-2 link-requires sub-j loop-less loop-again same-length returns)
+    tie.close (tie.spec Inv-loop μ-loop loop-holds (λ c κs. search needs) (λ c κs. search needs) (λ c κs. search needs) (λ c κs. search needs)
+    (λ c. search needs) (λ c. search needs) loop-again same-length returns)

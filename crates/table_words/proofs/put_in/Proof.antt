@@ -5,18 +5,6 @@ use borrow.Author.Tests.{lt-ltb, le-ltb}
 use Rattle.table_words.proofs.put_in.Statement.{statement}
 use Rattle.table_words.proofs.put_in.Tie as tie
 
-add-t : tie.Need-add-t
-add-t c = search needs
-
-mul-t : tie.Need-mul-t
-mul-t c = search needs
-
-slice-write-t : tie.Need-slice-write-t
-slice-write-t c = search needs
-
-same-length : tie.Need-same-length
-same-length c = search needs
-
 returns : tie.Need-returns
 unfolding putIn
 returns c =
@@ -28,4 +16,5 @@ returns-2 c =
     rw (le-ltb _ _ (c .if1 .left))
 
 pub put-in-spec : {M : Type 1} → statement M
-put-in-spec = tie.close (tie.spec add-t mul-t slice-write-t same-length returns returns-2)
+put-in-spec =
+    tie.close (tie.spec (λ c. search needs) (λ c. search needs) (λ c. search needs) (λ c. search needs) returns returns-2)

@@ -15,42 +15,32 @@ use Rattle.tables.proofs.Holding.{above3}
 use Rattle.tables.proofs.fill_tables.Statement.{statement}
 use Rattle.tables.proofs.fill_tables.Tie as tie
 
-fill-components-requires : tie.Need-fill-components-requires
-fill-components-requires c κs = search needs
-
-fill-rules-requires : tie.Need-fill-rules-requires
-fill-rules-requires c κs = search needs
-
-fill-children-requires : tie.Need-fill-children-requires
-fill-children-requires c κs = search needs
-
 fill-linked-requires : tie.Need-fill-linked-requires
 fill-linked-requires c κs =
-    let a = c .before .before .before .before .before .before .before .before .before .before .args in
-    let p = c .before .before .before .before .before .before .before .before .before .before .pre in
+    let start : tie.Start = search in let after-fill-rules : tie.After-fill-rules = search in
+    let after-fill-components : tie.After-fill-components = search in
+    let a = start .args in
+    let p = start .pre in
     let cs = componentsIn (now (a .components)) in
     let rs = rulesIn (now (a .rules)) in
     let ks = couplingsIn (now (a .couplings)) in
-    let e = c .before .fill-children .ensures ∙ ap (byParent cs) (c .before .before .before .fill-rules .ensures ∙ ap (byRule rs) (c .before .before .before .before .before .fill-components .ensures ∙ ap (byComponent cs) (p .3 .begins))) in
+    let e = c .before .fill-children .ensures ∙ ap (byParent cs) (after-fill-rules .fill-rules .ensures ∙ ap (byRule rs) (after-fill-components .fill-components .ensures ∙ ap (byComponent cs) (p .3 .begins))) in
     (p .0, p .2, joined-kept cs ks (now (a .targets)) (now (a .tables)) (p .2) (p .3) (c .before .fill-children .last .1 .0) (λ x h. ap (λ s. getD s x 0) e ∙ above3 cs rs ks (p .0) (p .2) x (omega arith) ∙ sym (ap (λ s. getD s x 0) (p .3 .begins))))
-
-count-word-requires : tie.Need-count-word-requires
-count-word-requires c κs = search needs
-
-element-write-tables : tie.Need-element-write-tables
-element-write-tables c = search needs
 
 returns : tie.Need-returns
 unfolding filled
 returns c =
-    let a = c .before .before .before .before .before .before .before .before .before .before .before .before .args in
+    let start : tie.Start = search in let after-fill-children : tie.After-fill-children = search in
+    let after-fill-rules : tie.After-fill-rules = search in let after-fill-components : tie.After-fill-components = search in
+    let a = start .args in
     let cs = componentsIn (now (a .components)) in
     let rs = rulesIn (now (a .rules)) in
     let ks = couplingsIn (now (a .couplings)) in
-    let e = c .before .fill-linked .ensures ∙ ap (byCoupling cs ks) (c .before .before .before .fill-children .ensures ∙ ap (byParent cs) (c .before .before .before .before .before .fill-rules .ensures ∙ ap (byRule rs) (c .before .before .before .before .before .before .before .fill-components .ensures ∙ ap (byComponent cs) (c .before .before .before .before .before .before .before .before .before .before .before .before .pre .3 .begins)))) in
+    let e = c .before .fill-linked .ensures ∙ ap (byCoupling cs ks) (after-fill-children .fill-children .ensures ∙ ap (byParent cs) (after-fill-rules .fill-rules .ensures ∙ ap (byRule rs) (after-fill-components .fill-components .ensures ∙ ap (byComponent cs) (start .pre .3 .begins)))) in
     ap (λ s. set s countAt (c .count-word .result)) e
     ∙ ap (set (byCoupling cs ks (byParent cs (byRule rs (byComponent cs (begun cs ks zeros))))) countAt) (c .count-word .ensures)
 
 pub fill-tables-spec : {M : Type 1} → statement M
 fill-tables-spec =
-    tie.close (tie.spec fill-components-requires fill-rules-requires fill-children-requires fill-linked-requires count-word-requires element-write-tables returns)
+    tie.close (tie.spec (λ c κs. search needs) (λ c κs. search needs) (λ c κs. search needs) fill-linked-requires (λ c κs. search needs)
+    (λ c. search needs) returns)

@@ -4,15 +4,10 @@ use mathlib.Core.Path.{_∙_, ap}
 use Rattle.transitions.proofs.advance_of.Statement.{statement}
 use Rattle.transitions.proofs.advance_of.Tie as tie
 
-phase-in-requires : tie.Need-phase-in-requires
-phase-in-requires c κs = search needs
-
-wide-requires : tie.Need-wide-requires
-wide-requires c κs = search needs
-
 returns : tie.Need-returns
 returns c =
     c .wide .ensures ∙ ap (λ k. k .advance) (c .before .phase-in .ensures)
 
 pub advance-of-spec : {M : Type 1} → statement M
-advance-of-spec = tie.close (tie.spec phase-in-requires wide-requires returns)
+advance-of-spec =
+    tie.close (tie.spec (λ c κs. search needs) (λ c κs. search needs) returns)

@@ -4,24 +4,12 @@ use Rattle.pull_laws.specs.TableStep.{decidedIn}
 use Rattle.transitions.proofs.decided.Statement.{statement}
 use Rattle.transitions.proofs.decided.Tie as tie
 
-row-in-requires : tie.Need-row-in-requires
-row-in-requires c κs = search needs
-
-row-in-requires-2 : tie.Need-row-in-requires-2
-row-in-requires-2 c κs = search needs
-
-deciding-requires : tie.Need-deciding-requires
-deciding-requires c κs = search needs
-
-led-to-requires : tie.Need-led-to-requires
-led-to-requires c κs = search needs
-
 returns : tie.Need-returns
 unfolding decidedIn
 returns c =
-    rw (c .before .deciding .ensures, c .before .before .row-in2 .ensures, c .before .before .before .row-in .ensures) at (c .led-to .ensures)
+    let after-row-in2 : tie.After-row-in2 = search in let after-row-in : tie.After-row-in = search in
+    rw (c .before .deciding .ensures, after-row-in2 .row-in2 .ensures, after-row-in .row-in .ensures) at (c .led-to .ensures)
 
 pub decided-spec : {M : Type 1} → statement M
 decided-spec =
-    tie.close
-    (tie.spec row-in-requires row-in-requires-2 deciding-requires led-to-requires returns)
+    tie.close (tie.spec (λ c κs. search needs) (λ c κs. search needs) (λ c κs. search needs) (λ c κs. search needs) returns)

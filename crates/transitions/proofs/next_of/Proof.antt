@@ -4,12 +4,10 @@ use mathlib.Core.Path.{ap}
 use Rattle.transitions.proofs.next_of.Statement.{statement}
 use Rattle.transitions.proofs.next_of.Tie as tie
 
-phase-in-requires : tie.Need-phase-in-requires
-phase-in-requires c κs = search needs
-
 returns : tie.Need-returns
 returns c =
     ap (λ k. k .next) (c .phase-in .ensures)
 
 pub next-of-spec : {M : Type 1} → statement M
-next-of-spec = tie.close (tie.spec phase-in-requires returns)
+next-of-spec =
+    tie.close (tie.spec (λ c κs. search needs) returns)

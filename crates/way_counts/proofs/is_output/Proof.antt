@@ -4,12 +4,10 @@ use Rattle.pull_laws.specs.Tables.{isOutput}
 use Rattle.way_counts.proofs.is_output.Statement.{statement}
 use Rattle.way_counts.proofs.is_output.Tie as tie
 
-size-requires : tie.Need-size-requires
-size-requires c κs = search needs
-
 returns : tie.Need-returns
 unfolding isOutput
 returns c = rw (c .size .ensures)
 
 pub is-output-spec : {M : Type 1} → statement M
-is-output-spec = tie.close (tie.spec size-requires returns)
+is-output-spec =
+    tie.close (tie.spec (λ c κs. search needs) returns)

@@ -23,80 +23,40 @@ Inv-loop components ways₀ n c₀ ways c = (c ≤ n) × (column 0 (endAt (compo
 abbrev μ-loop : tie.MeasureT-loop
 μ-loop components ways₀ n c₀ ways c = n - c
 
-component-count-requires : tie.Need-component-count-requires Inv-loop μ-loop
-component-count-requires c κs = search needs
-
 loop-holds : tie.Need-loop-holds Inv-loop μ-loop
 loop-holds c =
     (omega arith, rw sub-zero)
 
-mul-x : tie.Need-mul-x Inv-loop μ-loop
-mul-x c = search needs
-
-is-atomic-requires : tie.Need-is-atomic-requires Inv-loop μ-loop
-is-atomic-requires c κs = search needs
-
-one-if-requires : tie.Need-one-if-requires Inv-loop μ-loop
-one-if-requires c κs = search needs
-
-put-four-requires : tie.Need-put-four-requires Inv-loop μ-loop
-put-four-requires c κs = search needs
-
-add-put-four : tie.Need-add-put-four Inv-loop μ-loop
-add-put-four c = search needs
-
-one-if-requires-2 : tie.Need-one-if-requires-2 Inv-loop μ-loop
-one-if-requires-2 c κs = search needs
-
-put-four-requires-2 : tie.Need-put-four-requires-2 Inv-loop μ-loop
-put-four-requires-2 c κs = search needs
-
-add-c : tie.Need-add-c Inv-loop μ-loop
-add-c c = search needs
-
-loop-less : tie.Need-loop-less Inv-loop μ-loop
-loop-less c = search needs
-
 loop-again : tie.Need-loop-again Inv-loop μ-loop
 loop-again c =
-    let a = c .before .before .before .before .before .before .before .before .before .before .before .args in
-    let l = c .before .before .before .before .before .before .before .before .loop in
+    let start : tie.Start Inv-loop μ-loop = search in let after-put-four : tie.After-put-four Inv-loop μ-loop = search in
+    let after-one-if : tie.After-one-if Inv-loop μ-loop = search in let after-is-atomic : tie.After-is-atomic Inv-loop μ-loop = search in
+    let at-loop : tie.At-loop Inv-loop μ-loop = search in let after-component-count : tie.After-component-count Inv-loop μ-loop = search in
+    let a = start .args in
+    let l = at-loop .loop in
     let cs = componentsIn (now (a .components)) in
     let f = endAt cs in
-    let n = portNodes * c .before .before .before .before .before .before .before .before .before .component-count .result in
+    let n = portNodes * after-component-count .component-count .result in
     let x = portNodes * l .c in
     let e : portNodes * (l .c + 1) ≡ x + 4 + 4 = omega arith in
     let y : x ≡ 0 + x = omega arith in
     let z : x + 4 ≡ 0 + (x + 4) = omega arith in
-    let v : c .before .before .before .before .one-if .result ≡ cond (isAtomic cs (l .c)) 1 0 = rw (← c .before .before .before .before .before .is-atomic .ensures) (c .before .before .before .before .one-if .ensures) in
-    let one = c .before .before .before .put-four .ensures ∙ ap (λ i. column i (λ _. c .before .before .before .before .one-if .result) 4 0 (l .ways)) y in
-    let two = c .put-four2 .ensures ∙ ap (λ i. column i (λ _. c .before .one-if2 .result) 4 0 (c .before .before .before .put-four .last .0)) z in
-    (omega arith, ap (λ i. column 0 f (n - i) i (c .put-four2 .last .0)) e ∙ ap (column 0 f (n - (x + 4 + 4)) (x + 4 + 4)) two ∙ four-more 0 f n (x + 4) (c .before .one-if2 .result) (c .before .before .before .put-four .last .0) (omega arith) (λ k h. output-end cs (l .c) k h ∙ sym (c .before .one-if2 .ensures)) ∙ ap (column 0 f (n - (x + 4)) (x + 4)) one ∙ four-more 0 f n x (c .before .before .before .before .one-if .result) (l .ways) (omega arith) (λ k h. input-end cs (l .c) k h ∙ sym v) ∙ l .inv .1)
+    let v : after-one-if .one-if .result ≡ cond (isAtomic cs (l .c)) 1 0 = rw (← after-is-atomic .is-atomic .ensures) (after-one-if .one-if .ensures) in
+    let one = after-put-four .put-four .ensures ∙ ap (λ i. column i (λ _. after-one-if .one-if .result) 4 0 (l .ways)) y in
+    let two = c .put-four2 .ensures ∙ ap (λ i. column i (λ _. c .before .one-if2 .result) 4 0 (after-put-four .put-four .last .0)) z in
+    (omega arith, ap (λ i. column 0 f (n - i) i (c .put-four2 .last .0)) e ∙ ap (column 0 f (n - (x + 4 + 4)) (x + 4 + 4)) two ∙ four-more 0 f n (x + 4) (c .before .one-if2 .result) (after-put-four .put-four .last .0) (omega arith) (λ k h. output-end cs (l .c) k h ∙ sym (c .before .one-if2 .ensures)) ∙ ap (column 0 f (n - (x + 4)) (x + 4)) one ∙ four-more 0 f n x (after-one-if .one-if .result) (l .ways) (omega arith) (λ k h. input-end cs (l .c) k h ∙ sym v) ∙ l .inv .1)
 
 returns : tie.Need-returns Inv-loop μ-loop
 returns c =
-    let a = c .before .before .before .before .args in
+    let start : tie.Start Inv-loop μ-loop = search in let after-component-count : tie.After-component-count Inv-loop μ-loop = search in
+    let a = start .args in
     let l = c .before .loop in
     let f = endAt (componentsIn (now (a .components))) in
-    sym (column-end 0 f (portNodes * c .before .before .component-count .result) (portNodes * l .c) (l .ways) (omega arith)) ∙ l .inv .1
-    ∙ ap (λ n. column 0 f (portNodes * n) 0 (now (a .ways))) (c .before .before .component-count .ensures)
+    sym (column-end 0 f (portNodes * after-component-count .component-count .result) (portNodes * l .c) (l .ways) (omega arith)) ∙ l .inv .1
+    ∙ ap (λ n. column 0 f (portNodes * n) 0 (now (a .ways))) (after-component-count .component-count .ensures)
 
 pub start-ways-spec : {M : Type 1} → statement M
 start-ways-spec =
-    tie.close
-    (tie.spec
-    Inv-loop
-    μ-loop
-    component-count-requires
-    loop-holds
-    mul-x
-    is-atomic-requires
-    one-if-requires
-    put-four-requires
-    add-put-four
-    one-if-requires-2
-    put-four-requires-2
-    add-c
-    loop-less
-    loop-again
+    tie.close (tie.spec Inv-loop μ-loop (λ c κs. search needs) loop-holds (λ c. search needs) (λ c κs. search needs) (λ c κs. search needs)
+    (λ c κs. search needs) (λ c. search needs) (λ c κs. search needs) (λ c κs. search needs) (λ c. search needs) (λ c. search needs) loop-again
     returns)

@@ -6,47 +6,28 @@ use Rattle.way_counts.specs.Words.{linkDown}
 use Rattle.way_counts.proofs.take_down.Statement.{statement}
 use Rattle.way_counts.proofs.take_down.Tie as tie
 
-add-size16 : tie.Need-add-size16
-add-size16 c = search needs
-
-mul-size16 : tie.Need-mul-size16
-mul-size16 c = search needs
-
-element-copy-out-size16 : tie.Need-element-copy-out-size16
-element-copy-out-size16 c = search needs
-
-size16-requires : tie.Need-size16-requires
-size16-requires c κs = search needs
-
-is-output-requires : tie.Need-is-output-requires
-is-output-requires c κs = search needs
-
 returns : tie.Need-returns
 unfolding linkDown
 returns c =
-    let e = sym (c .before .is-output .ensures ∙ ap isOutput (c .before .before .size16 .ensures)) ∙ c .if1 .taken in
+    let after-size16 : tie.After-size16 = search in
+    let e = sym (c .before .is-output .ensures ∙ ap isOutput (after-size16 .size16 .ensures)) ∙ c .if1 .taken in
     rw e
-
-mul-size16-2 : tie.Need-mul-size16-2
-mul-size16-2 c = search needs
-
-element-copy-out-size16-2 : tie.Need-element-copy-out-size16-2
-element-copy-out-size16-2 c = search needs
-
-size16-requires-2 : tie.Need-size16-requires-2
-size16-requires-2 c κs = search needs
 
 take-link-requires : tie.Need-take-link-requires
 take-link-requires c κs =
-    let p = c .before .before .before .before .before .before .before .pre in
-    (rw (c .before .before .before .before .before .size16 .ensures) (p .1), rw (c .before .size162 .ensures) (p .2))
+    let start : tie.Start = search in let after-size16 : tie.After-size16 = search in
+    let p = start .pre in
+    (rw (after-size16 .size16 .ensures) (p .1), rw (c .before .size162 .ensures) (p .2))
 
 returns-2 : tie.Need-returns-2
 unfolding linkDown
 returns-2 c =
-    let e = sym (c .before .before .before .before .before .is-output .ensures ∙ ap isOutput (c .before .before .before .before .before .before .size16 .ensures)) ∙ c .before .before .before .before .if1 .left in
-    rw (e, ← c .before .before .before .before .before .before .size16 .ensures, ← c .before .before .size162 .ensures) (c .take-link .ensures)
+    let after-size162 : tie.After-size162 = search in let else1 : tie.Else1 = search in let after-is-output : tie.After-is-output = search in
+    let after-size16 : tie.After-size16 = search in
+    let e = sym (after-is-output .is-output .ensures ∙ ap isOutput (after-size16 .size16 .ensures)) ∙ else1 .if1 .left in
+    rw (e, ← after-size16 .size16 .ensures, ← after-size162 .size162 .ensures) (c .take-link .ensures)
 
 pub take-down-spec : {M : Type 1} → statement M
 take-down-spec =
-    tie.close (tie.spec add-size16 mul-size16 element-copy-out-size16 size16-requires is-output-requires returns mul-size16-2 element-copy-out-size16-2 size16-requires-2 take-link-requires returns-2)
+    tie.close (tie.spec (λ c. search needs) (λ c. search needs) (λ c. search needs) (λ c κs. search needs) (λ c κs. search needs) returns
+    (λ c. search needs) (λ c. search needs) (λ c κs. search needs) take-link-requires returns-2)

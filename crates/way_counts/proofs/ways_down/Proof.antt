@@ -23,30 +23,26 @@ loop-holds c =
 
 take-down-requires : tie.Need-take-down-requires Inv-loop μ-loop
 take-down-requires c κs =
-    let w = c .before .before .before .pre .1 (c .before .before .loop .j) (omega arith) (omega arith) in
+    let start : tie.Start Inv-loop μ-loop = search in let at-loop : tie.At-loop Inv-loop μ-loop = search in
+    let w = start .pre .1 (at-loop .loop .j) (omega arith) (omega arith) in
     (omega arith, w .0, w .1)
-
-sub-j : tie.Need-sub-j Inv-loop μ-loop
-sub-j c = search needs
-
-loop-less : tie.Need-loop-less Inv-loop μ-loop
-loop-less c = search needs
 
 loop-again : tie.Need-loop-again Inv-loop μ-loop
 loop-again c =
-    let a = c .before .before .before .before .args in
-    let l = c .before .before .before .loop in
+    let start : tie.Start Inv-loop μ-loop = search in let at-loop : tie.At-loop Inv-loop μ-loop = search in
+    let a = start .args in
+    let l = at-loop .loop in
     let src = sourceIn (now (a .tables)) in
     let tgt : ℕ → ℕ = λ j. getD (now (a .targets)) j 0 in
     (omega arith, ap (waysDown src tgt (l .j - 1)) (c .take-down .ensures) ∙ down-more src tgt (l .j) (l .ways) (omega arith) ∙ l .inv .1)
 
 returns : tie.Need-returns Inv-loop μ-loop
 returns c =
-    let a = c .before .before .args in
+    let start : tie.Start Inv-loop μ-loop = search in
+    let a = start .args in
     let l = c .before .loop in
     sym (down-end (sourceIn (now (a .tables))) (λ j. getD (now (a .targets)) j 0) (l .j) (l .ways) (omega arith)) ∙ l .inv .1
 
 pub ways-down-spec : {M : Type 1} → statement M
 ways-down-spec =
-    tie.close
-    (tie.spec Inv-loop μ-loop loop-holds take-down-requires sub-j loop-less loop-again returns)
+    tie.close (tie.spec Inv-loop μ-loop loop-holds take-down-requires (λ c. search needs) (λ c. search needs) loop-again returns)

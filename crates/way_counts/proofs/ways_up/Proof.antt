@@ -25,19 +25,15 @@ loop-holds c =
 
 take-up-requires : tie.Need-take-up-requires Inv-loop μ-loop
 take-up-requires c κs =
-    let w = c .before .before .before .pre .1 (c .before .before .loop .j) (omega arith) (omega arith) in
+    let start : tie.Start Inv-loop μ-loop = search in let at-loop : tie.At-loop Inv-loop μ-loop = search in
+    let w = start .pre .1 (at-loop .loop .j) (omega arith) (omega arith) in
     (omega arith, w .0, w .1)
-
-add-j : tie.Need-add-j Inv-loop μ-loop
-add-j c = search needs
-
-loop-less : tie.Need-loop-less Inv-loop μ-loop
-loop-less c = search needs
 
 loop-again : tie.Need-loop-again Inv-loop μ-loop
 loop-again c =
-    let a = c .before .before .before .before .args in
-    let l = c .before .before .before .loop in
+    let start : tie.Start Inv-loop μ-loop = search in let at-loop : tie.At-loop Inv-loop μ-loop = search in
+    let a = start .args in
+    let l = at-loop .loop in
     let src = sourceIn (now (a .tables)) in
     let tgt : ℕ → ℕ = λ j. getD (now (a .targets)) j 0 in
     let z : a .n + 1 - (l .j + 1) ≡ a .n - l .j = omega arith in
@@ -45,11 +41,11 @@ loop-again c =
 
 returns : tie.Need-returns Inv-loop μ-loop
 returns c =
-    let a = c .before .before .args in
+    let start : tie.Start Inv-loop μ-loop = search in
+    let a = start .args in
     let l = c .before .loop in
     sym (up-none (sourceIn (now (a .tables))) (λ j. getD (now (a .targets)) j 0) (a .n) (l .j) (l .ways) (omega arith)) ∙ l .inv .2
 
 pub ways-up-spec : {M : Type 1} → statement M
 ways-up-spec =
-    tie.close
-    (tie.spec Inv-loop μ-loop loop-holds take-up-requires add-j loop-less loop-again returns)
+    tie.close (tie.spec Inv-loop μ-loop loop-holds take-up-requires (λ c. search needs) (λ c. search needs) loop-again returns)

@@ -81,13 +81,18 @@ collect-child-put-output-requires t c κs = search needs
 
 collect-child-same-length : (t : ℕ) → collect-child-lts.Need-same-length (collect-child-calls t) (collect-child-at t) collect-child.Post
 collect-child-same-length t c =
-    c .before .before .put-output .kept .1 .1 .1 .1 .0
+    let after-put-output : collect-child-lts.After-put-output (collect-child-calls t) (collect-child-at t) collect-child.Post = search in
+    after-put-output .put-output .kept .1 .1 .1 .1 .0
 
 collect-child-returns : (t : ℕ) → collect-child-lts.Need-returns (collect-child-calls t) (collect-child-at t) collect-child.Post
 unfolding childOut
 collect-child-returns t c =
-    let a = c .before .before .before .before .before .before .before .before .args in
-    rw (sym (c .before .before .before .before .before .is-atomic .ensures) ∙ c .before .before .before .before .if1 .taken, ← sent-by (phasesIn (now (a .phases))) (now (a .tables)) (now (a .marks)) (a .y)) (c .before .before .put-output .ensures)
+    let start : collect-child-lts.Start (collect-child-calls t) (collect-child-at t) collect-child.Post = search in
+    let after-put-output : collect-child-lts.After-put-output (collect-child-calls t) (collect-child-at t) collect-child.Post = search in
+    let then1 : collect-child-lts.Then1 (collect-child-calls t) (collect-child-at t) collect-child.Post = search in
+    let after-is-atomic : collect-child-lts.After-is-atomic (collect-child-calls t) (collect-child-at t) collect-child.Post = search in
+    let a = start .args in
+    rw (sym (after-is-atomic .is-atomic .ensures) ∙ then1 .if1 .taken, ← sent-by (phasesIn (now (a .phases))) (now (a .tables)) (now (a .marks)) (a .y)) (after-put-output .put-output .ensures)
 
 collect-child-is-open-requires : (t : ℕ) → collect-child-lts.Need-is-open-requires (collect-child-calls t) (collect-child-at t) collect-child.Post
 collect-child-is-open-requires t c κs = search needs
@@ -95,22 +100,31 @@ collect-child-is-open-requires t c κs = search needs
 collect-child-returns-2 : (t : ℕ) → collect-child-lts.Need-returns-2 (collect-child-calls t) (collect-child-at t) collect-child.Post
 unfolding childOut puts
 collect-child-returns-2 t c =
-    let a = c .before .before .before .before .before .before .args in
-    rw (sym (c .before .before .before .is-atomic .ensures) ∙ c .before .before .if1 .left, coupled-shut (phasesIn (now (a .phases))) (now (a .tables)) (now (a .marks)) (now (a .reached)) (a .depth) (a .y) (sym (c .before .is-open .ensures) ∙ not-true _ (c .if2 .taken)))
+    let start : collect-child-lts.Start (collect-child-calls t) (collect-child-at t) collect-child.Post = search in
+    let else1 : collect-child-lts.Else1 (collect-child-calls t) (collect-child-at t) collect-child.Post = search in
+    let after-is-atomic : collect-child-lts.After-is-atomic (collect-child-calls t) (collect-child-at t) collect-child.Post = search in
+    let a = start .args in
+    rw (sym (after-is-atomic .is-atomic .ensures) ∙ else1 .if1 .left, coupled-shut (phasesIn (now (a .phases))) (now (a .tables)) (now (a .marks)) (now (a .reached)) (a .depth) (a .y) (sym (c .before .is-open .ensures) ∙ not-true _ (c .if2 .taken)))
 
 collect-child-collect-coupled-requires : (t : ℕ) → collect-child-lts.Need-collect-coupled-requires (collect-child-calls t) (collect-child-at t) collect-child.Post
 collect-child-collect-coupled-requires t c κs =
-    let given = c .before .before .before .before .before .before .before .pre .1 in
-    (search needs, (given .0, given .1, sym (c .before .before .is-open .ensures) ∙ not-false _ (c .before .if2 .left)))
+    let start : collect-child-lts.Start (collect-child-calls t) (collect-child-at t) collect-child.Post = search in
+    let after-is-open : collect-child-lts.After-is-open (collect-child-calls t) (collect-child-at t) collect-child.Post = search in
+    let given = start .pre .1 in
+    (search needs, (given .0, given .1, sym (after-is-open .is-open .ensures) ∙ not-false _ (c .before .if2 .left)))
 
 collect-child-same-length-2 : (t : ℕ) → collect-child-lts.Need-same-length-2 (collect-child-calls t) (collect-child-at t) collect-child.Post
 collect-child-same-length-2 t c =
-    c .before .before .collect-coupled .kept .1 .1 .1 .1 .1 .1 .1 .0
+    let after-collect-coupled : collect-child-lts.After-collect-coupled (collect-child-calls t) (collect-child-at t) collect-child.Post = search in
+    after-collect-coupled .collect-coupled .kept .1 .1 .1 .1 .1 .1 .1 .0
 
 collect-child-returns-3 : (t : ℕ) → collect-child-lts.Need-returns-3 (collect-child-calls t) (collect-child-at t) collect-child.Post
 unfolding childOut
 collect-child-returns-3 t c =
-    rw (sym (c .before .before .before .before .before .before .before .is-atomic .ensures) ∙ c .before .before .before .before .before .before .if1 .left) (c .before .before .collect-coupled .ensures)
+    let after-collect-coupled : collect-child-lts.After-collect-coupled (collect-child-calls t) (collect-child-at t) collect-child.Post = search in
+    let else1 : collect-child-lts.Else1 (collect-child-calls t) (collect-child-at t) collect-child.Post = search in
+    let after-is-atomic : collect-child-lts.After-is-atomic (collect-child-calls t) (collect-child-at t) collect-child.Post = search in
+    rw (sym (after-is-atomic .is-atomic .ensures) ∙ else1 .if1 .left) (after-collect-coupled .collect-coupled .ensures)
 
 abbrev collect-coupled-Inv-loop : collect-coupled-lts.InvT-loop
 collect-coupled-Inv-loop phases tables marks reached depth own x buf₀ at next₀ left₀ link₀ buf next left link =
@@ -131,8 +145,9 @@ collect-coupled-first-link-requires t c κs = search needs
 
 collect-coupled-loop-holds : (t : ℕ) → collect-coupled-lts.Need-loop-holds (collect-coupled-calls t) (collect-coupled-at t) collect-coupled.Post collect-coupled-Inv-loop collect-coupled-μ-loop
 collect-coupled-loop-holds t c =
-    let a = c .before .before .before .before .args in
-    let given = c .before .before .before .before .pre .1 in
+    let start : collect-coupled-lts.Start (collect-coupled-calls t) (collect-coupled-at t) collect-coupled.Post collect-coupled-Inv-loop collect-coupled-μ-loop = search in
+    let a = start .args in
+    let given = start .pre .1 in
     (omega arith, rw (c .first-link .ensures) (given .1 .firsts (a .x) (given .0)), refl, rw (c .first-link .ensures) (ap (λ l. puts (a .own) l (now (a .buf), a .at)) (coupled-open (phasesIn (now (a .phases))) (now (a .tables)) (now (a .marks)) (now (a .reached)) (a .depth) (a .x) (omega arith) (given .2))))
 
 collect-coupled-source-of-requires : (t : ℕ) → collect-coupled-lts.Need-source-of-requires (collect-coupled-calls t) (collect-coupled-at t) collect-coupled.Post collect-coupled-Inv-loop collect-coupled-μ-loop
@@ -144,29 +159,41 @@ collect-coupled-sub-collect-child t c = search needs
 
 collect-coupled-collect-child-requires : (t : ℕ) → collect-coupled-lts.Need-collect-child-requires (collect-coupled-calls t) (collect-coupled-at t) collect-coupled.Post collect-coupled-Inv-loop collect-coupled-μ-loop
 collect-coupled-collect-child-requires t c κs =
-    let r = c .before .before .before .before .before .before .before .before .pre .1 .1 in
-    let l = c .before .before .before .loop in
+    let start : collect-coupled-lts.Start (collect-coupled-calls t) (collect-coupled-at t) collect-coupled.Post collect-coupled-Inv-loop collect-coupled-μ-loop = search in
+    let at-loop : collect-coupled-lts.At-loop (collect-coupled-calls t) (collect-coupled-at t) collect-coupled.Post collect-coupled-Inv-loop collect-coupled-μ-loop = search in
+    let r = start .pre .1 .1 in
+    let l = at-loop .loop in
     (search needs, (rw (c .before .source-of .ensures) (r .sources (l .link) (l .inv .1)), r))
 
 collect-coupled-next-link-requires : (t : ℕ) → collect-coupled-lts.Need-next-link-requires (collect-coupled-calls t) (collect-coupled-at t) collect-coupled.Post collect-coupled-Inv-loop collect-coupled-μ-loop
 collect-coupled-next-link-requires t c κs =
-    c .before .before .before .before .before .before .loop .inv .1
+    let at-loop : collect-coupled-lts.At-loop (collect-coupled-calls t) (collect-coupled-at t) collect-coupled.Post collect-coupled-Inv-loop collect-coupled-μ-loop = search in
+    at-loop .loop .inv .1
 
 collect-coupled-sub-left : (t : ℕ) → collect-coupled-lts.Need-sub-left (collect-coupled-calls t) (collect-coupled-at t) collect-coupled.Post collect-coupled-Inv-loop collect-coupled-μ-loop
 collect-coupled-sub-left t c =
-    omega (arith, both-left (c .before .before .before .before .before .before .before .loop .left) (c .before .before .before .before .before .before .before .loop .link) (c .before .before .before .before .before .before .loop-test .taken) .0)
+    let in-loop : collect-coupled-lts.In-loop (collect-coupled-calls t) (collect-coupled-at t) collect-coupled.Post collect-coupled-Inv-loop collect-coupled-μ-loop = search in
+    let at-loop : collect-coupled-lts.At-loop (collect-coupled-calls t) (collect-coupled-at t) collect-coupled.Post collect-coupled-Inv-loop collect-coupled-μ-loop = search in
+    omega (arith, both-left (at-loop .loop .left) (at-loop .loop .link) (in-loop .loop-test .taken) .0)
 
 collect-coupled-loop-less : (t : ℕ) → collect-coupled-lts.Need-loop-less (collect-coupled-calls t) (collect-coupled-at t) collect-coupled.Post collect-coupled-Inv-loop collect-coupled-μ-loop
 collect-coupled-loop-less t c =
-    omega (arith, both-left (c .before .before .before .before .before .before .before .loop .left) (c .before .before .before .before .before .before .before .loop .link) (c .before .before .before .before .before .before .loop-test .taken) .0)
+    let in-loop : collect-coupled-lts.In-loop (collect-coupled-calls t) (collect-coupled-at t) collect-coupled.Post collect-coupled-Inv-loop collect-coupled-μ-loop = search in
+    let at-loop : collect-coupled-lts.At-loop (collect-coupled-calls t) (collect-coupled-at t) collect-coupled.Post collect-coupled-Inv-loop collect-coupled-μ-loop = search in
+    omega (arith, both-left (at-loop .loop .left) (at-loop .loop .link) (in-loop .loop-test .taken) .0)
 
 collect-coupled-loop-again : (t : ℕ) → collect-coupled-lts.Need-loop-again (collect-coupled-calls t) (collect-coupled-at t) collect-coupled.Post collect-coupled-Inv-loop collect-coupled-μ-loop
 collect-coupled-loop-again t c =
-    let a = c .before .before .before .before .before .before .before .before .before .before .before .before .args in
-    let l = c .before .before .before .before .before .before .before .loop in
-    let m = c .before .before .before .collect-child in
+    let start : collect-coupled-lts.Start (collect-coupled-calls t) (collect-coupled-at t) collect-coupled.Post collect-coupled-Inv-loop collect-coupled-μ-loop = search in
+    let after-collect-child : collect-coupled-lts.After-collect-child (collect-coupled-calls t) (collect-coupled-at t) collect-coupled.Post collect-coupled-Inv-loop collect-coupled-μ-loop = search in
+    let after-source-of : collect-coupled-lts.After-source-of (collect-coupled-calls t) (collect-coupled-at t) collect-coupled.Post collect-coupled-Inv-loop collect-coupled-μ-loop = search in
+    let in-loop : collect-coupled-lts.In-loop (collect-coupled-calls t) (collect-coupled-at t) collect-coupled.Post collect-coupled-Inv-loop collect-coupled-μ-loop = search in
+    let at-loop : collect-coupled-lts.At-loop (collect-coupled-calls t) (collect-coupled-at t) collect-coupled.Post collect-coupled-Inv-loop collect-coupled-μ-loop = search in
+    let a = start .args in
+    let l = at-loop .loop in
+    let m = after-collect-child .collect-child in
     let f = pulledChild (phasesIn (now (a .phases))) (now (a .tables)) (now (a .marks)) (now (a .reached)) (a .depth - 1) in
-    (omega arith, rw (c .next-link .ensures) (c .before .before .before .before .before .before .before .before .before .before .before .before .pre .1 .1 .nexts (l .link) (l .inv .1)), m .kept .1 .1 .1 .1 .1 .1 .1 .0 ∙ l .inv .2, rw (m .ensures, c .before .before .before .before .before .source-of .ensures, c .next-link .ensures) (chain-more f (now (a .tables)) (a .own) (l .left) (l .link) (l .buf, l .next) (c .before .before .before .before .before .before .loop-test .taken) ∙ l .inv .3))
+    (omega arith, rw (c .next-link .ensures) (start .pre .1 .1 .nexts (l .link) (l .inv .1)), m .kept .1 .1 .1 .1 .1 .1 .1 .0 ∙ l .inv .2, rw (m .ensures, after-source-of .source-of .ensures, c .next-link .ensures) (chain-more f (now (a .tables)) (a .own) (l .left) (l .link) (l .buf, l .next) (in-loop .loop-test .taken) ∙ l .inv .3))
 
 collect-coupled-same-length : (t : ℕ) → collect-coupled-lts.Need-same-length (collect-coupled-calls t) (collect-coupled-at t) collect-coupled.Post collect-coupled-Inv-loop collect-coupled-μ-loop
 collect-coupled-same-length t c =
@@ -174,7 +201,8 @@ collect-coupled-same-length t c =
 
 collect-coupled-returns-2 : (t : ℕ) → collect-coupled-lts.Need-returns-2 (collect-coupled-calls t) (collect-coupled-at t) collect-coupled.Post collect-coupled-Inv-loop collect-coupled-μ-loop
 collect-coupled-returns-2 t c =
-    let a = c .before .before .before .before .before .before .args in
+    let start : collect-coupled-lts.Start (collect-coupled-calls t) (collect-coupled-at t) collect-coupled.Post collect-coupled-Inv-loop collect-coupled-μ-loop = search in
+    let a = start .args in
     let l = c .before .loop in
     let f = pulledChild (phasesIn (now (a .phases))) (now (a .tables)) (now (a .marks)) (now (a .reached)) (a .depth - 1) in
     sym (chain-end f (now (a .tables)) (a .own) (l .left) (l .link) (l .buf, l .next) (c .loop-test .left)) ∙ l .inv .3

@@ -4,28 +4,18 @@ use Rattle.pull_laws.specs.Tables.{nodeComponent}
 use Rattle.collect.proofs.outputs.put_output.Statement.{statement}
 use Rattle.collect.proofs.outputs.put_output.Tie as tie
 
-size-requires : tie.Need-size-requires
-size-requires c κs = search needs
-
-mark-at-requires : tie.Need-mark-at-requires
-mark-at-requires c κs = search needs
-
-port-of-requires : tie.Need-port-of-requires
-port-of-requires c κs = search needs
-
-put-sent-requires : tie.Need-put-sent-requires
-put-sent-requires c κs = search needs
-
 same-length : tie.Need-same-length
 same-length c =
-    c .before .before .put-sent .kept .1 .1 .1 .1 .0
+    let after-put-sent : tie.After-put-sent = search in
+    after-put-sent .put-sent .kept .1 .1 .1 .1 .0
 
 returns : tie.Need-returns
 unfolding nodeComponent
 returns c =
-    rw (c .before .before .before .before .before .mark-at .ensures, c .before .before .before .before .before .before .size .ensures, c .before .before .before .before .port-of .ensures) at (c .before .before .put-sent .ensures)
+    let after-put-sent : tie.After-put-sent = search in let after-port-of : tie.After-port-of = search in
+    let after-mark-at : tie.After-mark-at = search in let after-size : tie.After-size = search in
+    rw (after-mark-at .mark-at .ensures, after-size .size .ensures, after-port-of .port-of .ensures) at (after-put-sent .put-sent .ensures)
 
 pub put-output-spec : {M : Type 1} → statement M
 put-output-spec =
-    tie.close
-    (tie.spec size-requires mark-at-requires port-of-requires put-sent-requires same-length returns)
+    tie.close (tie.spec (λ c κs. search needs) (λ c κs. search needs) (λ c κs. search needs) (λ c κs. search needs) same-length returns)

@@ -9,8 +9,7 @@ use Rattle.model_checks.proofs.phase_slots.message_key.Tie as tie
 
 returns : tie.Need-returns
 returns c =
-    let start : tie.Start = search in
-    let port : tie.After-size = search in
+    let start : tie.Start = search in let port : tie.After-size = search in
     rw (c .size16 .ensures, port .size .ensures) (message-of-key (messageOf (start .args .message)) (omega arith))
 
 pub message-key-spec : {M : Type 1} → statement M
