@@ -1,16 +1,17 @@
 #!/usr/bin/env python3
 """Wrong definitions that the theorems must refuse.
 
-Each *.edit beside this file changes one line of crates/definition/specs and names the law at which the proof then breaks:
+Each *.edit beside this file changes one line of a crate's specs/ and names the law at which the proof then breaks:
 
     # what is wrong
+    crate: spec_step (where it is not `definition`)
     file: specs/Flatten.antt
     old: the text, which stands there once
     new: what takes its place
-    law: flat_laws `flat-sound`
+    law: law_flat `flat-sound`
 
-The edit is made in a copy of the repository without the computed tables (which refuse most of these edits too), and the crates up to
-`theory` are checked there. It passes where the check fails and the first error names that law. Two edits run at a time.
+The edit is made in a copy of the repository without the computed tables (which refuse most of these edits too), and the crates up to the
+one with that law are checked there. It passes where the check fails and the first error names that law. Two edits run at a time.
 """
 import concurrent.futures
 import os
@@ -26,9 +27,9 @@ ROOT = HERE.parent
 
 
 def read_edit(path):
-    fields = {}
+    fields = {"crate": "definition"}
     for line in path.read_text().splitlines():
-        match = re.match(r"(file|old|new|law): (.*)$", line)
+        match = re.match(r"(crate|file|old|new|law): (.*)$", line)
         if match:
             fields[match.group(1)] = match.group(2)
     return fields
@@ -43,21 +44,21 @@ def copy_of_repository(folder):
 
 def try_edit(path):
     edit = read_edit(path)
+    crate, law = re.match(r"(\S+) `(.+)`", edit["law"]).groups()
     with tempfile.TemporaryDirectory() as name:
         folder = pathlib.Path(name)
         copy_of_repository(folder)
-        target = folder / "crates/definition" / edit["file"]
+        target = folder / "crates" / edit["crate"] / edit["file"]
         text = target.read_text()
         if text.count(edit["old"]) != 1:
             return path.stem, False, "the old text does not stand there once"
         target.write_text(text.replace(edit["old"], edit["new"]))
         run = subprocess.run(
-            ["rt", "check", "theory"], cwd=folder, capture_output=True, text=True, env=dict(os.environ, RT_JOBS="1")
+            ["rt", "check", crate], cwd=folder, capture_output=True, text=True, env=dict(os.environ, RT_JOBS="1")
         )
         said = run.stdout + run.stderr
         if run.returncode == 0:
             return path.stem, False, "not refused"
-        crate, law = re.match(r"(\S+) `(.+)`", edit["law"]).groups()
         first = next((line for line in said.splitlines() if ": error" in line), "no error line")
         first = first.replace(str(folder) + "/", "")
         right = first.startswith(f"crates/{crate}/") and f": error: `{law}`" in first

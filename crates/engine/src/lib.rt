@@ -41,14 +41,14 @@ fn wide(x: u16) -> u64
 pub fn check_model(file: &[u8]) -> u64
     ensures { λ r. ⌜ r ≡ checkModel (now (file .entry)) ⌝ }
 {
-    wide(route_count::check_model(file))
+    wide(accept_routes::check_model(file))
 }
 
 // Writes the first run of a model at the front of the run buffer.
 pub fn start(file: &[u8], run: &mut [u8]) -> Written
     ensures { λ r. ⌜ wroteOf (now (run .exit)) r ≡ start (now (file .entry)) (now (run .entry)) ⌝ }
 {
-    let w = run_calls::start(file, run);
+    let w = call_start::start(file, run);
     Written {
         number: w.number,
         bytes: w.bytes,
@@ -59,7 +59,7 @@ pub fn start(file: &[u8], run: &mut [u8]) -> Written
 pub fn advance(file: &[u8], run: &mut [u8], t: u64, bag: &[u8], trace: &mut [u8]) -> Advanced
     ensures { λ r. ⌜ advancedOf (now (run .exit)) (now (trace .exit)) r ≡ advance (now (file .entry)) (now (run .entry)) t (now (bag .entry)) (now (trace .entry)) ⌝ }
 {
-    let a = advance_call::advance(file, run, t, bag, trace);
+    let a = call_advance::advance(file, run, t, bag, trace);
     Advanced {
         number: a.number,
         instants: a.instants,
@@ -72,7 +72,7 @@ pub fn advance(file: &[u8], run: &mut [u8], t: u64, bag: &[u8], trace: &mut [u8]
 pub fn read(file: &[u8], run: &[u8], position: u64) -> Reading
     ensures { λ r. ⌜ readOf r ≡ reading (now (file .entry)) (now (run .entry)) position ⌝ }
 {
-    let r = reading::read(file, run, position);
+    let r = call_read::read(file, run, position);
     Reading {
         number: r.number,
         phase: r.phase,
@@ -85,7 +85,7 @@ pub fn read(file: &[u8], run: &[u8], position: u64) -> Reading
 pub fn flatten(file: &[u8], out: &mut [u8]) -> Written
     ensures { λ r. ⌜ wroteOf (now (out .exit)) r ≡ flatten (now (file .entry)) (now (out .entry)) ⌝ }
 {
-    let w = flatten::flatten(file, out);
+    let w = call_flatten::flatten(file, out);
     Written {
         number: w.number,
         bytes: w.bytes,

@@ -11,15 +11,15 @@ use Rattle.definition.specs.Limits.{maxComponents, phaseSize}
 use Rattle.definition.specs.Model.{noPhase, slots}
 use Rattle.definition.specs.Records.{messageAt, messageBytes, phaseBytes}
 use Rattle.definition.specs.Pinned.Decoder.{toPhase}
-use Rattle.laws.proofs.Lists.{getD-map, length-up}
-use Rattle.byte_laws.specs.Parts.{recordsIn}
+use Rattle.law_base.proofs.Lists.{getD-map, length-up}
+use Rattle.law_bytes.specs.Parts.{recordsIn}
 use Rattle.model_records.specs.Values.{phasesIn}
-use Rattle.model_laws.proofs.Codec.{length-bytes, rows-length, rows-back}
-use Rattle.store_laws.proofs.Stores.{sets-append}
-use Rattle.pull_laws.specs.Tables.{outputNode}
-use Rattle.pull_laws.proofs.Positions.{getD-up}
+use Rattle.law_model.proofs.Codec.{length-bytes, rows-length, rows-back}
+use Rattle.law_stores.proofs.Stores.{sets-append}
+use Rattle.spec_step.specs.Tables.{outputNode}
+use Rattle.law_step.proofs.Positions.{getD-up}
 use Rattle.flat_writer.proofs.Pieces.{records-more, records-none}
-use Rattle.model_laws.proofs.Writing.{phase-size}
+use Rattle.law_model.proofs.Writing.{phase-size}
 use Rattle.flat_probe.specs.Probe.{ownPort, probeOf, probes, probeMarks}
 
 pub slot-puts : (c q at : ℕ) (b : Bytes) → sets (sets b at (bytesOf 1 q)) (at + 1) (bytesOf 2 (8 * c + (4 + q))) ≡ sets b at (messageBytes (ownPort c q))

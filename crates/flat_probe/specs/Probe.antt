@@ -6,7 +6,7 @@ use mathlib.Core.List.{List, map}
 use Rattle.definition.specs.Lists.{upFrom}
 use Rattle.definition.specs.Limits.{maxComponents, maxOutputs, portCount}
 use Rattle.definition.specs.Model.{Message, Bag, Phase}
-use Rattle.pull_laws.specs.Tables.{inputNode, outputNode}
+use Rattle.spec_step.specs.Tables.{inputNode, outputNode}
 
 -- ---- the probing step
 

@@ -7,13 +7,13 @@ use mathlib.Core.Bool.{true, cond}
 use lib.ListN.{getD}
 use Rattle.definition.specs.Model.{Model, isAtomic}
 use Rattle.definition.specs.Flatten.{renumbered}
-use Rattle.model_laws.proofs.WellFormed.{WellFormed}
-use Rattle.laws.proofs.Tests.{eqb-sym}
-use Rattle.nest_laws.proofs.Components.{rooted, root-not}
-use Rattle.nest_laws.proofs.Renumber.{isListed, new-root, new-atomic}
-use Rattle.flat_laws.proofs.FlatComponents.{listed-cases}
-use Rattle.pull_laws.specs.Tables.{positionsAt}
-use Rattle.pull_laws.specs.Tabled.{Tabled}
+use Rattle.law_model.proofs.WellFormed.{WellFormed}
+use Rattle.law_base.proofs.Tests.{eqb-sym}
+use Rattle.law_nest.proofs.Components.{rooted, root-not}
+use Rattle.law_nest.proofs.Renumber.{isListed, new-root, new-atomic}
+use Rattle.law_flat.proofs.FlatComponents.{listed-cases}
+use Rattle.spec_step.specs.Tables.{positionsAt}
+use Rattle.spec_step.specs.Tabled.{Tabled}
 use Rattle.flat_ranks.specs.Ranks.{rankOf}
 
 root-rank : (t : List ℕ) → rankOf t 0 ≡ 0

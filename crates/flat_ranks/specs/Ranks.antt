@@ -4,7 +4,7 @@ use mathlib.Core.List.{List}
 use mathlib.Core.Bool.{cond}
 use lib.ListN.{getD}
 use lib.Dec.{eqb}
-use Rattle.pull_laws.specs.Tables.{positionsAt}
+use Rattle.spec_step.specs.Tables.{positionsAt}
 
 -- The root is 0, and the atomics follow by position.
 unfoldable pub rankOf : List ℕ → ℕ → ℕ

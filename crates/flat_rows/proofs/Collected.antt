@@ -12,12 +12,12 @@ use Rattle.definition.specs.Limits.{maxAncestors, portCount}
 use Rattle.definition.specs.Model.{Bag, Phase}
 use Rattle.definition.specs.Records.{messageAt}
 use Rattle.definition.specs.Engine.{toBag}
-use Rattle.pull_laws.specs.Put.{putPorts, keysOf}
-use Rattle.pull_laws.specs.Tables.{inputNode, outputNode, numbersAt}
-use Rattle.pull_laws.specs.TableStep.{pulledBelow, pulledInto, keysInto, rootKeys}
-use Rattle.pull_laws.proofs.Putting.{bag-front}
-use Rattle.store_laws.proofs.Fronts.{Front}
-use Rattle.store_laws.proofs.Stores.{take-sets}
+use Rattle.spec_step.specs.Put.{putPorts, keysOf}
+use Rattle.spec_step.specs.Tables.{inputNode, outputNode, numbersAt}
+use Rattle.spec_step.specs.TableStep.{pulledBelow, pulledInto, keysInto, rootKeys}
+use Rattle.law_step.proofs.Putting.{bag-front}
+use Rattle.law_stores.proofs.Fronts.{Front}
+use Rattle.law_stores.proofs.Stores.{take-sets}
 use Rattle.sort.proofs.Merging.{length-sort}
 use Rattle.flat_probe.specs.Probe.{probes, probeMarks, probeGiven}
 use Rattle.flat_rows.specs.Rows.{rowOf, rowsAtPosition, rowsFrom, rowsAtRoot, rowsOf, probeRows}

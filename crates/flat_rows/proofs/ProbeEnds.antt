@@ -15,31 +15,31 @@ use Rattle.definition.specs.Model.{Message, Bag, Coupling, Phase, Model, noMess
 use Rattle.definition.specs.Records.{portFits}
 use Rattle.definition.specs.File.{phaseTotal}
 use Rattle.definition.specs.Routes.{rootEnds, routes}
-use Rattle.laws.proofs.Sums.{sumOf, sum-map, sum-cong, sum-swap, if-cong}
-use Rattle.laws.proofs.Lists.{all-append, all-take, all-getD, sum-cong-if, count-sum}
-use Rattle.model_laws.proofs.WellFormed.{WellFormed}
-use Rattle.laws.proofs.Tests.{eqb-sym}
-use Rattle.nest_laws.proofs.Occurs.{occurs, once-up, pick-one}
-use Rattle.nest_laws.proofs.Components.{atomic-below, rooted, root-not, atomic-once, atomics-atomic, root, root-occurs, partsOfRoot}
-use Rattle.nest_laws.proofs.Nest.{due, bagAt, outOf, outDue, out-due}
-use Rattle.nest_laws.proofs.Leaves.{no-bag}
-use Rattle.nest_laws.proofs.Paths.{waysSum, down-tree, up-tree}
-use Rattle.nest_laws.proofs.Carried.{weight, outs}
-use Rattle.nest_laws.proofs.Carry.{root-hits, carry}
-use Rattle.nest_laws.proofs.Renumber.{isListed}
-use Rattle.nest_laws.proofs.Capacity.{sends, ways-carry, given-carry, no-root}
-use Rattle.flat_laws.proofs.FlatComponents.{listed-cases}
-use Rattle.flat_laws.proofs.RouteEnds.{routeFits, routes-fit, route-parts}
-use Rattle.laws.specs.Keys.{messageOf}
-use Rattle.pull_laws.specs.Put.{valuesOn}
-use Rattle.pull_laws.specs.Tables.{inputNode, outputNode}
-use Rattle.pull_laws.specs.TableStep.{keysInto, rootKeys}
-use Rattle.pull_laws.specs.Tabled.{Tabled}
-use Rattle.pull_laws.proofs.Nests.{sub}
-use Rattle.pull_laws.proofs.Keys.{isValue}
-use Rattle.pull_laws.proofs.Values.{hasValue, values-all}
-use Rattle.pull_laws.proofs.Ends.{pulled-same}
-use Rattle.pull_laws.proofs.Ends as E
+use Rattle.law_base.proofs.Sums.{sumOf, sum-map, sum-cong, sum-swap, if-cong}
+use Rattle.law_base.proofs.Lists.{all-append, all-take, all-getD, sum-cong-if, count-sum}
+use Rattle.law_model.proofs.WellFormed.{WellFormed}
+use Rattle.law_base.proofs.Tests.{eqb-sym}
+use Rattle.law_nest.proofs.Occurs.{occurs, once-up, pick-one}
+use Rattle.law_nest.proofs.Components.{atomic-below, rooted, root-not, atomic-once, atomics-atomic, root, root-occurs, partsOfRoot}
+use Rattle.law_nest.proofs.Nest.{due, bagAt, outOf, outDue, out-due}
+use Rattle.law_nest.proofs.Leaves.{no-bag}
+use Rattle.law_nest.proofs.Paths.{waysSum, down-tree, up-tree}
+use Rattle.law_nest.proofs.Carried.{weight, outs}
+use Rattle.law_nest.proofs.Carry.{root-hits, carry}
+use Rattle.law_nest.proofs.Renumber.{isListed}
+use Rattle.law_nest.proofs.Capacity.{sends, ways-carry, given-carry, no-root}
+use Rattle.law_flat.proofs.FlatComponents.{listed-cases}
+use Rattle.law_flat.proofs.RouteEnds.{routeFits, routes-fit, route-parts}
+use Rattle.law_base.specs.Keys.{messageOf}
+use Rattle.spec_step.specs.Put.{valuesOn}
+use Rattle.spec_step.specs.Tables.{inputNode, outputNode}
+use Rattle.spec_step.specs.TableStep.{keysInto, rootKeys}
+use Rattle.spec_step.specs.Tabled.{Tabled}
+use Rattle.law_step.proofs.Nests.{sub}
+use Rattle.law_step.proofs.Keys.{isValue}
+use Rattle.law_step.proofs.Values.{hasValue, values-all}
+use Rattle.law_step.proofs.Ends.{pulled-same}
+use Rattle.law_step.proofs.Ends as E
 use Rattle.flat_probe.specs.Probe.{ownPort, probeOf, probes, probeMarks, probeGiven}
 use Rattle.flat_rows.proofs.Probed.{probed, probeEntry, probe-phase, probe-due, probe-ready}
 use Rattle.flat_rows.proofs.ProbePull.{keys-into, root-keys}

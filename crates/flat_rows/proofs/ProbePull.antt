@@ -10,18 +10,18 @@ use lib.ListN.{length, getD}
 use borrow.Author.Tests.{ne-eqb}
 use Rattle.definition.specs.Limits.{maxComponents, maxAncestors, portCount}
 use Rattle.definition.specs.Model.{Bag, Model, noPhase, outputs}
-use Rattle.laws.proofs.Tests.{clash}
-use Rattle.model_laws.proofs.WellFormed.{WellFormed}
-use Rattle.pull_laws.specs.Put.{keysOf, valuesOn}
-use Rattle.pull_laws.specs.Tables.{nodePort}
-use Rattle.pull_laws.specs.TableStep.{isUp, sentBy, keysInto, rootKeys}
-use Rattle.pull_laws.specs.Tabled.{Tabled}
-use Rattle.pull_laws.proofs.Ends.{rising}
-use Rattle.pull_laws.proofs.Positions.{getD-up}
-use Rattle.pull_laws.proofs.Nodes.{Node, inn, out, rowsAt, atomicAt, sentAt, pulledOut, pulledIn}
-use Rattle.pull_laws.proofs.Numbered.{code, code-component, code-port, good, good-in}
-use Rattle.pull_laws.proofs.Closed.{Flags}
-use Rattle.pull_laws.proofs.TablePull as P
+use Rattle.law_base.proofs.Tests.{clash}
+use Rattle.law_model.proofs.WellFormed.{WellFormed}
+use Rattle.spec_step.specs.Put.{keysOf, valuesOn}
+use Rattle.spec_step.specs.Tables.{nodePort}
+use Rattle.spec_step.specs.TableStep.{isUp, sentBy, keysInto, rootKeys}
+use Rattle.spec_step.specs.Tabled.{Tabled}
+use Rattle.law_step.proofs.Ends.{rising}
+use Rattle.law_step.proofs.Positions.{getD-up}
+use Rattle.law_step.proofs.Nodes.{Node, inn, out, rowsAt, atomicAt, sentAt, pulledOut, pulledIn}
+use Rattle.law_step.proofs.Numbered.{code, code-component, code-port, good, good-in}
+use Rattle.law_step.proofs.Closed.{Flags}
+use Rattle.law_step.proofs.TablePull as P
 use Rattle.flat_probe.specs.Probe.{probes, probeMarks}
 use Rattle.flat_rows.proofs.Probed.{probed, probeEntry, probe-out}
 use Rattle.flat_probe.proofs.Stored.{probe-at}

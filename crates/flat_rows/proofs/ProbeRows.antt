@@ -14,22 +14,22 @@ use Rattle.definition.specs.Limits.{portCount}
 use Rattle.definition.specs.Model.{Message, Coupling, Model, isAtomic, atomics, couplingLe}
 use Rattle.definition.specs.Routes.{routes}
 use Rattle.definition.specs.Flatten.{renumbered, flatRoute, flat}
-use Rattle.laws.proofs.Sorting.{sort-perm, coupling-order}
-use Rattle.laws.proofs.Tests.{and-left, and-right}
-use Rattle.laws.proofs.Sums.{sumOf, sum-map, sum-cong}
-use Rattle.laws.proofs.Lists.{sum-cong-if, count-sum, all-at}
-use Rattle.laws.proofs.Bags.{count-append, same-perm, same-length}
-use Rattle.model_laws.proofs.WellFormed.{WellFormed}
-use Rattle.nest_laws.proofs.Components.{atomics-atomic}
-use Rattle.nest_laws.proofs.Renumber.{new-root, new-atomic, distinct-atomics}
-use Rattle.flat_laws.proofs.FlatComponents.{new-byte}
-use Rattle.flat_laws.proofs.RouteEnds.{routeFits, routes-fit, route-parts}
-use Rattle.laws.specs.Keys.{valueRange, messageOf}
-use Rattle.pull_laws.specs.Tables.{portNodes, inputNode, outputNode, nodeComponent, nodePort, numbersAt}
-use Rattle.pull_laws.specs.TableStep.{keysInto, rootKeys}
-use Rattle.pull_laws.specs.Tabled.{Tabled}
-use Rattle.pull_laws.proofs.Positions.{place-of}
-use Rattle.laws.specs.Keys.{couplingOf}
+use Rattle.law_base.proofs.Sorting.{sort-perm, coupling-order}
+use Rattle.law_base.proofs.Tests.{and-left, and-right}
+use Rattle.law_base.proofs.Sums.{sumOf, sum-map, sum-cong}
+use Rattle.law_base.proofs.Lists.{sum-cong-if, count-sum, all-at}
+use Rattle.law_base.proofs.Bags.{count-append, same-perm, same-length}
+use Rattle.law_model.proofs.WellFormed.{WellFormed}
+use Rattle.law_nest.proofs.Components.{atomics-atomic}
+use Rattle.law_nest.proofs.Renumber.{new-root, new-atomic, distinct-atomics}
+use Rattle.law_flat.proofs.FlatComponents.{new-byte}
+use Rattle.law_flat.proofs.RouteEnds.{routeFits, routes-fit, route-parts}
+use Rattle.law_base.specs.Keys.{valueRange, messageOf}
+use Rattle.spec_step.specs.Tables.{portNodes, inputNode, outputNode, nodeComponent, nodePort, numbersAt}
+use Rattle.spec_step.specs.TableStep.{keysInto, rootKeys}
+use Rattle.spec_step.specs.Tabled.{Tabled}
+use Rattle.law_step.proofs.Positions.{place-of}
+use Rattle.law_base.specs.Keys.{couplingOf}
 use Rattle.sort.proofs.Keys.{sort-couplings}
 use Rattle.flat_ranks.specs.Ranks.{rankOf}
 use Rattle.flat_ranks.proofs.Ranks.{rank-is}

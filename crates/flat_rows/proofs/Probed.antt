@@ -15,9 +15,9 @@ use Rattle.definition.specs.File.{phaseTotal}
 use Rattle.definition.specs.Devs.{Time, finite, never, later, sameTime}
 use Rattle.definition.specs.Atomic.{advanceOf}
 use Rattle.definition.specs.SavedRun.{Entry, dueOf, notBefore, dueAt}
-use Rattle.laws.proofs.Lists.{all-every}
-use Rattle.nest_laws.proofs.Trees.{leavesT, only-in}
-use Rattle.nest_laws.proofs.Nest.{Fresh, Ready, ready-in, due, outOf, outDue}
+use Rattle.law_base.proofs.Lists.{all-every}
+use Rattle.law_nest.proofs.Trees.{leavesT, only-in}
+use Rattle.law_nest.proofs.Nest.{Fresh, Ready, ready-in, due, outOf, outDue}
 use Rattle.flat_probe.specs.Probe.{probeOf, probes}
 use Rattle.flat_probe.proofs.Stored.{probe-at}
 

@@ -4,9 +4,9 @@ use Prim.Native.Nat.{ℕ, zero, suc, _+_, _*_, _/_, _%_}
 use mathlib.Core.List.{List, [], _++_, map}
 use lib.ListN.{getD}
 use Rattle.definition.specs.Model.{Bag, Phase}
-use Rattle.laws.specs.Keys.{valueRange}
-use Rattle.pull_laws.specs.Tables.{nodeComponent, nodePort, numbersAt}
-use Rattle.pull_laws.specs.TableStep.{keysInto, rootKeys}
+use Rattle.law_base.specs.Keys.{valueRange}
+use Rattle.spec_step.specs.Tables.{nodeComponent, nodePort, numbersAt}
+use Rattle.spec_step.specs.TableStep.{keysInto, rootKeys}
 use Rattle.flat_ranks.specs.Ranks.{rankOf}
 use Rattle.flat_probe.specs.Probe.{probes, probeMarks, probeGiven}
 

@@ -11,13 +11,13 @@ use Rattle.definition.specs.Limits.{portCount}
 use Rattle.definition.specs.Model.{Component, Rule, Model, noComponent, componentAt, isAtomic, atomics}
 use Rattle.definition.specs.Pinned.Decoder.{ruleFields}
 use Rattle.definition.specs.Flatten.{renumbered, flatAtomic, flatComponents, flatRule, flat}
-use Rattle.laws.proofs.Tests.{and-left, and-right}
-use Rattle.laws.proofs.Lists.{map-cong-if}
-use Rattle.model_laws.proofs.WellFormed.{WellFormed, rules-fit}
-use Rattle.nest_laws.proofs.Renumber.{listed-atomic}
-use Rattle.pull_laws.specs.Tables.{numbersAt}
-use Rattle.pull_laws.specs.Tabled.{Tabled}
-use Rattle.laws.specs.Keys.{couplingOf}
+use Rattle.law_base.proofs.Tests.{and-left, and-right}
+use Rattle.law_base.proofs.Lists.{map-cong-if}
+use Rattle.law_model.proofs.WellFormed.{WellFormed, rules-fit}
+use Rattle.law_nest.proofs.Renumber.{listed-atomic}
+use Rattle.spec_step.specs.Tables.{numbersAt}
+use Rattle.spec_step.specs.Tabled.{Tabled}
+use Rattle.law_base.specs.Keys.{couplingOf}
 use Rattle.flat_ranks.specs.Ranks.{rankOf}
 use Rattle.flat_ranks.proofs.Ranks.{rank-is}
 use Rattle.flat_writer.specs.Written.{numbersIn, underRoot, atomicsBy, componentsBy, ruleBy, flatBy}

@@ -10,10 +10,10 @@ use Rattle.definition.specs.Bytes.{Bytes, AllBytes, numberAt, bytesOf, chunks, 
 use Rattle.definition.specs.Limits.{phaseSize, ruleSize}
 use Rattle.definition.specs.Records.{phaseBytes, ruleBytes}
 use Rattle.definition.specs.Pinned.Decoder.{toPhase, toRule}
-use Rattle.model_laws.proofs.Layouts.{fieldsAt, fields-written}
-use Rattle.model_laws.proofs.Rows.{rows-written}
-use Rattle.model_laws.proofs.Spellings.{phase-spelled}
-use Rattle.store_laws.proofs.Stores.{sets-append}
+use Rattle.law_model.proofs.Layouts.{fieldsAt, fields-written}
+use Rattle.law_model.proofs.Rows.{rows-written}
+use Rattle.law_model.proofs.Spellings.{phase-spelled}
+use Rattle.law_stores.proofs.Stores.{sets-append}
 use Rattle.flat_ranks.specs.Ranks.{rankOf}
 use Rattle.flat_writer.specs.Written.{ruleBy}
 

@@ -13,19 +13,19 @@ use Rattle.definition.specs.Model.{Component, Phase, Rule, noComponent, noRule,
 use Rattle.definition.specs.Records.{componentBytes, phaseBytes, ruleBytes, couplingBytes}
 use Rattle.definition.specs.File.{sectionBytes, modelBytes}
 use Rattle.definition.specs.Pinned.Decoder.{toPhase, toRule}
-use Rattle.laws.proofs.Lists.{getD-map, length-up}
-use Rattle.byte_laws.specs.Parts.{recordsIn, row}
-use Rattle.byte_laws.proofs.Records.{length-records, record-in}
+use Rattle.law_base.proofs.Lists.{getD-map, length-up}
+use Rattle.law_bytes.specs.Parts.{recordsIn, row}
+use Rattle.law_bytes.proofs.Records.{length-records, record-in}
 use Rattle.model_records.specs.Values.{phasesIn, rulesIn}
-use Rattle.model_laws.proofs.Codec.{length-bytes}
-use Rattle.pull_laws.specs.Tables.{numbersAt}
-use Rattle.pull_laws.proofs.Positions.{getD-up}
-use Rattle.store_laws.proofs.Stores.{sets-append, sets-front}
+use Rattle.law_model.proofs.Codec.{length-bytes}
+use Rattle.spec_step.specs.Tables.{numbersAt}
+use Rattle.law_step.proofs.Positions.{getD-up}
+use Rattle.law_stores.proofs.Stores.{sets-append, sets-front}
 use Rattle.flat_ranks.specs.Ranks.{rankOf}
-use Rattle.laws.specs.Keys.{couplingOf}
+use Rattle.law_base.specs.Keys.{couplingOf}
 use Rattle.flat_writer.specs.Written.{numbersIn, underRoot, atomicsBy, componentsBy, ruleBy, flatBy}
 use Rattle.flat_writer.proofs.Pieces.{records-more, records-none, phases-copied, rule-copied}
-use Rattle.model_laws.proofs.Writing.{component-size, phase-size, rule-size, coupling-size, section-length}
+use Rattle.law_model.proofs.Writing.{component-size, phase-size, rule-size, coupling-size, section-length}
 
 -- a whole slice, copied
 pub copy-start : (s d : Bytes) (at : ℕ) → sets d (at + 0) (slice 0 (length s) s) ≡ sets d at s

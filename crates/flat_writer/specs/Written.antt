@@ -5,8 +5,8 @@ use mathlib.Core.List.{List, _∷_, map}
 use lib.ListN.{getD}
 use Rattle.definition.specs.Lists.{upFrom}
 use Rattle.definition.specs.Model.{Component, Phase, Rule, Model, noComponent, componentAt}
-use Rattle.pull_laws.specs.Tables.{numbersAt}
-use Rattle.laws.specs.Keys.{couplingOf}
+use Rattle.spec_step.specs.Tables.{numbersAt}
+use Rattle.law_base.specs.Keys.{couplingOf}
 use Rattle.flat_ranks.specs.Ranks.{rankOf}
 
 -- The component numbers of n atomics, by position.

@@ -11,7 +11,7 @@ ghost use Rattle.definition.specs.Records.{componentBytes, phaseBytes, ruleByte
 ghost use Rattle.definition.specs.File.{sectionBytes, modelBytes};
 ghost use Rattle.definition.specs.Pinned.Decoder.{toRule};
 ghost use Rattle.model_records.specs.Values.{componentOf, componentsIn, phasesIn, rulesIn};
-ghost use Rattle.laws.specs.Keys.{couplingOf};
+ghost use Rattle.law_base.specs.Keys.{couplingOf};
 ghost use Rattle.flat_writer.specs.Written.{underRoot, atomicsBy, componentsBy, ruleBy, flatBy};
 use flat_ranks::rank_of;
 use limits::COMPONENT_SIZE;

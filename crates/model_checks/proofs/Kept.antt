@@ -12,7 +12,7 @@ use borrow.Author.Tests.{ltb-true, leb-true, leb-false, eqb-true, eqb-false, lt-
 use Rattle.definition.specs.Limits.{maxComponents, maxAncestors, maxOwnPhases, portCount}
 use Rattle.definition.specs.Model.{Component, Rule, componentAt, isAtomic, isChild, isSibling}
 use Rattle.definition.specs.Pinned.Decoder.{coupledFields, atomicFields, kindFields, rootFields, rootWithin, placeFits, componentFits, ruleFields, related}
-use Rattle.laws.proofs.Tests.{and-left, and-right}
+use Rattle.law_base.proofs.Tests.{and-left, and-right}
 use Rattle.model_checks.specs.Known.{Accepted, Each, PhaseCounts, Depths}
 use Rattle.model_checks.proofs.Laws.{root-here, root-none, root-up}
 

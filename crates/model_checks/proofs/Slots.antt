@@ -9,8 +9,8 @@ use Rattle.definition.specs.Limits.{maxOutputs}
 use Rattle.definition.specs.Model.{Phase, outputs, slots}
 use Rattle.definition.specs.Records.{portFits}
 use Rattle.definition.specs.Pinned.Decoder.{advanceFits, usedFit, unusedFit, phaseFields}
-use Rattle.laws.specs.Keys.{messageOf}
-use Rattle.byte_laws.proofs.Four.{all-take, rises-take, all-drop}
+use Rattle.law_base.specs.Keys.{messageOf}
+use Rattle.law_bytes.proofs.Four.{all-take, rises-take, all-drop}
 use Rattle.sort.proofs.Keys.{message-key-order}
 
 -- Keys of messages with a port lie below this one.

@@ -9,7 +9,7 @@ use lib.ListN.{length, getD, set}
 use Rattle.definition.specs.Limits.{maxComponents, maxAncestors}
 use Rattle.definition.specs.Model.{Component, Coupling, componentAt, noCoupling}
 use Rattle.definition.specs.Pinned.Decoder.{kindFields, rootFields, rootWithin, componentFits}
-use Rattle.laws.specs.Keys as Keys
+use Rattle.law_base.specs.Keys as Keys
 
 pub record Accepted (cs : List Component) (n : ℕ) : Type 0 where
   pub few : n ≤ maxComponents

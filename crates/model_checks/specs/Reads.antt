@@ -5,7 +5,7 @@ use mathlib.Core.Bool.{Bool, not}
 use Rattle.definition.specs.Bytes.{Result, ok, refused, _>>=_, refuseIf}
 use Rattle.definition.specs.Model.{Component, Message, Phase, Rule, Coupling}
 use Rattle.model_records.specs.Values.{componentOf, phaseOf, ruleOf, couplingOf}
-use Rattle.laws.specs.Keys as Keys
+use Rattle.law_base.specs.Keys as Keys
 use Rattle.model_checks.specs.declared.ComponentRead as C
 use Rattle.model_checks.specs.declared.ComponentRead.the-variants as CV
 use Rattle.model_checks.specs.declared.PhaseRead as P

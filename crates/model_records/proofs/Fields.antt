@@ -7,8 +7,8 @@ use native.Mathlib.Omega.{arith}
 use native.Mathlib.Nat.{mul-div-le, mul-le-mul}
 use lib.ListN.{length, getD, List·getD-eq-default}
 use Rattle.definition.specs.Bytes.{Bytes}
-use Rattle.byte_laws.specs.Parts.{recordsIn, row}
-use Rattle.byte_laws.proofs.Records.{length-records, record-in}
+use Rattle.law_bytes.specs.Parts.{recordsIn, row}
+use Rattle.law_bytes.proofs.Records.{length-records, record-in}
 
 -- A record for which there is room lies within the slice.
 pub record-ends : (size : ℕ) (s : Bytes) (i : ℕ) → i < length s / size → size * i + size ≤ length s

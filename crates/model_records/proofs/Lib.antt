@@ -1,2 +1,2 @@
-pub mod Fields
 pub mod Before
+pub mod Fields

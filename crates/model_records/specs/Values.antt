@@ -5,7 +5,7 @@ use Rattle.definition.specs.Bytes.{Bytes}
 use Rattle.definition.specs.Limits.{componentSize, phaseSize, ruleSize, couplingSize}
 use Rattle.definition.specs.Model.{Component, Message, Phase, Rule, Coupling, Model}
 use Rattle.definition.specs.Pinned.Decoder.{toComponent, toPhase, toRule, toCoupling}
-use Rattle.byte_laws.specs.Parts.{recordsIn}
+use Rattle.law_bytes.specs.Parts.{recordsIn}
 use Rattle.model_records.specs.declared.Component as C
 use Rattle.model_records.specs.declared.Message as M
 use Rattle.model_records.specs.declared.Phase as P

@@ -6,7 +6,7 @@ ghost use lib.ListN.{length, getD};
 ghost use Rattle.definition.specs.Limits.{phaseSize};
 ghost use Rattle.definition.specs.Model.{noPhase, noRule, noCoupling, componentAt, isAtomic, isChild, phasesBefore};
 ghost use Rattle.definition.specs.Records.{messageAt};
-ghost use Rattle.byte_laws.specs.Parts.{row};
+ghost use Rattle.law_bytes.specs.Parts.{row};
 ghost use Rattle.model_records.specs.Values.{componentOf, messageOf, phaseOf, ruleOf, couplingOf, componentsIn, phasesIn, rulesIn, couplingsIn};
 use limits::COMPONENT_SIZE;
 use limits::COUPLING_SIZE;

@@ -12,7 +12,7 @@ use Rattle.definition.specs.Limits.{maxComponents, maxOwnPhases, maxPhases}
 use Rattle.definition.specs.Model.{Component, Phase, componentAt, noPhase, phasesBefore}
 use Rattle.definition.specs.File.{phaseTotal}
 use Rattle.definition.specs.Pinned.Decoder.{bounds, componentFits, phaseFields, phaseFits, orElse, componentCountRefusal, phaseCountRefusal}
-use Rattle.model_laws.proofs.PhaseRange.{length-bounds, bound-at}
+use Rattle.law_model.proofs.PhaseRange.{length-bounds, bound-at}
 use Rattle.model_checks.specs.Reads.{checked}
 use Rattle.model_checks.proofs.Kept.{phases-few}
 use Rattle.model_records.proofs.Before.{before-more}

@@ -9,11 +9,11 @@ use lib.ListN.{length}
 use Rattle.definition.specs.Lists.{all, upFrom}
 use Rattle.definition.specs.Bytes.{Bytes, Result, ok, refused, numberOf}
 use Rattle.definition.specs.Pinned.Decoder.{Section, sectionCount, section}
-use Rattle.byte_laws.specs.Parts.{recordsIn, partOf, restAfter}
-use Rattle.byte_laws.proofs.Alls.{all-start, all-more}
-use Rattle.byte_laws.proofs.Records.{length-records, part-count}
-use Rattle.byte_laws.proofs.Refusals.{passed, failed}
-use Rattle.byte_laws.proofs.Sections.{announced, head-ok, section-head, section-bad, section-good}
+use Rattle.law_bytes.specs.Parts.{recordsIn, partOf, restAfter}
+use Rattle.law_bytes.proofs.Alls.{all-start, all-more}
+use Rattle.law_bytes.proofs.Records.{length-records, part-count}
+use Rattle.law_bytes.proofs.Refusals.{passed, failed}
+use Rattle.law_bytes.proofs.Sections.{announced, head-ok, section-head, section-bad, section-good}
 use Rattle.model_checks.specs.Reads.{checked}
 use Rattle.model_checks.proofs.Laws.{read-is}
 

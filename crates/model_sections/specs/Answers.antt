@@ -5,7 +5,7 @@ use mathlib.Core.List.{List}
 use Rattle.definition.specs.Bytes.{Bytes, Result, ok, refused}
 use Rattle.definition.specs.Limits.{componentSize}
 use Rattle.definition.specs.Pinned.Decoder.{Section}
-use Rattle.byte_laws.specs.Parts.{recordsIn, partOf, restAfter}
+use Rattle.law_bytes.specs.Parts.{recordsIn, partOf, restAfter}
 use Rattle.model_records.specs.Values.{componentsIn}
 use Rattle.model_checks.specs.Known.{Counted, Placed}
 use Rattle.model_sections.specs.declared.SectionRead as S

@@ -9,7 +9,7 @@ ghost use Rattle.definition.specs.File.{phaseTotal};
 ghost use Rattle.definition.specs.Pinned.Decoder.{toComponent, toPhase, toRule, toCoupling, sectionCount};
 ghost use Rattle.definition.specs.Pinned.Decoder.{componentCountRefusal, phaseCountRefusal, limitRefusal};
 ghost use Rattle.definition.specs.Pinned.Decoder.{componentSection, phaseSection, ruleSection, couplingSection};
-ghost use Rattle.byte_laws.specs.Parts.{partOf, restAfter};
+ghost use Rattle.law_bytes.specs.Parts.{partOf, restAfter};
 ghost use Rattle.model_records.specs.Values.{componentsIn};
 ghost use Rattle.model_checks.specs.Known.{Counted, Placed};
 ghost use Rattle.model_sections.specs.Answers.{sectionRead, sectionNumber, Learnt};

@@ -14,10 +14,10 @@ use Rattle.definition.specs.Bytes.{Bytes, AllBytes, numberAt}
 use Rattle.definition.specs.Limits.{messageSize}
 use Rattle.definition.specs.Instant.{TraceRecord, recordBytes, traceBytes}
 use Rattle.definition.specs.Engine.{Wrote, start, advance}
-use Rattle.model_laws.proofs.Codec.{drop-bytes}
-use Rattle.laws.proofs.Lists.{all-head, all-tail}
-use Rattle.text_laws.proofs.Records.{number-small, record-length, record-count, trace-bytes, messagesIn, messages-room}
-use Rattle.text_laws.proofs.Traced.{smallRecord, Traced, written, advance-traced}
+use Rattle.law_model.proofs.Codec.{drop-bytes}
+use Rattle.law_base.proofs.Lists.{all-head, all-tail}
+use Rattle.law_text.proofs.Records.{number-small, record-length, record-count, trace-bytes, messagesIn, messages-room}
+use Rattle.law_text.proofs.Traced.{smallRecord, Traced, written, advance-traced}
 use Rattle.run_text.specs.Text.{digit, decimalIn, maxDigits, field, space, newline, firstLine, messageLine, messageLines, recordHead, messageCount, recordLines, behindRecord, lines, traceLines, endLine, refusedLine, lastLine, advancedText, startedText, momentSize, inputText, runRoom, traceRoom, runText, longestLine, longestLast, textRoom}
 
 -- ---- numbers

@@ -11,7 +11,7 @@ use borrow.Author.Tests.{ltb-true, ltb-false, le-ltb}
 use Rattle.definition.specs.Bytes.{Bytes, numberAt}
 use Rattle.definition.specs.Limits.{longestModel}
 use Rattle.definition.specs.Engine.{Wrote, start, advance}
-use Rattle.text_laws.proofs.Front.{drop-front, number-front, accepted-front}
+use Rattle.law_text.proofs.Front.{drop-front, number-front, accepted-front}
 use Rattle.run_text.specs.Text.{firstLine, refusedLine, startedText, momentSize, inputText, runRoom, traceRoom, runText, inputRoom}
 
 abbrev front : Bytes → Bytes

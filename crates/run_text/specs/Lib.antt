@@ -1,4 +1,3 @@
--- What the printing program writes.
-pub mod Text
-pub mod Put
 pub mod Printed
+pub mod Put
+pub mod Text

@@ -1,5 +1,4 @@
--- Laws of writes.
-pub mod Loops
-pub mod Columns
 pub mod Chains
+pub mod Columns
+pub mod Loops
 pub mod Words

@@ -3,7 +3,7 @@ ghost use mathlib.Core.Path.{_≡_};
 ghost use Prim.Native.Nat.{_+_, _<_, _≤_};
 ghost use lib.ListN.{getD, length};
 ghost use Rattle.definition.specs.Limits.{maxComponents};
-ghost use Rattle.pull_laws.specs.Tables.{siblingAt, tableSize};
+ghost use Rattle.spec_step.specs.Tables.{siblingAt, tableSize};
 ghost use Rattle.table_words.specs.Writes.{column, putIn, linkAt, linked};
 use limits::MAX_COMPONENTS;
 use limits::MAX_COUPLINGS;

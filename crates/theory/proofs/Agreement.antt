@@ -14,21 +14,21 @@ use Rattle.definition.specs.SavedRun.{Entry, dueOf, entryOf, nextDue}
 use Rattle.definition.specs.Step.{Simulator, step, nested}
 use Rattle.definition.specs.Flatten.{placeIn, renumbered, flat}
 use Rattle.definition.specs.FlatMachine.{Sent, sent, dueNow, putOut, arriving, moved, movedAll, flatStep, flatDue}
-use Rattle.laws.proofs.Sums.{sumOf}
-use Rattle.laws.proofs.Lists.{count-sum, count-none}
-use Rattle.model_laws.proofs.WellFormed.{WellFormed}
-use Rattle.nest_laws.proofs.Pairs.{paired, paired-map, paired-cong-if}
-use Rattle.nest_laws.proofs.Trees.{leavesT}
-use Rattle.nest_laws.proofs.Components.{rooted, root-not, atomics-atomic, partsOfRoot, root, leaves}
-use Rattle.nest_laws.proofs.Renumber.{listed-root, listed-atomic, new-atomics, flat-due, flat-now, flat-moved}
-use Rattle.nest_laws.proofs.Nest.{bagAt, out-due}
-use Rattle.nest_laws.proofs.Leaves.{moved-same, no-bag}
-use Rattle.nest_laws.proofs.StepOf.{step-out}
-use Rattle.nest_laws.proofs.Arrivals.{arrives}
-use Rattle.nest_laws.proofs.Firsts.{firstOf, first-paired}
-use Rattle.nest_laws.proofs.Stepping.{Good, due-first, long, ready, step-paired}
-use Rattle.theory.proofs.Lift.{Agree}
-use Rattle.theory.proofs.Kept.{AtSame, BetweenSame, agree-entries}
+use Rattle.law_base.proofs.Sums.{sumOf}
+use Rattle.law_base.proofs.Lists.{count-sum, count-none}
+use Rattle.law_model.proofs.WellFormed.{WellFormed}
+use Rattle.law_nest.proofs.Pairs.{paired, paired-map, paired-cong-if}
+use Rattle.law_nest.proofs.Trees.{leavesT}
+use Rattle.law_nest.proofs.Components.{rooted, root-not, atomics-atomic, partsOfRoot, root, leaves}
+use Rattle.law_nest.proofs.Renumber.{listed-root, listed-atomic, new-atomics, flat-due, flat-now, flat-moved}
+use Rattle.law_nest.proofs.Nest.{bagAt, out-due}
+use Rattle.law_nest.proofs.Leaves.{moved-same, no-bag}
+use Rattle.law_nest.proofs.StepOf.{step-out}
+use Rattle.law_nest.proofs.Arrivals.{arrives}
+use Rattle.law_nest.proofs.Firsts.{firstOf, first-paired}
+use Rattle.law_nest.proofs.Stepping.{Good, due-first, long, ready, step-paired}
+use Rattle.law_calls.proofs.Lift.{Agree}
+use Rattle.law_calls.proofs.Kept.{AtSame, BetweenSame, agree-entries}
 
 -- the flat machine's step, as something that takes steps
 abbrev pub levelled : Model → Simulator (List Entry)

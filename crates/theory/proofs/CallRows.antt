@@ -16,9 +16,9 @@ use Rattle.definition.specs.SavedRun.{runLength, atomicCount, runFits}
 use Rattle.definition.specs.Engine.{Wrote, start, advance, reading, readingChecks, readAt, wasRead}
 use Rattle.definition.specs.Flatten.{flat, flatten}
 use Rattle.definition.specs.Demands.{refusedWrite, refusedAdvance, refusedReading, WriterRefusal, StartRefusal, FlattenRefusal, ReadingRefusal, AdvanceRefusal, writer-refuses-model, writer-refuses-buffer, reading-refuses-model, reading-refuses-run, reading-refuses-position, advance-refuses-model, advance-refuses-run, advance-refuses-time, advance-refuses-bag}
-use Rattle.model_laws.proofs.Refusals.{Positive, accepted-positive}
-use Rattle.refusal_laws.proofs.Judged.{judged, judged-only}
-use Rattle.model_laws.proofs.Answers.{start-short, start-done, reading-position, advance-time, advance-bag, start-model, flatten-model, flatten-short, flatten-done, reading-model, reading-run, advance-model, advance-run}
+use Rattle.law_model.proofs.Refusals.{Positive, accepted-positive}
+use Rattle.law_refusals.proofs.Judged.{judged, judged-only}
+use Rattle.law_model.proofs.Answers.{start-short, start-done, reading-position, advance-time, advance-bag, start-model, flatten-model, flatten-short, flatten-done, reading-model, reading-run, advance-model, advance-run}
 
 -- ---- the model's number
 

@@ -12,15 +12,15 @@ use Rattle.definition.specs.SavedRun.{Entry, notBefore, dueAt, atomicCount, ent
 use Rattle.definition.specs.Step.{Simulator, step, nested}
 use Rattle.definition.specs.Instant.{isDue}
 use Rattle.definition.specs.Carrying.{carried, Stands, rootOf, StandsFor}
-use Rattle.model_laws.proofs.WellFormed.{WellFormed}
-use Rattle.nest_laws.proofs.Times.{left-later}
-use Rattle.nest_laws.proofs.Components.{shape}
-use Rattle.nest_laws.proofs.Nest.{Ready, ready-due}
-use Rattle.nest_laws.proofs.AnySplit.{pass-stands, ta-stands}
-use Rattle.nest_laws.proofs.StepOf.{any-split}
-use Rattle.nest_laws.proofs.Stepping.{Good, long, ready}
-use Rattle.theory.proofs.Lift.{Agree}
-use Rattle.theory.proofs.Kept.{Kept, Fit, kept-step, fit-early, fit-opens, kept-closes}
+use Rattle.law_model.proofs.WellFormed.{WellFormed}
+use Rattle.law_nest.proofs.Times.{left-later}
+use Rattle.law_nest.proofs.Components.{shape}
+use Rattle.law_nest.proofs.Nest.{Ready, ready-due}
+use Rattle.law_nest.proofs.AnySplit.{pass-stands, ta-stands}
+use Rattle.law_nest.proofs.StepOf.{any-split}
+use Rattle.law_nest.proofs.Stepping.{Good, long, ready}
+use Rattle.law_calls.proofs.Lift.{Agree}
+use Rattle.law_calls.proofs.Kept.{Kept, Fit, kept-step, fit-early, fit-opens, kept-closes}
 
 -- A simulator that agrees with another agrees with itself, on the states that are related to one of the other.
 pub agree-self : {S₁ S₂ : Type 0} {At Between : ℕ → S₁ → S₂ → Type 0} {k₁ : Simulator S₁} {k₂ : Simulator S₂} → Agree At Between _≡_ k₁ k₂

@@ -1,7 +1,7 @@
 -- Demand 1: what is outside the layouts is refused by its listed number and changes no lent byte, everything else is accepted, and an advance
 -- ends as the papers tell. Assumes nothing.
-use Rattle.refusal_laws.proofs.Runs as RR
-use Rattle.refusal_laws.proofs.Bags as RB
+use Rattle.law_refusals.proofs.Runs as RR
+use Rattle.law_refusals.proofs.Bags as RB
 use mathlib.Core.Path.{subst, _≡_, refl, sym, ap, _∙_}
 use mathlib.Core.Logic.{_⊎_, inl, inr}
 use Prim.Native.Nat.{ℕ, suc, _≤_, _<_}
@@ -24,15 +24,15 @@ use Rattle.definition.specs.Engine.{Advanced, wrote, toBag, bagFits, advanceChe
 use Rattle.definition.specs.Flatten.{flat, flatten}
 use Rattle.definition.specs.Carrying.{begins}
 use Rattle.definition.specs.Demands.{openingOf, MayAdvance, AdvanceRefusal, AdvanceNumber, by-row, by-instants, Demand1, advance-refuses-model, advance-refuses-run, advance-refuses-time, advance-refuses-bag}
-use Rattle.model_laws.proofs.WellFormed.{WellFormed}
-use Rattle.model_laws.proofs.Reading.{accepted-sound}
-use Rattle.model_laws.proofs.RunBack.{run-written}
-use Rattle.flat_laws.proofs.Checks.{advance-ok}
-use Rattle.refusal_laws.proofs.Judged.{judged, judged-only, judged-number, sound-accepted, accepted-sound as sound-of}
-use Rattle.theory.proofs.BagOrder.{agree-order}
+use Rattle.law_model.proofs.WellFormed.{WellFormed}
+use Rattle.law_model.proofs.Reading.{accepted-sound}
+use Rattle.law_model.proofs.RunBack.{run-written}
+use Rattle.law_flat.proofs.Checks.{advance-ok}
+use Rattle.law_refusals.proofs.Judged.{judged, judged-only, judged-number, sound-accepted, accepted-sound as sound-of}
+use Rattle.law_calls.proofs.BagOrder.{agree-order}
 use Rattle.theory.proofs.CallRows.{row-of, start-refused, start-number, flatten-refused, flatten-number, reading-refused, reading-number, advance-refused}
-use Rattle.model_laws.proofs.Answers.{start-done, reading-done, endOf, advance-done}
-use Rattle.theory.proofs.Fitting.{fits-run, start-fits, advance-fits}
+use Rattle.law_model.proofs.Answers.{start-done, reading-done, endOf, advance-done}
+use Rattle.law_calls.proofs.Fitting.{fits-run, start-fits, advance-fits}
 use Rattle.theory.proofs.Ending.{ends, only, undone}
 
 flatten-done : (file buffer : Bytes) (m : Model) → accepted file ≡ ok m → length (modelBytes (flat m)) ≤ length buffer

@@ -1,6 +1,6 @@
 -- Demand 2: an advance is the root's resultant carried through its instants by document 001's own bookkeeping, from any state that stands for
 -- the saved run; and the order of messages in a bag changes nothing. Assumes nothing.
-use Rattle.refusal_laws.proofs.Deciding as RD
+use Rattle.law_refusals.proofs.Deciding as RD
 use Rattle.theory.proofs.StandsOnce as SO
 use mathlib.Core.Path.{_≡_, refl, ap, ap₂}
 use Prim.Native.Nat.{ℕ, _*_, _%_}
@@ -17,16 +17,16 @@ use Rattle.definition.specs.SavedRun.{runOf}
 use Rattle.definition.specs.Engine.{toBag, bagFits, advanceChecks, advanced, advance}
 use Rattle.definition.specs.Calls.{runCalls, engine}
 use Rattle.definition.specs.Demands.{openingOf, Demand2}
-use Rattle.laws.proofs.Bags.{message-perm}
-use Rattle.laws.proofs.Lists.{all-perm}
-use Rattle.model_laws.proofs.WellFormed.{WellFormed}
-use Rattle.model_laws.proofs.Reading.{accepted-sound}
-use Rattle.flat_laws.proofs.Checks.{advance-ok}
-use Rattle.theory.proofs.Lift.{advance-alike, ends-equal}
-use Rattle.theory.proofs.Kept.{BetweenSame}
-use Rattle.theory.proofs.BagOrder.{external-order, confluent-order, agree-order}
-use Rattle.theory.proofs.Fitting.{fits-run}
-use Rattle.model_laws.proofs.Answers.{endOf}
+use Rattle.law_base.proofs.Bags.{message-perm}
+use Rattle.law_base.proofs.Lists.{all-perm}
+use Rattle.law_model.proofs.WellFormed.{WellFormed}
+use Rattle.law_model.proofs.Reading.{accepted-sound}
+use Rattle.law_flat.proofs.Checks.{advance-ok}
+use Rattle.law_calls.proofs.Lift.{advance-alike, ends-equal}
+use Rattle.law_calls.proofs.Kept.{BetweenSame}
+use Rattle.law_calls.proofs.BagOrder.{external-order, confluent-order, agree-order}
+use Rattle.law_calls.proofs.Fitting.{fits-run}
+use Rattle.law_model.proofs.Answers.{endOf}
 use Rattle.theory.proofs.Shown.{carried-ends, as-defined}
 use Rattle.theory.proofs.Standing.{start-stands}
 use Rattle.theory.proofs.Through.{start-saves, through-calls, from-start}

@@ -21,15 +21,15 @@ use Rattle.definition.specs.FlatMachine.{flatDue}
 use Rattle.definition.specs.Calls.{Call, Answer, Machine, called, runCalls, engine}
 use Rattle.definition.specs.Carrying.{BetweenCalls, Answers, Through}
 use Rattle.definition.specs.Demands.{flatForm, Alike, Demand3}
-use Rattle.model_laws.proofs.WellFormed.{WellFormed, Accepted}
-use Rattle.model_laws.proofs.Reading.{accepted-sound}
-use Rattle.model_laws.proofs.Refusals.{Positive, accepted-positive}
-use Rattle.flat_laws.proofs.FlatTwice.{flat-stays, flat-accepted, flat-twice}
-use Rattle.flat_laws.proofs.Checks.{run-length, advance-ok, bag-fine}
-use Rattle.flat_laws.proofs.SameChecks.{same-run, same-fits, same-checks, same-reading, same-start}
-use Rattle.theory.proofs.Kept.{Fit}
+use Rattle.law_model.proofs.WellFormed.{WellFormed, Accepted}
+use Rattle.law_model.proofs.Reading.{accepted-sound}
+use Rattle.law_model.proofs.Refusals.{Positive, accepted-positive}
+use Rattle.law_flat.proofs.FlatTwice.{flat-stays, flat-accepted, flat-twice}
+use Rattle.law_flat.proofs.Checks.{run-length, advance-ok, bag-fine}
+use Rattle.law_flat.proofs.SameChecks.{same-run, same-fits, same-checks, same-reading, same-start}
+use Rattle.law_calls.proofs.Kept.{Fit}
 use Rattle.theory.proofs.Agreement.{levelled, due-same}
-use Rattle.theory.proofs.Fitting.{fits-run}
+use Rattle.law_calls.proofs.Fitting.{fits-run}
 use Rattle.theory.proofs.Through.{through-calls}
 use Rattle.theory.proofs.FlatCalls.{lifted, called-self, call-bytes, calls-self}
 

@@ -19,14 +19,14 @@ use Rattle.definition.specs.Engine.{WasRead, Wrote, startRun, start, wrote, Adv
 use Rattle.definition.specs.Flatten.{flat}
 use Rattle.definition.specs.FlatMachine.{inTurn, answered, flatAdvance, flatStart, flatReading}
 use Rattle.definition.specs.Calls.{advanceAnswer, readingAnswer, Call, startCall, advanceCall, readingCall, called, runCalls, engine, flatMachine}
-use Rattle.model_laws.proofs.WellFormed.{WellFormed}
-use Rattle.model_laws.proofs.Codec.{append-bytes, drop-bytes, number-bytes}
-use Rattle.model_laws.proofs.RunBack.{run-written}
-use Rattle.flat_laws.proofs.Checks.{run-length, advance-ok, bag-fine}
-use Rattle.theory.proofs.Lift.{advance-alike, ends-equal}
-use Rattle.theory.proofs.Kept.{Fit, BetweenSame}
+use Rattle.law_model.proofs.WellFormed.{WellFormed}
+use Rattle.law_model.proofs.Codec.{append-bytes, drop-bytes, number-bytes}
+use Rattle.law_model.proofs.RunBack.{run-written}
+use Rattle.law_flat.proofs.Checks.{run-length, advance-ok, bag-fine}
+use Rattle.law_calls.proofs.Lift.{advance-alike, ends-equal}
+use Rattle.law_calls.proofs.Kept.{Fit, BetweenSame}
 use Rattle.theory.proofs.Agreement.{levelled, due-same, agree-flat}
-use Rattle.theory.proofs.Fitting.{fits-run}
+use Rattle.law_calls.proofs.Fitting.{fits-run}
 use Rattle.theory.proofs.FlatStages.{toStage, answer, in-turn}
 
 -- An advance of the nest is one of the flat step on the flat form.

@@ -17,12 +17,12 @@ use Rattle.definition.specs.Step.{Stepped, nested}
 use Rattle.definition.specs.Instant.{Instant, done, jammed, stepped, isDue, goesOn, stepsAt, instant}
 use Rattle.definition.specs.Flatten.{flat}
 use Rattle.definition.specs.FlatMachine.{dueNow, flatStep, anyDue, takeSteps, firstDue, flatDue}
-use Rattle.model_laws.proofs.WellFormed.{WellFormed}
-use Rattle.nest_laws.proofs.Times.{notBefore-earlier}
-use Rattle.nest_laws.proofs.Pairs.{Pairs}
-use Rattle.nest_laws.proofs.Nest.{Fresh}
-use Rattle.theory.proofs.Lift.{Agree}
-use Rattle.theory.proofs.Kept.{Kept, AtSame, BetweenSame}
+use Rattle.law_model.proofs.WellFormed.{WellFormed}
+use Rattle.law_nest.proofs.Times.{notBefore-earlier}
+use Rattle.law_nest.proofs.Pairs.{Pairs}
+use Rattle.law_nest.proofs.Nest.{Fresh}
+use Rattle.law_calls.proofs.Lift.{Agree}
+use Rattle.law_calls.proofs.Kept.{Kept, AtSame, BetweenSame}
 use Rattle.theory.proofs.Agreement.{levelled, OnPorts, agree-flat}
 
 -- ---- some atomic is due, or the first is

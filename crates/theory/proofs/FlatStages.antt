@@ -20,16 +20,16 @@ use Rattle.definition.specs.Instant.{Instant, done, jammed, instant, over, inst
 use Rattle.definition.specs.Advance.{Progress, Ended, ended, tried, continued, succeeded, isBefore, advancing}
 use Rattle.definition.specs.Flatten.{flat}
 use Rattle.definition.specs.FlatMachine.{anyDue, takeSteps, flatDue, Stage, entriesIn, standing, verdictOn, attempt, openedPast, orEnd, dueBefore, inTurn}
-use Rattle.model_laws.proofs.WellFormed.{WellFormed}
-use Rattle.model_laws.proofs.RunBack.{length-run}
-use Rattle.nest_laws.proofs.Pairs.{pairs-length}
-use Rattle.theory.proofs.Lift.{before-t, not-before-t, Agree, AlikeAfter, tried-alike, instant-same}
-use Rattle.theory.proofs.Kept.{Kept, Fit, AtSame, BetweenSame, fit-opens, fit-early}
+use Rattle.law_model.proofs.WellFormed.{WellFormed}
+use Rattle.law_model.proofs.RunBack.{length-run}
+use Rattle.law_nest.proofs.Pairs.{pairs-length}
+use Rattle.law_calls.proofs.Lift.{before-t, not-before-t, Agree, AlikeAfter, tried-alike, instant-same}
+use Rattle.law_calls.proofs.Kept.{Kept, Fit, AtSame, BetweenSame, fit-opens, fit-early}
 use Rattle.theory.proofs.Agreement.{levelled, OnPorts}
 use Rattle.theory.proofs.Buffers.{stored-again, written-on}
 use Rattle.theory.proofs.FlatTrace.{written-trace}
 use Rattle.theory.proofs.FlatLoops.{settled, agree-self, no-ports, settles, kept-steps}
-use Rattle.theory.proofs.Fitting.{fit-written}
+use Rattle.law_calls.proofs.Fitting.{fit-written}
 
 -- the next moment, by the flat machine's own names
 same-before : (u : Time) (t : ℕ) → dueBefore u t ≡ isBefore u t

@@ -21,18 +21,18 @@ use Rattle.definition.specs.Engine.{toBag, bagFits, Advanced, advanced, advance
 use Rattle.definition.specs.Flatten.{flat}
 use Rattle.definition.specs.Carrying.{begins}
 use Rattle.definition.specs.Demands.{refusedAdvance, openingOf, MayAdvance, AdvanceRefusal, advance-refuses-run, advance-refuses-time, advance-refuses-bag, Together, Header}
-use Rattle.model_laws.proofs.WellFormed.{WellFormed}
-use Rattle.model_laws.proofs.Reading.{accepted-sound}
-use Rattle.model_laws.proofs.RunBack.{length-run, run-written}
-use Rattle.flat_laws.proofs.FlatSound.{flat-sound}
-use Rattle.nest_laws.proofs.Pairs.{pairs-length}
+use Rattle.law_model.proofs.WellFormed.{WellFormed}
+use Rattle.law_model.proofs.Reading.{accepted-sound}
+use Rattle.law_model.proofs.RunBack.{length-run, run-written}
+use Rattle.law_flat.proofs.FlatSound.{flat-sound}
+use Rattle.law_nest.proofs.Pairs.{pairs-length}
 use Rattle.theory.proofs.Buffers.{stored-again, stored-front, stored-behind}
-use Rattle.theory.proofs.Fitting.{FitRun, fits-run, fit-written, advance-fit}
-use Rattle.model_laws.proofs.Answers.{endOf, advance-done}
+use Rattle.law_calls.proofs.Fitting.{FitRun, fits-run, fit-written, advance-fit}
+use Rattle.law_model.proofs.Answers.{endOf, advance-done}
 use Rattle.theory.proofs.CallRows.{advance-refused}
 use Rattle.theory.proofs.Demand1.{advance-ends, advance-only}
 use Rattle.theory.proofs.Lengths.{model-long, run-long}
-use Rattle.refusal_laws.proofs.Judged.{accepted-sound as sound-of}
+use Rattle.law_refusals.proofs.Judged.{accepted-sound as sound-of}
 use Rattle.theory.proofs.Resuming.{undone-open, undone-again, overrun-again, countedEnd, one-call}
 
 module _ (file run : Bytes) (t : ℕ) (bag trace : Bytes) (m : Model) (b : AllBytes file) (e : accepted file ≡ ok m) where

@@ -9,9 +9,9 @@ use Rattle.definition.specs.Model.{Model}
 use Rattle.definition.specs.Records.{componentBytes, phaseBytes, ruleBytes, couplingBytes}
 use Rattle.definition.specs.File.{sectionBytes, modelBytes}
 use Rattle.definition.specs.SavedRun.{runLength, atomicCount}
-use Rattle.model_laws.proofs.Writing.{component-size, phase-size, rule-size, coupling-size, section-length}
-use Rattle.model_laws.proofs.WellFormed.{WellFormed}
-use Rattle.flat_laws.proofs.FlatComponents.{few-atomics}
+use Rattle.law_model.proofs.Writing.{component-size, phase-size, rule-size, coupling-size, section-length}
+use Rattle.law_model.proofs.WellFormed.{WellFormed}
+use Rattle.law_flat.proofs.FlatComponents.{few-atomics}
 
 module _ (m : Model) (w : WellFormed m) where
   pub model-long : length (modelBytes m) ≤ longestModel

@@ -21,17 +21,17 @@ use Rattle.definition.specs.Advance.{Progress, Ended, ended, succeeded}
 use Rattle.definition.specs.AdvanceRelation.{Steps, Whole, Next, before, at-end, Ends, jams, oversize, overruns, goes-on, succeeds, idle}
 use Rattle.definition.specs.Engine.{advanced, advance, toBag}
 use Rattle.definition.specs.Demands.{MayAdvance}
-use Rattle.laws.proofs.Tests.{clash, and-true}
-use Rattle.model_laws.proofs.WellFormed.{WellFormed}
-use Rattle.model_laws.proofs.Reading.{accepted-sound}
-use Rattle.nest_laws.proofs.StepOf.{step-out}
-use Rattle.nest_laws.proofs.Stepping.{Good, ready, step-good}
-use Rattle.nest_laws.proofs.Capacity.{root-bag}
-use Rattle.theory.proofs.Lift.{not-before-t}
-use Rattle.theory.proofs.Kept.{Fit, fit-opens}
-use Rattle.theory.proofs.BagOrder.{agree-order}
+use Rattle.law_base.proofs.Tests.{clash, and-true}
+use Rattle.law_model.proofs.WellFormed.{WellFormed}
+use Rattle.law_model.proofs.Reading.{accepted-sound}
+use Rattle.law_nest.proofs.StepOf.{step-out}
+use Rattle.law_nest.proofs.Stepping.{Good, ready, step-good}
+use Rattle.law_nest.proofs.Capacity.{root-bag}
+use Rattle.law_calls.proofs.Lift.{not-before-t}
+use Rattle.law_calls.proofs.Kept.{Fit, fit-opens}
+use Rattle.law_calls.proofs.BagOrder.{agree-order}
 use Rattle.theory.proofs.Ending.{opened, kept-on}
-use Rattle.theory.proofs.Fitting.{fits-run}
+use Rattle.law_calls.proofs.Fitting.{fits-run}
 use Rattle.theory.proofs.Demand1.{demand1}
 
 module _ (m : Model) (w : WellFormed m) (few : length (routes m) ≤ maxRoutes) where

@@ -14,13 +14,13 @@ use Rattle.definition.specs.AdvanceRelation.{Ends}
 use Rattle.definition.specs.Engine.{toBag, advanced, advance}
 use Rattle.definition.specs.Carrying.{carried, rootOf, StandsFor, begins}
 use Rattle.definition.specs.Demands.{openingOf, MayAdvance, Shows}
-use Rattle.model_laws.proofs.WellFormed.{WellFormed}
-use Rattle.model_laws.proofs.Reading.{accepted-sound}
-use Rattle.theory.proofs.Lift.{EndsAlike, advance-alike}
+use Rattle.law_model.proofs.WellFormed.{WellFormed}
+use Rattle.law_model.proofs.Reading.{accepted-sound}
+use Rattle.law_calls.proofs.Lift.{EndsAlike, advance-alike}
 use Rattle.theory.proofs.Carrying.{BetweenStands, agree-self, agree-carried}
-use Rattle.theory.proofs.Fitting.{FitRun, fits-run, fit-written, advance-fit}
+use Rattle.law_calls.proofs.Fitting.{FitRun, fits-run, fit-written, advance-fit}
 use Rattle.theory.proofs.Ending.{ends, only}
-use Rattle.model_laws.proofs.Answers.{endOf, advance-done}
+use Rattle.law_model.proofs.Answers.{endOf, advance-done}
 
 -- the run that an advance saves
 abbrev pub runAfter : Model → Bytes → ℕ → Bytes → Bytes → Run

@@ -11,13 +11,13 @@ use Rattle.definition.specs.SavedRun.{Entry, atomicCount, entryOf}
 use Rattle.definition.specs.Step.{load, elapsed}
 use Rattle.definition.specs.Engine.{startRun}
 use Rattle.definition.specs.Carrying.{initially, initiallyAll, Stands, StandsAll, StandsFor, atStart}
-use Rattle.model_laws.proofs.WellFormed.{WellFormed}
-use Rattle.nest_laws.proofs.Pairs.{lookUp-map}
-use Rattle.nest_laws.proofs.Trees.{OnlyIn, OnlyInAll, only-in}
-use Rattle.nest_laws.proofs.Components.{atomic-once, root, shape, leaves}
-use Rattle.nest_laws.proofs.AnySplit.{load-stands}
-use Rattle.nest_laws.proofs.Stepping.{long, ready}
-use Rattle.theory.proofs.Kept.{Fit, fit-opens, fit-early}
+use Rattle.law_model.proofs.WellFormed.{WellFormed}
+use Rattle.law_nest.proofs.Pairs.{lookUp-map}
+use Rattle.law_nest.proofs.Trees.{OnlyIn, OnlyInAll, only-in}
+use Rattle.law_nest.proofs.Components.{atomic-once, root, shape, leaves}
+use Rattle.law_nest.proofs.AnySplit.{load-stands}
+use Rattle.law_nest.proofs.Stepping.{long, ready}
+use Rattle.law_calls.proofs.Kept.{Fit, fit-opens, fit-early}
 
 module _ (m : Model) (w : WellFormed m) where
   -- ---- at a start

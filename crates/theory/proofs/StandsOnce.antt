@@ -14,17 +14,17 @@ use Rattle.definition.specs.SavedRun.{Entry, atomicCount, runLength, runOf, run
 use Rattle.definition.specs.Step.{load, unload}
 use Rattle.definition.specs.Pinned.Decoder.{accepted}
 use Rattle.definition.specs.Carrying.{rootOf, StandsFor, BetweenCalls, Saved}
-use Rattle.model_laws.proofs.WellFormed.{WellFormed}
-use Rattle.model_laws.proofs.Reading.{accepted-sound}
-use Rattle.model_laws.proofs.RunBack.{length-run, run-written}
-use Rattle.nest_laws.proofs.Occurs.{occurs}
-use Rattle.nest_laws.proofs.Pairs.{paired, paired-lookUp}
-use Rattle.nest_laws.proofs.Trees.{leavesT}
-use Rattle.nest_laws.proofs.Leaves.{unload-stands}
-use Rattle.nest_laws.proofs.Components.{atomic-once, leaf-occurs}
-use Rattle.nest_laws.proofs.Renumber.{distinct-atomics}
-use Rattle.flat_laws.proofs.Checks.{run-length}
-use Rattle.theory.proofs.Fitting.{fits-run}
+use Rattle.law_model.proofs.WellFormed.{WellFormed}
+use Rattle.law_model.proofs.Reading.{accepted-sound}
+use Rattle.law_model.proofs.RunBack.{length-run, run-written}
+use Rattle.law_nest.proofs.Occurs.{occurs}
+use Rattle.law_nest.proofs.Pairs.{paired, paired-lookUp}
+use Rattle.law_nest.proofs.Trees.{leavesT}
+use Rattle.law_nest.proofs.Leaves.{unload-stands}
+use Rattle.law_nest.proofs.Components.{atomic-once, leaf-occurs}
+use Rattle.law_nest.proofs.Renumber.{distinct-atomics}
+use Rattle.law_flat.proofs.Checks.{run-length}
+use Rattle.law_calls.proofs.Fitting.{fits-run}
 use Rattle.theory.proofs.Standing.{loaded}
 
 -- ---- one list of entries

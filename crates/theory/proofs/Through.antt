@@ -20,12 +20,12 @@ use Rattle.definition.specs.Engine.{startRun, start, bagFits, advanced, readAt}
 use Rattle.definition.specs.Calls.{AdvanceCall, Call, startCall, advanceCall, readingCall, Answer, advanceAnswer, called, engine}
 use Rattle.definition.specs.Carrying.{rootOf, StandsFor, BetweenCalls, atStart, leftBy, InTime, Answers, answers-start, refuses-time, refuses-bag, answers-advance, refuses-position, answers-reading, Saved, Through}
 use Rattle.definition.specs.Demands.{openingOf, MayAdvance}
-use Rattle.model_laws.proofs.WellFormed.{WellFormed}
-use Rattle.model_laws.proofs.RunBack.{length-run}
-use Rattle.nest_laws.proofs.Pairs.{pairs-length}
-use Rattle.theory.proofs.Fitting.{FitRun, fits-run, fit-written, start-run}
+use Rattle.law_model.proofs.WellFormed.{WellFormed}
+use Rattle.law_model.proofs.RunBack.{length-run}
+use Rattle.law_nest.proofs.Pairs.{pairs-length}
+use Rattle.law_calls.proofs.Fitting.{FitRun, fits-run, fit-written, start-run}
 use Rattle.theory.proofs.Carrying.{due-between}
-use Rattle.model_laws.proofs.Answers.{start-short, start-done, reading-position, reading-done, advance-time, advance-bag, advance-done}
+use Rattle.law_model.proofs.Answers.{start-short, start-done, reading-position, reading-done, advance-time, advance-bag, advance-done}
 use Rattle.theory.proofs.Standing.{start-stands}
 use Rattle.theory.proofs.Shown.{runAfter, after-fits, carried-ends, carried-alike}
 

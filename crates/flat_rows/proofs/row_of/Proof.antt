@@ -1,7 +1,7 @@
 -- The value's component by its rank, its port, the end and the message's port: the row, field by field.
 use borrow.Author.Needs.{needs}
 use Rattle.flat_rows.specs.Rows.{rowOf}
-use Rattle.pull_laws.specs.Tables.{nodeComponent, nodePort}
+use Rattle.spec_step.specs.Tables.{nodeComponent, nodePort}
 use Rattle.flat_rows.proofs.row_of.Statement.{statement}
 use Rattle.flat_rows.proofs.row_of.Tie as tie
 

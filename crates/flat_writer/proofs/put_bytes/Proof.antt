@@ -2,7 +2,7 @@
 use borrow.Author.Needs.{needs}
 use native.Mathlib.Omega.{arith}
 use Rattle.flat_writer.proofs.Sections.{copy-start}
-use Rattle.store_laws.proofs.Stores.{copy-more, copy-none}
+use Rattle.law_stores.proofs.Stores.{copy-more, copy-none}
 use lib.Seq.{sets, slice}
 use lib.ListN.{length, length-set}
 use native.Mathlib.Nat.{le-refl}

@@ -2,7 +2,7 @@
 use borrow.Author.Needs.{needs}
 use native.Mathlib.Omega.{arith}
 use Rattle.flat_writer.proofs.Sections.{rows-more, rows-none}
-use Rattle.laws.specs.Keys.{couplingOf}
+use Rattle.law_base.specs.Keys.{couplingOf}
 use Rattle.definition.specs.Records.{couplingBytes}
 use Rattle.definition.specs.Lists.{concat}
 use lib.Seq.{sets}

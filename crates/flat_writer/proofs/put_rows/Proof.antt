@@ -1,7 +1,7 @@
 -- A count and the rows are the section (`section-puts`).
 use borrow.Author.Needs.{needs}
 use Rattle.flat_writer.proofs.Sections.{section-puts, length-rows}
-use Rattle.laws.specs.Keys.{couplingOf}
+use Rattle.law_base.specs.Keys.{couplingOf}
 use Rattle.definition.specs.Records.{couplingBytes}
 use lib.ListN.{take}
 use mathlib.Core.List.{map}

@@ -2,7 +2,7 @@
 use borrow.Author.Needs.{needs}
 use native.Mathlib.Omega.{arith}
 use Rattle.flat_writer.proofs.Sections.{rule-puts}
-use Rattle.byte_laws.proofs.Slices.{all-bytes}
+use Rattle.law_bytes.proofs.Slices.{all-bytes}
 use lib.ListN.{length-take}
 use denote.Ref.{now}
 use Rattle.flat_writer.proofs.put_rule.Statement.{statement}

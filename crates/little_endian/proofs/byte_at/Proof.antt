@@ -1,7 +1,7 @@
 -- `little_endian::byte_at` meets its contract. A one-byte number is the element at its place, and past the end both are 0 (number-one).
 -- Assumes nothing.
 use borrow.Author.Needs.{needs}
-use Rattle.byte_laws.proofs.Rows.{number-one}
+use Rattle.law_bytes.proofs.Rows.{number-one}
 use lib.ListN.{List·getD-eq-default}
 use denote.Ref.{now}
 use mathlib.Core.Path.{sym, _∙_}

@@ -8,7 +8,7 @@ use mathlib.Core.Path.{_≡_, _∙_, sym}
 use denote.Ref.{now}
 use native.Mathlib.Nat.{sub-zero}
 use Rattle.definition.specs.Bytes.{numberAt}
-use Rattle.byte_laws.proofs.Rows.{number-none, number-fits, number-back}
+use Rattle.law_bytes.proofs.Rows.{number-none, number-fits, number-back}
 use Rattle.little_endian.proofs.number_of.Statement.{statement}
 use Rattle.little_endian.proofs.number_of.Tie as tie
 

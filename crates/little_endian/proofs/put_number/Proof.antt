@@ -8,7 +8,7 @@ use native.Mathlib.Nat.{sub-zero, add-zero}
 use lib.ListN.{length, length-set}
 use lib.Seq.{sets}
 use Rattle.definition.specs.Bytes.{bytesOf}
-use Rattle.byte_laws.proofs.Rows.{sets-more, bytes-none}
+use Rattle.law_bytes.proofs.Rows.{sets-more, bytes-none}
 use Rattle.little_endian.proofs.put_number.Statement.{statement}
 use Rattle.little_endian.proofs.put_number.Tie as tie
 

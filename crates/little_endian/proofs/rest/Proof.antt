@@ -1,7 +1,7 @@
 -- `little_endian::rest` meets its contract. The slice `&s[at..]` is `drop at` (tail); past the end `drop` is empty. Assumes nothing.
 use borrow.Author.Needs.{needs}
 use native.Mathlib.Omega.{arith}
-use Rattle.laws.proofs.Lists.{tail}
+use Rattle.law_base.proofs.Lists.{tail}
 use lib.ListN.{drop-of-length-le}
 use denote.Ref.{now}
 use mathlib.Core.Path.{sym}

@@ -5,7 +5,7 @@ use mathlib.Core.Path.{_∙_, ap}
 use denote.Ref.{now}
 use native.Mathlib.Nat.{le-refl}
 use Rattle.definition.specs.Bytes.{numberAt}
-use Rattle.byte_laws.proofs.Rows.{number-drop, number-fits}
+use Rattle.law_bytes.proofs.Rows.{number-drop, number-fits}
 use Rattle.little_endian.proofs.u16_at.Statement.{statement}
 use Rattle.little_endian.proofs.u16_at.Tie as tie
 

@@ -4,7 +4,7 @@ use borrow.Author.Needs.{needs}
 use mathlib.Core.Path.{_∙_, ap}
 use denote.Ref.{now}
 use Rattle.definition.specs.Bytes.{numberAt}
-use Rattle.byte_laws.proofs.Rows.{number-drop}
+use Rattle.law_bytes.proofs.Rows.{number-drop}
 use Rattle.little_endian.proofs.u64_at.Statement.{statement}
 use Rattle.little_endian.proofs.u64_at.Tie as tie
 

@@ -6,7 +6,7 @@ use mathlib.Core.Bool.{true, false, _&&_}
 use lib.Dec.{ltb}
 use borrow.Author.Tests.{ltb-true, not-true, not-false}
 use Rattle.definition.specs.Pinned.Decoder.{couplingFields}
-use Rattle.laws.proofs.Tests.{and-left, and-right}
+use Rattle.law_base.proofs.Tests.{and-left, and-right}
 use Rattle.model_checks.proofs.coupling_fields.Statement.{statement}
 use Rattle.model_checks.proofs.coupling_fields.Tie as tie
 

@@ -5,7 +5,7 @@ use denote.Ref.{now}
 use Rattle.definition.specs.Limits.{componentSize}
 use Rattle.model_records.specs.Values.{componentsIn}
 use Rattle.definition.specs.Pinned.Decoder.{toComponent}
-use Rattle.byte_laws.proofs.Records.{length-records}
+use Rattle.law_bytes.proofs.Records.{length-records}
 use Rattle.model_records.proofs.component_count.Statement.{statement}
 use Rattle.model_records.proofs.component_count.Tie as tie
 

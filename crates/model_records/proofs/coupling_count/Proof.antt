@@ -5,7 +5,7 @@ use denote.Ref.{now}
 use Rattle.definition.specs.Limits.{couplingSize}
 use Rattle.model_records.specs.Values.{couplingsIn}
 use Rattle.definition.specs.Pinned.Decoder.{toCoupling}
-use Rattle.byte_laws.proofs.Records.{length-records}
+use Rattle.law_bytes.proofs.Records.{length-records}
 use Rattle.model_records.proofs.coupling_count.Statement.{statement}
 use Rattle.model_records.proofs.coupling_count.Tie as tie
 

@@ -5,7 +5,7 @@ use denote.Ref.{now}
 use Rattle.definition.specs.Limits.{phaseSize}
 use Rattle.model_records.specs.Values.{phasesIn}
 use Rattle.definition.specs.Pinned.Decoder.{toPhase}
-use Rattle.byte_laws.proofs.Records.{length-records}
+use Rattle.law_bytes.proofs.Records.{length-records}
 use Rattle.model_records.proofs.phase_count.Statement.{statement}
 use Rattle.model_records.proofs.phase_count.Tie as tie
 

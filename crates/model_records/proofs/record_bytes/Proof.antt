@@ -6,7 +6,7 @@ use mathlib.Core.Path.{_≡_}
 use Prim.Native.Nat.{_+_, _*_, _-_, _≤_}
 use denote.Ref.{now}
 use lib.ListN.{length}
-use Rattle.byte_laws.specs.Parts.{row}
+use Rattle.law_bytes.specs.Parts.{row}
 use Rattle.model_records.proofs.Fields.{record-ends}
 use Rattle.model_records.proofs.record_bytes.Statement.{statement}
 use Rattle.model_records.proofs.record_bytes.Tie as tie

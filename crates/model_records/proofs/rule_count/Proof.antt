@@ -5,7 +5,7 @@ use denote.Ref.{now}
 use Rattle.definition.specs.Limits.{ruleSize}
 use Rattle.model_records.specs.Values.{rulesIn}
 use Rattle.definition.specs.Pinned.Decoder.{toRule}
-use Rattle.byte_laws.proofs.Records.{length-records}
+use Rattle.law_bytes.proofs.Records.{length-records}
 use Rattle.model_records.proofs.rule_count.Statement.{statement}
 use Rattle.model_records.proofs.rule_count.Tie as tie
 

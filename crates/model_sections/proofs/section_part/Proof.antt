@@ -1,7 +1,7 @@
 -- `model_sections::section_part` meets its contract. The first n records' bytes after the count, by what `rest` and `front` give. Assumes
 -- nothing.
 use borrow.Author.Needs.{needs}
-use Rattle.byte_laws.specs.Parts.{partOf}
+use Rattle.law_bytes.specs.Parts.{partOf}
 use Rattle.model_sections.proofs.section_part.Statement.{statement}
 use Rattle.model_sections.proofs.section_part.Tie as tie
 

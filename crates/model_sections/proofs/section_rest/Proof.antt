@@ -1,6 +1,6 @@
 -- `model_sections::section_rest` meets its contract. What stands after the count and n records, by what `rest` gives. Assumes nothing.
 use borrow.Author.Needs.{needs}
-use Rattle.byte_laws.specs.Parts.{restAfter}
+use Rattle.law_bytes.specs.Parts.{restAfter}
 use Rattle.model_sections.proofs.section_rest.Statement.{statement}
 use Rattle.model_sections.proofs.section_rest.Tie as tie
 

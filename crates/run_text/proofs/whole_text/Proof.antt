@@ -8,7 +8,7 @@ use Rattle.run_text.specs.Put.{put}
 use Rattle.run_text.specs.Text.{textRoom, inputRoom, runText}
 use Rattle.run_text.proofs.Fits.{text-fits}
 use Rattle.run_text.proofs.Fronts.{front-same}
-use Rattle.store_laws.proofs.Fronts.{put-whole}
+use Rattle.law_stores.proofs.Fronts.{put-whole}
 use Rattle.run_text.proofs.whole_text.Statement.{statement}
 use Rattle.run_text.proofs.whole_text.Tie as tie
 use Rattle.run_text.proofs.whole_text.Reads as reads

@@ -1,0 +1,221 @@
+// The call advance, whole: the check of the model, the checks of run, time and bag, and the instants.
+ghost use mathlib.Core.Path.{_≡_};
+ghost use lib.ListN.{length};
+ghost use Rattle.definition.specs.Bytes.{ok};
+ghost use Rattle.definition.specs.Model.{atomics};
+ghost use Rattle.definition.specs.Limits.{maxGiven};
+ghost use Rattle.definition.specs.Routes.{routes};
+ghost use Rattle.definition.specs.Pinned.Decoder.{accepted};
+ghost use Rattle.instant_steps.specs.Sim.{Lent};
+ghost use Prim.Native.Nat.{_*_, _≤_};
+ghost use Rattle.definition.specs.Engine.{advanceChecks, advance};
+ghost use Rattle.model_file.specs.Checked.{modelOf};
+ghost use Rattle.spec_step.specs.TablesOf.{TablesOf};
+ghost use Rattle.call_advance.specs.Answers.{advancedOf};
+use clock::Moment;
+use limits::MAX_COMPONENTS;
+use limits::MAX_MOMENT;
+use model_file::Checked;
+use model_file::Counts;
+use table_words::TABLE_SIZE;
+
+// "Advance answers number, instants done, steps, trace bytes".
+pub struct Advanced {
+    pub number: u64,
+    pub instants: u64,
+    pub steps: u64,
+    pub trace_bytes: u64,
+}
+
+// A route carries at most 16 messages into an atomic and 4 to the root. A model with few routes, as most have, gets small buffers, so that
+// a short call does not pay for filling large ones with zeros.
+const MESSAGES_IN: usize = 16;
+
+const MESSAGES_OUT: usize = 4;
+
+const FEW_ROUTES: u16 = 64;
+
+const FEW_IN: usize = MESSAGES_IN * 64;
+
+const FEW_OUT: usize = MESSAGES_OUT * 64;
+
+const MOST_IN: usize = MESSAGES_IN * 1024;
+
+const MOST_OUT: usize = MESSAGES_OUT * 1024;
+
+// Bytes set aside for an instant's records.
+const SCRATCH: usize = 4096;
+
+fn wide16(x: u16) -> u64
+    ensures { λ r. ⌜ r ≡ x ⌝ }
+{
+    x as u64
+}
+
+// A call refused before any instant: its number and zeros.
+fn refused(number: u64) -> Advanced
+    ensures { λ r. ⌜ r ≡ record { number = number; instants = 0; steps = 0; «trace_bytes» = 0 } ⌝ }
+{
+    Advanced {
+        number,
+        instants: 0,
+        steps: 0,
+        trace_bytes: 0,
+    }
+}
+
+// The instants of a call that the checks let through, on the tables of the model, with buffers that have room for its routes.
+fn advance_let_in(
+    file: &[u8],
+    n: Counts,
+    tables: &[u16; TABLE_SIZE],
+    run: &mut [u8],
+    count: usize,
+    t: Moment,
+    bag: &[u8],
+    trace: &mut [u8],
+    work: &mut [u32],
+    keys: &mut [u32],
+) -> Advanced
+    requires { ⌜ (ok (modelOf (now file) n) ≡ accepted (now file)) × TablesOf (modelOf (now file) n) (now tables) × (advanceChecks (modelOf (now file) n) (now run) (t .0) (now bag) ≡ ok tt)
+        × (count ≡ length (atomics (modelOf (now file) n .components)))
+        × Lent (length (now work)) (length (now keys)) × (maxGiven * length (routes (modelOf (now file) n)) ≤ length (now work)) ⌝ }
+    ensures { λ r. ⌜ advancedOf r (now (run .exit)) (now (trace .exit)) ≡ advance (now (file .entry)) (now (run .entry)) (t .0) (now (bag .entry)) (now (trace .entry)) ⌝ }
+{
+    let opening = run_saved::opening_of(run);
+    let mut phase = [0u8; MAX_COMPONENTS];
+    let mut last = [0u64; MAX_COMPONENTS];
+    run_saved::load(run, count, &mut phase, &mut last);
+    let mut scratch = [0u8; SCRATCH];
+    let r = instant_loop::advance_from(
+        model_file::phases_of(file, n),
+        model_file::rules_of(file, n),
+        tables,
+        count as u8,
+        run,
+        opening,
+        &mut phase,
+        &mut last,
+        t,
+        bag,
+        work,
+        keys,
+        &mut scratch,
+        trace,
+    );
+    Advanced {
+        number: r.number,
+        instants: r.instants,
+        steps: r.steps,
+        trace_bytes: r.used as u64,
+    }
+}
+
+fn advance_few(
+    file: &[u8],
+    n: Counts,
+    tables: &[u16; TABLE_SIZE],
+    run: &mut [u8],
+    count: usize,
+    t: Moment,
+    bag: &[u8],
+    trace: &mut [u8],
+) -> Advanced
+    requires { ⌜ (ok (modelOf (now file) n) ≡ accepted (now file)) × TablesOf (modelOf (now file) n) (now tables) × (advanceChecks (modelOf (now file) n) (now run) (t .0) (now bag) ≡ ok tt)
+        × (count ≡ length (atomics (modelOf (now file) n .components)))
+        × (length (routes (modelOf (now file) n)) ≤ 64) ⌝ }
+    ensures { λ r. ⌜ advancedOf r (now (run .exit)) (now (trace .exit)) ≡ advance (now (file .entry)) (now (run .entry)) (t .0) (now (bag .entry)) (now (trace .entry)) ⌝ }
+{
+    let mut work = [0u32; FEW_IN];
+    let mut keys = [0u32; FEW_OUT];
+    advance_let_in(
+        file,
+        n,
+        tables,
+        run,
+        count,
+        t,
+        bag,
+        trace,
+        &mut work,
+        &mut keys,
+    )
+}
+
+fn advance_many(
+    file: &[u8],
+    n: Counts,
+    tables: &[u16; TABLE_SIZE],
+    run: &mut [u8],
+    count: usize,
+    t: Moment,
+    bag: &[u8],
+    trace: &mut [u8],
+) -> Advanced
+    requires { ⌜ (ok (modelOf (now file) n) ≡ accepted (now file)) × TablesOf (modelOf (now file) n) (now tables) × (advanceChecks (modelOf (now file) n) (now run) (t .0) (now bag) ≡ ok tt)
+        × (count ≡ length (atomics (modelOf (now file) n .components))) ⌝ }
+    ensures { λ r. ⌜ advancedOf r (now (run .exit)) (now (trace .exit)) ≡ advance (now (file .entry)) (now (run .entry)) (t .0) (now (bag .entry)) (now (trace .entry)) ⌝ }
+{
+    let mut work = [0u32; MOST_IN];
+    let mut keys = [0u32; MOST_OUT];
+    advance_let_in(
+        file,
+        n,
+        tables,
+        run,
+        count,
+        t,
+        bag,
+        trace,
+        &mut work,
+        &mut keys,
+    )
+}
+
+// The checks of run, time and bag, for an accepted model with so many routes.
+fn advance_accepted(
+    file: &[u8],
+    n: Counts,
+    route_count: u16,
+    tables: &[u16; TABLE_SIZE],
+    run: &mut [u8],
+    t: u64,
+    bag: &[u8],
+    trace: &mut [u8],
+) -> Advanced
+    requires { ⌜ (ok (modelOf (now file) n) ≡ accepted (now file)) × TablesOf (modelOf (now file) n) (now tables) × (length (routes (modelOf (now file) n)) ≡ «route_count») ⌝ }
+    ensures { λ r. ⌜ advancedOf r (now (run .exit)) (now (trace .exit)) ≡ advance (now (file .entry)) (now (run .entry)) t (now (bag .entry)) (now (trace .entry)) ⌝ }
+{
+    let components = model_file::components_of(file, n);
+    if !run_saved::fits(components, model_file::phases_of(file, n), run) {
+        return refused(10);
+    }
+    let opening = run_saved::opening_of(run);
+    if t < opening.0 {
+        return refused(11);
+    }
+    if MAX_MOMENT < t {
+        return refused(11);
+    }
+    if !call_bag::bag_fits(bag) {
+        return refused(12);
+    }
+    let count = run_saved::atomic_count(components);
+    if route_count <= FEW_ROUTES {
+        advance_few(file, n, tables, run, count, Moment(t), bag, trace)
+    } else {
+        advance_many(file, n, tables, run, count, Moment(t), bag, trace)
+    }
+}
+
+pub fn advance(file: &[u8], run: &mut [u8], t: u64, bag: &[u8], trace: &mut [u8]) -> Advanced
+    ensures { λ r. ⌜ advancedOf r (now (run .exit)) (now (trace .exit)) ≡ advance (now (file .entry)) (now (run .entry)) t (now (bag .entry)) (now (trace .entry)) ⌝ }
+{
+    let mut tables = [0u16; TABLE_SIZE];
+    let counted = accept_tables::open_model(file, &mut tables);
+    let checked = counted.checked;
+    let Checked::Accepted(n) = checked else {
+        return refused(wide16(checked.refusal()));
+    };
+    advance_accepted(file, n, counted.routes, &tables, run, t, bag, trace)
+}

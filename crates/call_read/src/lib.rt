@@ -1,0 +1,112 @@
+// The call read, whole: the check of the model, the checks of run and position, and what stands at the position.
+ghost use mathlib.Core.Path.{_≡_};
+ghost use mathlib.Core.Bool.{true};
+ghost use lib.ListN.{length};
+ghost use Rattle.definition.specs.Bytes.{ok};
+ghost use Rattle.definition.specs.Model.{atomics};
+ghost use Rattle.definition.specs.Pinned.Decoder.{accepted};
+ghost use Rattle.definition.specs.SavedRun.{runOf, nextDue, runFits};
+ghost use Rattle.definition.specs.Engine.{dueNumber, reading};
+ghost use Rattle.model_file.specs.Checked.{modelOf};
+ghost use Rattle.spec_step.specs.TablesOf.{TablesOf};
+ghost use Rattle.call_read.specs.Answers.{readOf};
+use accept_routes::Counted;
+use clock::Moment;
+use limits::MAX_COMPONENTS;
+use model_file::Checked;
+use model_file::Counts;
+use table_words::TABLE_SIZE;
+
+// The number, 0 for success; the phase and the last moment of the atomic at the position; and the whole model's next due moment.
+pub struct Reading {
+    pub number: u64,
+    pub phase: u64,
+    pub last: u64,
+    pub next_due: u64,
+}
+
+fn wide(x: u8) -> u64
+    ensures { λ r. ⌜ r ≡ x ⌝ }
+{
+    x as u64
+}
+
+fn wide16(x: u16) -> u64
+    ensures { λ r. ⌜ r ≡ x ⌝ }
+{
+    x as u64
+}
+
+// A refused reading: zeros in every other number.
+fn refused(number: u64) -> Reading
+    ensures { λ r. ⌜ readOf r ≡ record { number = number; phase = 0; last = 0; due = 0 } ⌝ }
+{
+    Reading {
+        number,
+        phase: 0,
+        last: 0,
+        next_due: 0,
+    }
+}
+
+// The next due moment of the whole model as a number, for a run of `count` atomics that fits.
+fn whole_due(file: &[u8], n: Counts, tables: &[u16; TABLE_SIZE], run: &[u8], count: usize) -> u64
+    requires { ⌜ (ok (modelOf (now file) n) ≡ accepted (now file)) × TablesOf (modelOf (now file) n) (now tables) × (runFits (modelOf (now file) n) (now run) ≡ true)
+        × (count ≡ length (atomics (modelOf (now file) n .components))) ⌝ }
+    ensures { λ r. ⌜ r ≡ dueNumber (nextDue (modelOf (now (file .entry)) n) (runOf (modelOf (now (file .entry)) n) (now (run .entry)) .entries)) ⌝ }
+{
+    let mut phase = [0u8; MAX_COMPONENTS];
+    let mut last = [0u64; MAX_COMPONENTS];
+    run_saved::load(run, count, &mut phase, &mut last);
+    let mut ends = [0u64; MAX_COMPONENTS];
+    step_due::put_ends(
+        model_file::phases_of(file, n),
+        tables,
+        count as u8,
+        &phase,
+        &last,
+        &mut ends,
+    );
+    step_due::next_end(tables, &ends)
+}
+
+// The checks of run and position, and the answer, for an accepted model.
+fn read_accepted(
+    file: &[u8],
+    n: Counts,
+    tables: &[u16; TABLE_SIZE],
+    run: &[u8],
+    position: u64,
+) -> Reading
+    requires { ⌜ (ok (modelOf (now file) n) ≡ accepted (now file)) × TablesOf (modelOf (now file) n) (now tables) ⌝ }
+    ensures { λ r. ⌜ readOf r ≡ reading (now (file .entry)) (now (run .entry)) position ⌝ }
+{
+    let components = model_file::components_of(file, n);
+    if !run_saved::fits(components, model_file::phases_of(file, n), run) {
+        return refused(10);
+    }
+    let count = run_saved::atomic_count(components);
+    if count as u64 <= position {
+        return refused(16);
+    }
+    let entry = run_saved::entry_at(run, position as usize);
+    let last: Moment = entry.last;
+    Reading {
+        number: 0,
+        phase: wide(entry.phase),
+        last: last.0,
+        next_due: whole_due(file, n, tables, run, count),
+    }
+}
+
+pub fn read(file: &[u8], run: &[u8], position: u64) -> Reading
+    ensures { λ r. ⌜ readOf r ≡ reading (now (file .entry)) (now (run .entry)) position ⌝ }
+{
+    let mut tables = [0u16; TABLE_SIZE];
+    let counted: Counted = accept_tables::open_model(file, &mut tables);
+    let checked = counted.checked;
+    let Checked::Accepted(n) = checked else {
+        return refused(wide16(checked.refusal()));
+    };
+    read_accepted(file, n, &tables, run, position)
+}

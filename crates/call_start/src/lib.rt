@@ -1,0 +1,65 @@
+// The call start, whole: the check of the model, the room, and the first run at the front of the lent buffer.
+ghost use mathlib.Core.Path.{_≡_};
+ghost use Prim.Native.Nat.{_≤_};
+ghost use mathlib.Core.List.{[]};
+ghost use lib.ListN.{length};
+ghost use Rattle.definition.specs.Bytes.{ok};
+ghost use Rattle.definition.specs.Limits.{maxComponents};
+ghost use Rattle.definition.specs.SavedRun.{runBytes};
+ghost use Rattle.definition.specs.Engine.{wrote, startRun, start};
+ghost use Rattle.model_records.specs.Values.{componentsIn};
+ghost use Rattle.run_saved.specs.Runs.{bare};
+ghost use Rattle.call_start.specs.Answers.{wroteOf};
+use clock::Moment;
+use limits::MAX_COMPONENTS;
+use model_file::Checked;
+use run_saved::run_size;
+
+// The number, 0 for success, and the bytes written.
+pub struct Written {
+    pub number: u64,
+    pub bytes: u64,
+}
+
+fn wide16(x: u16) -> u64
+    ensures { λ r. ⌜ r ≡ x ⌝ }
+{
+    x as u64
+}
+
+// The run of a start, where there is room for it.
+fn start_run(components: &[u8], run: &mut [u8]) -> Written
+    requires { ⌜ length (componentsIn (now components)) ≤ maxComponents ⌝ }
+    ensures { λ r. ⌜ wroteOf r (now (run .exit)) ≡ wrote (now (run .entry)) (ok (runBytes (startRun (bare (now (components .entry)) [])))) ⌝ }
+{
+    let n = run_saved::atomic_count(components);
+    let size = run_size(n);
+    if run.len() < size {
+        return Written {
+            number: 15,
+            bytes: 0,
+        };
+    }
+    let mut phase = [0u8; MAX_COMPONENTS];
+    let mut last = [0u64; MAX_COMPONENTS];
+    run_saved::start_state(components, &mut phase, &mut last);
+    run_saved::store(run, Moment(0), n, &phase, &last);
+    Written {
+        number: 0,
+        bytes: size as u64,
+    }
+}
+
+// Start: the first run of a model, at the front of the buffer; the bytes beyond it stay.
+pub fn start(file: &[u8], run: &mut [u8]) -> Written
+    ensures { λ r. ⌜ wroteOf r (now (run .exit)) ≡ start (now (file .entry)) (now (run .entry)) ⌝ }
+{
+    let checked = accept_routes::check(file);
+    let Checked::Accepted(n) = checked else {
+        return Written {
+            number: wide16(checked.refusal()),
+            bytes: 0,
+        };
+    };
+    start_run(model_file::components_of(file, n), run)
+}

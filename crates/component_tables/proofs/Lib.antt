@@ -1,2 +1,0 @@
--- Laws of the tables by component and by rule.
-pub mod Loops

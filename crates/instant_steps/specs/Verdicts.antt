@@ -1,0 +1,35 @@
+-- What the code's pass over an instant answers, by what the definition says that the instant leaves. Assumes nothing.
+use mathlib.Core.Path.{_≡_}
+use mathlib.Core.Bool.{false, cond}
+use Prim.Native.Nat.{ℕ, _+_, _≤_}
+use lib.ListN.{length}
+use lib.Seq.{sets}
+use Rattle.definition.specs.Bytes.{Bytes}
+use Rattle.definition.specs.Limits.{maxSteps}
+use Rattle.definition.specs.Instant.{Instant, done, jammed, over, instantTrace}
+use Rattle.run_state.specs.declared.State.{State}
+use Rattle.instant_steps.specs.declared.Ran.{Ran}
+use Rattle.instant_steps.specs.declared.Verdict.the-variants as VV
+
+-- 13 goes before 14: the verdict, and for an instant that may stand its steps and where its records end. When the state is next due is said
+-- apart from this.
+unfoldable pub ranOf : ℕ → ℕ → Instant State → ℕ → Ran
+ranOf now from jammed due = record { verdict = VV.Jammed; steps = 0; used = from; due = due }
+ranOf now from (done xs s) due =
+    cond (over xs) (record { verdict = VV.Over; steps = 0; used = from; due = due })
+    (record { verdict = VV.Stands; steps = length xs; used = from + length (instantTrace now xs); due = due })
+
+-- The records of an instant that may stand are in the buffer from `from` on, where all of them fit there. Otherwise its content
+-- behind `from` is left open.
+abbrev pub Recorded : ℕ → ℕ → Bytes → Bytes → Instant State → Type 0
+Recorded now from out₀ out jammed = Unit {0}
+Recorded now from out₀ out (done xs s) = over xs ≡ false → from + length (instantTrace now xs) ≤ length out₀ → out ≡ sets out₀ from (instantTrace now xs)
+
+-- The state is the one that the instant leaves; where it never ends, nothing is said.
+abbrev pub Left : Instant State → State → Type 0
+Left jammed st = Unit {0}
+Left (done xs s) st = st ≡ s
+
+-- The answer, the buffer and the state; at most 1,024 steps are counted.
+abbrev pub Judged : ℕ → ℕ → Bytes → Bytes → State → Instant State → Ran → Type 0
+Judged now from out₀ out st i r = (r ≡ ranOf now from i (r .due)) × (r .steps ≤ maxSteps) × Recorded now from out₀ out i × Left i st

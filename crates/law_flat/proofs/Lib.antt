@@ -1,0 +1,11 @@
+pub mod Checks
+pub mod Couplings
+pub mod FlatComponents
+pub mod FlatSound
+pub mod FlatTwice
+pub mod LevelRoutes
+pub mod RouteEnds
+pub mod SameChecks
+pub mod WayEnds
+pub mod WayLength
+pub mod WayShape

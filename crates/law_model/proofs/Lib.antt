@@ -1,0 +1,12 @@
+pub mod Answers
+pub mod Codec
+pub mod Layouts
+pub mod PhaseRange
+pub mod Reading
+pub mod Refusals
+pub mod Rows
+pub mod RunBack
+pub mod Sections
+pub mod Spellings
+pub mod WellFormed
+pub mod Writing

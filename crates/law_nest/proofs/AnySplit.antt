@@ -1,0 +1,242 @@
+-- Any state of a resultant whose elapsed times add up, along each path, to the time since the atomic's last transition does what the nest's
+-- own account says, and stands for the entries after the step; how the time is split over the levels means nothing. This joins document
+-- 001's bookkeeping to the saved run. Assumes nothing.
+use mathlib.Core.Path.{_≡_, refl, sym, ap, ap₂, _∙_, subst, fun-ext}
+use Prim.Native.Nat.{ℕ, _+_, _-_}
+use mathlib.Core.List.{List, [], _∷_, _++_, append-nil}
+use mathlib.Core.Bool.{Bool, true, false, cond}
+use native.Mathlib.Omega.{arith}
+use native.Mathlib.Nat.{add-zero, zero-add}
+use Rattle.definition.specs.Model.{Bag, Coupling, Model, phaseAt, outputs, Tree, Forest, leaf, node, stop, more, nameOf}
+use Rattle.definition.specs.Devs.{Time, finite, earlier, remaining, later, sameTime, ticks, Totals, translate, sigma, leastSigma, outputsTo, changed, changedAll, resultantOut, resultantInt, resultantExt, resultantCon, transition}
+use Rattle.definition.specs.Atomic.{advanceOf, internal, external, confluent, devsOf, partsOf}
+use Rattle.definition.specs.SavedRun.{Entry, dueOf, dueAt, dueAll}
+use Rattle.definition.specs.Step.{elapsed, load, loadAll}
+use Rattle.definition.specs.FlatMachine.{moved}
+use Rattle.definition.specs.Carrying.{Stands, StandsAll}
+use Rattle.law_nest.proofs.Times.{later-add, later-earlier, left-earlier, spent-left, same-later, never-later, imminent, left-due}
+use Rattle.law_nest.proofs.Nest.{Ready, ReadyAll, ready-due, due, outOf, outTo, NoneDue, none-due, out-none}
+
+module _ (m : Model) (at : ℕ → Entry) (now : ℕ) where
+  -- ---- time passes without a transition
+
+  mutual
+    pub pass-stands : (d e : ℕ) (t : Tree) (s : devsOf m t .State) → Stands m at now e t s → Stands m at (now + d) (e + d) t s
+    pass-stands d e (leaf c) s h = (h .0, omega (arith, h .1))
+    pass-stands d e (node c f) s h = passes-stand d e f s h
+
+    passes-stand : (d e : ℕ) (f : Forest) (s : Totals (partsOf m f)) → StandsAll m at now e f s → StandsAll m at (now + d) (e + d) f s
+    passes-stand d e stop s h = tt
+    passes-stand d e (more t f) s h = (
+      subst (λ n. Stands m at (now + d) n t (s .0 .0)) (let q : e + s .0 .1 + d ≡ e + d + s .0 .1 = omega arith in q) (pass-stands d (e + s .0 .1) t (s .0 .0) (h .0)),
+      passes-stand d e f (s .1) (h .1),
+    )
+
+  -- ---- what is left of a component's advance
+
+  mutual
+    unfolding dueAt sigma leastSigma dueOf
+
+    pub ta-stands : (t : Tree) (e : ℕ) (s : devsOf m t .State) → Stands m at now e t s → Ready m at now t → devsOf m t .ta s ≡ later e (remaining (dueAt m at t) now)
+    ta-stands (leaf c) e s h r = ap (advanceOf m c) (h .0) ∙ spent-left (at c .last) e now (advanceOf m c (at c .phase)) (h .1) (r .1)
+    ta-stands (node c f) e s h r = least-stands f e s h r
+
+    least-stands : (f : Forest) (e : ℕ) (s : Totals (partsOf m f)) → StandsAll m at now e f s → ReadyAll m at now f → leastSigma (partsOf m f) s ≡ later e (remaining (dueAll m at f) now)
+    least-stands stop e s h r = never-later e now
+    least-stands (more t f) e s h r =
+        ap₂ earlier (ap (λ u. remaining u (s .0 .1)) (ta-stands t (e + s .0 .1) (s .0 .0) (h .0) (r .0)) ∙ later-add e (s .0 .1) (remaining (dueAt m at t) now)) (least-stands f e (s .1) (h .1) (r .1))
+        ∙ sym (later-earlier e (remaining (dueAt m at t) now) (remaining (dueAll m at f) now)) ∙ ap (later e) (sym (left-earlier (dueAt m at t) (dueAll m at f) now))
+
+  -- a component's advance is over just when it is due
+  pub over-stands : (t : Tree) (e : ℕ) (s : devsOf m t .State) → Stands m at now e t s → Ready m at now t → sameTime (devsOf m t .ta s) (finite e) ≡ due m at now t
+  unfolding due
+  over-stands t e s h r =
+      ap (λ u. sameTime u (finite e)) (ta-stands t e s h r)
+      ∙ same-later e (remaining (dueAt m at t) now) ∙ imminent now (dueAt m at t) (ready-due m at now t r)
+
+  -- a part is imminent just when it is due, where the coupled component it stands in has e to go
+  imminent-stands : (t : Tree) (e : ℕ) (s : devsOf m t .State × ℕ) → Stands m at now (e + s .1) t (s .0) → Ready m at now t → sameTime (sigma (devsOf m t) s) (finite e) ≡ due m at now t
+  unfolding sigma due
+  imminent-stands t e s h r =
+      ap (λ u. sameTime (remaining u (s .1)) (finite e)) (ta-stands t (e + s .1) (s .0) h r)
+      ∙ ap (λ u. sameTime u (finite e)) (later-add e (s .1) (remaining (dueAt m at t) now))
+      ∙ same-later e (remaining (dueAt m at t) now) ∙ imminent now (dueAt m at t) (ready-due m at now t r)
+
+  -- a coupled component that is due has as much to go as it has spent
+  due-least : (f : Forest) (e : ℕ) (s : Totals (partsOf m f)) → StandsAll m at now e f s → ReadyAll m at now f → sameTime (dueAll m at f) (finite now) ≡ true → leastSigma (partsOf m f) s ≡ finite e
+  unfolding later
+  due-least f e s h r d = least-stands f e s h r ∙ ap (later e) (left-due now (dueAll m at f) d) ∙ ap finite (add-zero e)
+
+  -- ---- outputs
+
+  mutual
+    unfolding outOf outputsTo resultantOut due dueAt
+
+    out-stands : (t : Tree) (e : ℕ) (s : devsOf m t .State) → Stands m at now e t s → Ready m at now t → due m at now t ≡ true → devsOf m t .out s ≡ outOf m at now t
+    out-stands (leaf c) e s h r d = ap (λ p. outputs (phaseAt m c p)) (h .0)
+    out-stands (node c f) e s h r d = ap (λ u. outputsTo (m .couplings) c u (partsOf m f) s) (due-least f e s h r d) ∙ outs-stands f c e s h r
+
+    outs-stands : (f : Forest) (to e : ℕ) (s : Totals (partsOf m f)) → StandsAll m at now e f s → ReadyAll m at now f → outputsTo (m .couplings) to (finite e) (partsOf m f) s ≡ outTo m at now f to
+    outs-stands stop to e s h r = refl
+    outs-stands (more t f) to e s h r =
+        ap₂ _++_ (go (due m at now t) refl (imminent-stands t e (s .0) (h .0) (r .0)) (λ d. out-stands t (e + s .0 .1) (s .0 .0) (h .0) (r .0) d)) (outs-stands f to e (s .1) (h .1) (r .1))
+      where
+        ks : List Coupling
+        ks = m .couplings
+
+        go : (b : Bool) → due m at now t ≡ b → sameTime (sigma (devsOf m t) (s .0)) (finite e) ≡ due m at now t
+            → (due m at now t ≡ true → devsOf m t .out (s .0 .0) ≡ outOf m at now t)
+            → cond (sameTime (sigma (devsOf m t) (s .0)) (finite e)) (translate ks (nameOf t) to (devsOf m t .out (s .0 .0))) []
+            ≡ cond (due m at now t) (translate ks (nameOf t) to (outOf m at now t)) []
+        go true d i o = rw (i, o d)
+        go false d i o = rw (i, d)
+
+  -- ---- the transitions
+
+  -- the test `imm` of a part's σ says whether it is due
+  abbrev ImmAll : (Time → Bool) → (f : Forest) → Totals (partsOf m f) → Type 0
+  ImmAll imm stop s = Unit {0}
+  ImmAll imm (more t f) s = (imm (sigma (devsOf m t) (s .0)) ≡ due m at now t) × ImmAll imm f (s .1)
+
+  imm-due : (f : Forest) (e : ℕ) (s : Totals (partsOf m f)) → StandsAll m at now e f s → ReadyAll m at now f → ImmAll (λ u. sameTime u (finite e)) f s
+  imm-due stop e s h r = tt
+  imm-due (more t f) e s h r = (imminent-stands t e (s .0) (h .0) (r .0), imm-due f e (s .1) (h .1) (r .1))
+
+  imm-none : (f : Forest) (s : Totals (partsOf m f)) → NoneDue m at now f → ImmAll (λ u. false) f s
+  imm-none stop s n = tt
+  imm-none (more t f) s n = (sym (n .0), imm-none f (s .1) (n .1))
+
+  module _ (on : ℕ → Entry) where
+    -- `on` has the entries after the step, where the tree is given the bag x
+    abbrev mutual
+      pub On : (t : Tree) → Bag → Type 0
+      On (leaf c) x = on c ≡ moved m now c (due m at now (leaf c)) x (at c)
+      On (node c f) x = OnAll f (λ d. outTo m at now f d ++ translate (m .couplings) c d x)
+
+      pub OnAll : (f : Forest) → (ℕ → Bag) → Type 0
+      OnAll stop input = Unit {0}
+      OnAll (more t f) input = On t (input (nameOf t)) × OnAll f input
+
+    -- a part with elapsed time k when its parent last changed, which was e ago
+    abbrev New : (t : Tree) → ℕ → devsOf m t .State × ℕ → Bag → Type 0
+    New t e s x =
+        let r = changed (devsOf m t) (due m at now t) x e s in
+        Stands m on now (r .1) t (r .0)
+
+    NewAll : (f : Forest) → Totals (partsOf m f) → Type 0
+    NewAll f s =
+        (e : ℕ) (imm : Time → Bool) (input : ℕ → Bag) → StandsAll m at now e f s → ImmAll imm f s → OnAll f input
+        → StandsAll m on now 0 f (changedAll imm input e (partsOf m f) s)
+
+    new-leaf : (c e k p : ℕ) (x : Bag) → Stands m at now (e + k) (leaf c) p → On (leaf c) x → New (leaf c) e (p, k) x
+    unfolding changed moved
+    new-leaf c e k p x h o = go (due m at now (leaf c)) refl x o
+      where
+        go : (b : Bool) → due m at now (leaf c) ≡ b → (x : Bag) → On (leaf c) x → New (leaf c) e (p, k) x
+        go true d [] o =
+            let q = rw d at o in
+            rw d (ap (internal m c) (h .0) ∙ sym (ap (λ r. r .phase) q), omega (arith, ap (λ r. r .last) q))
+        go true d (y ∷ ys) o =
+            let q = rw d at o in
+            rw d (ap (λ p. confluent m c p (y ∷ ys)) (h .0) ∙ sym (ap (λ r. r .phase) q), omega (arith, ap (λ r. r .last) q))
+        go false d [] o =
+            let q = rw d at o in
+            rw d (h .0 ∙ sym (ap (λ r. r .phase) q), omega (arith, h .1, ap (λ r. r .last) q))
+        go false d (y ∷ ys) o =
+            let q = rw d at o in
+            let z : k + e ≡ now - at c .last = omega (arith, h .1) in
+            rw d (ap₂ (λ p e. external m c p e (y ∷ ys)) (h .0) z ∙ sym (ap (λ r. r .phase) q), omega (arith, ap (λ r. r .last) q))
+
+    -- where the coupled component c is due
+    new-due : (c : ℕ) (f : Forest) (s : Totals (partsOf m f)) (e : ℕ) (x : Bag) → StandsAll m at now e f s → ReadyAll m at now f → NewAll f s
+        → due m at now (node c f) ≡ true → On (node c f) x → (input : Time → ℕ → Bag)
+        → ((d : ℕ) → input (finite e) d ≡ outTo m at now f d ++ translate (m .couplings) c d x)
+        → (let u = leastSigma (partsOf m f) s in StandsAll m on now 0 f (changedAll (λ v. sameTime v u) (input u) (ticks u) (partsOf m f) s))
+    unfolding NewAll due dueAt ticks
+    new-due c f s e x h r ih d o input same =
+        subst (λ (u : Time). StandsAll m on now 0 f (changedAll (λ v. sameTime v u) (input u) (ticks u) (partsOf m f) s)) (sym (due-least f e s h r d))
+        (ih e (λ v. sameTime v (finite e)) (input (finite e)) h (imm-due f e s h r) (subst (OnAll f) (sym (fun-ext same)) o))
+
+    -- the transition of a coupled component, an elapsed time e after its last event
+    new-transition : (c : ℕ) (f : Forest) (s : Totals (partsOf m f)) (e : ℕ) (x : Bag) → StandsAll m at now e f s → ReadyAll m at now f → NewAll f s → On (node c f) x
+        → StandsAll m on now 0 f (transition (devsOf m (node c f)) (due m at now (node c f)) e x s .1)
+    unfolding NewAll transition translate resultantInt resultantExt resultantCon due dueAt
+    new-transition c f s e x h r ih o = go (due m at now (node c f)) refl x o
+      where
+        ks : List Coupling
+        ks = m .couplings
+
+        go : (b : Bool) → due m at now (node c f) ≡ b → (x : Bag) → On (node c f) x
+            → StandsAll m on now 0 f (transition (devsOf m (node c f)) (due m at now (node c f)) e x s .1)
+        go true d [] o =
+            rw d (new-due c f s e [] h r ih d o (λ u to. outputsTo ks to u (partsOf m f) s) (λ to. outs-stands f to e s h r ∙ sym (append-nil (outTo m at now f to))))
+        go true d (y ∷ ys) o =
+            rw d (new-due c f s e (y ∷ ys) h r ih d o (λ u to. outputsTo ks to u (partsOf m f) s ++ translate ks c to (y ∷ ys))
+            (λ to. ap (λ z. z ++ translate ks c to (y ∷ ys)) (outs-stands f to e s h r)))
+        go false d x o =
+            let n = none-due m at now f r d in
+            rw d (ih e (λ u. false) (λ to. translate ks c to x) h (imm-none f s n)
+            (subst (OnAll f) (fun-ext (λ to. ap (λ z. z ++ translate ks c to x) (out-none m at now f to n))) o))
+
+    -- time that passes at a part changes how its leaves' times are split, and nothing else
+    pass-new : (e : ℕ) (f : Forest) (s : Totals (partsOf m f)) → StandsAll m on now 0 f (changedAll (λ u. false) (λ d. []) e (partsOf m f) s) → StandsAll m on now e f s
+    unfolding changedAll changed
+    pass-new e stop s h = tt
+    pass-new e (more t f) s h =
+        (subst (λ n. Stands m on now n t (s .0 .0)) (let q : 0 + (s .0 .1 + e) ≡ e + s .0 .1 = omega arith in q) (h .0), pass-new e f (s .1) (h .1))
+
+    new-node : (c : ℕ) (f : Forest) (s : Totals (partsOf m f)) (e k : ℕ) (x : Bag) → StandsAll m at now (k + e) f s → ReadyAll m at now f → NewAll f s → On (node c f) x → New (node c f) e (s, k) x
+    unfolding changed transition translate resultantExt
+    new-node c f s e k x h r ih o = go (due m at now (node c f)) refl x (new-transition c f s (k + e) x h r ih o)
+      where
+        go : (b : Bool) → due m at now (node c f) ≡ b → (x : Bag) → StandsAll m on now 0 f (transition (devsOf m (node c f)) (due m at now (node c f)) (k + e) x s .1)
+            → New (node c f) e (s, k) x
+        go true d [] g = rw d (rw d at g)
+        go true d (y ∷ ys) g = rw d (rw d at g)
+        go false d [] g = rw d (pass-new (k + e) f s (rw d at g))
+        go false d (y ∷ ys) g = rw d (rw d at g)
+
+    mutual
+      unfolding NewAll changedAll
+
+      new-tree : (t : Tree) (e : ℕ) (s : devsOf m t .State × ℕ) (x : Bag) → Stands m at now (e + s .1) t (s .0) → Ready m at now t → On t x → New t e s x
+      new-tree (leaf c) e s x h r o = new-leaf c e (s .1) (s .0) x h o
+      new-tree (node c f) e s x h r o =
+          new-node c f (s .0) e (s .1) x (subst (λ n. StandsAll m at now n f (s .0)) (let q : e + s .1 ≡ s .1 + e = omega arith in q) h) r
+          (λ e imm input h i o. new-forest f e imm input (s .0) h i r o) o
+
+      new-forest : (f : Forest) (e : ℕ) (imm : Time → Bool) (input : ℕ → Bag) (s : Totals (partsOf m f)) → StandsAll m at now e f s → ImmAll imm f s → ReadyAll m at now f → OnAll f input
+          → StandsAll m on now 0 f (changedAll imm input e (partsOf m f) s)
+      new-forest stop e imm input s h i r o = tt
+      new-forest (more t f) e imm input s h i r o =
+          simp (zero-add, i .0) (new-tree t e (s .0) (input (nameOf t)) (h .0) (r .0) (o .0), new-forest f e imm input (s .1) (h .1) (i .1) (r .1) (o .1))
+
+    -- the state after a coupled component's transition stands for the entries after the step
+    pub transition-stands : (c : ℕ) (f : Forest) (s : Totals (partsOf m f)) (e : ℕ) (x : Bag) → StandsAll m at now e f s → ReadyAll m at now f → On (node c f) x
+        → StandsAll m on now 0 f (transition (devsOf m (node c f)) (due m at now (node c f)) e x s .1)
+    unfolding NewAll
+    transition-stands c f s e x h r o = new-transition c f s e x h r (λ e imm input h i o. new-forest f e imm input s h i r o) o
+
+  -- its output is what the parts that are due send to it
+  pub transition-out : (c : ℕ) (f : Forest) (s : Totals (partsOf m f)) (e : ℕ) (x : Bag) → StandsAll m at now e f s → ReadyAll m at now f
+      → transition (devsOf m (node c f)) (due m at now (node c f)) e x s .0 ≡ outTo m at now f c
+  unfolding transition outOf due dueAt
+  transition-out c f s e x h r = go (due m at now (node c f)) refl x
+    where
+      go : (b : Bool) → due m at now (node c f) ≡ b → (x : Bag) → transition (devsOf m (node c f)) (due m at now (node c f)) e x s .0 ≡ outTo m at now f c
+      go true d [] = rw d (out-stands (node c f) e s h r d)
+      go true d (y ∷ ys) = rw d (out-stands (node c f) e s h r d)
+      go false d x = rw d (sym (out-none m at now f c (none-due m at now f r d)))
+
+  -- ---- the state that a step builds
+
+  mutual
+    unfolding load elapsed
+
+    pub load-stands : (t : Tree) → Ready m at now t → Stands m at now (elapsed at now t) t (load m at now t)
+    load-stands (leaf c) r = (refl, omega (arith, r .0))
+    load-stands (node c f) r = loads-stand f r
+
+    loads-stand : (f : Forest) → ReadyAll m at now f → StandsAll m at now 0 f (loadAll m at now f)
+    loads-stand stop r = tt
+    loads-stand (more t f) r = (subst (λ n. Stands m at now n t (load m at now t)) (sym (zero-add (elapsed at now t))) (load-stands t (r .0)), loads-stand f (r .1))

@@ -1,0 +1,10 @@
+pub mod Bags
+pub mod Components
+pub mod Couplings
+pub mod Deciding
+pub mod Judged
+pub mod Phases
+pub mod Rules
+pub mod Runs
+pub mod Sections
+pub mod Tests

@@ -1,0 +1,178 @@
+-- The law of the step: where the tables are a model's and the entries are good at the moment, the step on the tables leaves the entries of the
+-- definition's step and puts out its bag in another order. The bags' room is enough where it is 16 messages a route. Assumes nothing.
+use mathlib.Core.Path.{_≡_, refl, sym, ap, ap₂, _∙_}
+use Prim.Native.Nat.{ℕ, zero, suc, _+_, _*_, _≤_, _<_}
+use mathlib.Core.List.{List, _∷_, map}
+use mathlib.Core.Bool.{Bool, true, false, cond}
+use native.Mathlib.Omega.{arith}
+use lib.Dec.{eqb}
+use lib.ListN.{length, getD, take, length-map}
+use lib.Seq.{take-all, take-length}
+use Rattle.definition.specs.Lists.{all, upFrom, count, Same}
+use Rattle.definition.specs.Limits.{maxGiven, maxOutputs, maxAdvance, neverField}
+use Rattle.definition.specs.Model.{Bag, Model, isAtomic, atomics, phaseAt, leaf}
+use Rattle.definition.specs.Records.{portFits}
+use Rattle.definition.specs.Routes.{routes}
+use Rattle.definition.specs.Devs.{finite, never, sameTime, later}
+use Rattle.definition.specs.Atomic.{advanceOf}
+use Rattle.definition.specs.SavedRun.{Entry, entryOf, dueOf, dueAt}
+use Rattle.definition.specs.Step.{Stepped, step}
+use Rattle.definition.specs.FlatMachine.{moved}
+use Rattle.law_base.proofs.Tests.{clash}
+use Rattle.law_model.proofs.WellFormed.{WellFormed}
+use Rattle.law_base.proofs.Bags.{same-length}
+use Rattle.law_nest.proofs.Places.{take-up}
+use Rattle.law_nest.proofs.Pairs.{pairs-lookUp}
+use Rattle.law_nest.proofs.Components.{atomic-below, atomic-once, root}
+use Rattle.law_nest.proofs.Nest.{Fresh, Ready, due, bagAt}
+use Rattle.law_nest.proofs.Leaves.{moved-same}
+use Rattle.law_nest.proofs.StepOf.{entryAfter, step-moved, step-out}
+use Rattle.law_nest.proofs.Stepping.{Good, ready}
+use Rattle.law_nest.proofs.Capacity.{atomic-bag, root-bag}
+use Rattle.clock.specs.Times.{latest}
+use Rattle.run_state.specs.declared.State.{State}
+use Rattle.run_state.specs.Held.{entriesOf}
+use Rattle.law_base.specs.Keys.{messageOf}
+use Rattle.spec_step.specs.Tables.{numbersAt}
+use Rattle.spec_step.specs.TableStep.{isUp, keysInto, rootKeys, rootRoom, tableStep}
+use Rattle.spec_step.specs.Tabled.{Tabled}
+use Rattle.law_step.proofs.Values.{hasValue, sent-values}
+use Rattle.law_step.proofs.Ends.{ready-all, root-same, pulled-same}
+use Rattle.law_step.proofs.Positions.{heldAt, entries, atEntry, atomicAtPlace, atomic-at, place-entry}
+use Rattle.law_step.proofs.Flagged.{es, fs, up-due, flagged}
+use Rattle.law_step.proofs.TablePull.{keys-into, root-keys}
+use Rattle.law_step.proofs.Moves.{SameRoom, all-room, all-own}
+
+map-up : {A : Type 0} (f g : ℕ → A) (k n : ℕ) → ((j : ℕ) → k ≤ j → j < k + n → f j ≡ g j) → map f (upFrom k n) ≡ map g (upFrom k n)
+unfolding upFrom
+map-up f g k zero h = refl
+map-up f g k (suc n) h = ap₂ _∷_ (h k (omega arith) (omega arith)) (map-up f g (suc k) n (λ j a b. h j (omega arith) (omega arith)))
+
+-- what is due has an advance
+due-timed : (m : Model) (c now : ℕ) (r : Entry) → sameTime (dueOf m c r) (finite now) ≡ true → eqb (phaseAt m c (r .phase) .advance) neverField ≡ false
+unfolding dueOf advanceOf later sameTime
+due-timed m c now r = go (eqb (phaseAt m c (r .phase) .advance) neverField)
+  where
+    go : (b : Bool) → sameTime (later (r .last) (cond b never (finite (phaseAt m c (r .phase) .advance)))) (finite now) ≡ true → b ≡ false
+    go true e = absurd (clash e refl)
+    go false e = refl
+
+-- where the moment itself is not too late
+pub soon-at : (m : Model) (w : WellFormed m) (st : State) (now : ℕ) → Good m now (entriesOf (length (atomics (m .components))) st) → now + maxAdvance ≤ latest
+    → (i : ℕ) → i < length (atomics (m .components)) → getD (st .last) i 0 + maxAdvance ≤ latest
+unfolding entryOf
+soon-at m w st now g early i l =
+    let c = atomicAtPlace m w st i in
+    let o = atomic-once (m .components) (w .components .fit) (w .some-component) c (atomic-at m w st i l) in
+    let f = pairs-lookUp (Fresh m now) (atomics (m .components)) (entries m w st) c g (omega arith) in
+    omega (arith, f .0, ap (λ (r : Entry). r .last) (place-entry m w st i l))
+
+-- What a call keeps of a state: room for each atomic, entries that are good at the moment, and last moments that are not too late for the code's
+-- due moments.
+pub record Holds (m : Model) (now : ℕ) (st : State) : Type 0 where
+  pub good : Good m now (entriesOf (length (atomics (m .components))) st)
+  pub phases : length (atomics (m .components)) ≤ length (st .phase)
+  pub lasts : length (atomics (m .components)) ≤ length (st .last)
+  pub soon : (i : ℕ) → i < length (atomics (m .components)) → getD (st .last) i 0 + maxAdvance ≤ latest
+
+module _ (m : Model) (w : WellFormed m) (t : List ℕ) (h : Tabled m t) (st : State) (now : ℕ) (k : Holds m now st) where
+  abbrev at : ℕ → Entry
+  at = atEntry m w st
+
+  pub fresh : (c : ℕ) → isAtomic (m .components) c ≡ true → Fresh m now c (at c)
+  unfolding entryOf
+  fresh c e =
+      pairs-lookUp (Fresh m now) (atomics (m .components)) (entries m w st) c (k .good)
+      (let o = atomic-once (m .components) (w .components .fit) (w .some-component) c e in omega arith)
+
+  is-ready : Ready m at now (root m)
+  is-ready = ready m w now (entries m w st) (k .good)
+
+  module _ (x : Bag) (few : length x ≤ maxGiven) (ports : all portFits x ≡ true) (values : all hasValue x ≡ true) where
+    abbrev marked : List ℕ
+    marked = es m w st t h now (k .soon)
+
+    abbrev flags : List ℕ
+    flags = fs m w st t h now (k .soon) x
+
+    -- the whole bag of an atomic
+    pub bag-same : (c : ℕ) → isAtomic (m .components) c ≡ true → Same (map messageOf (keysInto (m .phases) t marked flags x c)) (bagAt m at now c (root m) x)
+    bag-same c e p =
+        ap (λ l. count p (map messageOf l)) (keys-into m w t h (m .phases) marked flags x _ (flagged m w st t h now (k .soon) x) c (atomic-below (m .components) c e)) ∙ pulled-same m w (m .phases) at now (ready-all m w at now fresh) (sent-values m w at now) x ports values c e p
+
+    pub bag-length : (c : ℕ) → isAtomic (m .components) c ≡ true → length (keysInto (m .phases) t marked flags x c) ≤ maxGiven * length (routes m)
+    bag-length c e =
+        omega (
+          arith,
+          length-map (keysInto (m .phases) t marked flags x c) messageOf,
+          same-length (map messageOf (keysInto (m .phases) t marked flags x c)) (bagAt m at now c (root m) x) (bag-same c e),
+          atomic-bag m w at now is-ready x maxGiven few ports (omega arith) c,
+        )
+
+    module _ (room : ℕ) (enough : maxGiven * length (routes m) ≤ room) where
+      abbrev pub after : Stepped State
+      after = tableStep (m .phases) t (m .rules) (length (atomics (m .components))) room now x st
+
+      -- one entry
+      entry-after : (j : ℕ) → j < length (atomics (m .components)) → heldAt (after .state) j ≡ entryAfter m now x (entries m w st) (atomicAtPlace m w st j)
+      unfolding tableStep entryAfter due dueAt
+      entry-after j l =
+          let c = atomicAtPlace m w st j in
+          let e = atomic-at m w st j l in
+          let q : getD t (numbersAt + j) 0 ≡ c = h .numbers j l in
+          let r = place-entry m w st j l in
+          let b = up-due m w st t h now (k .soon) c e in
+          let whole : take room (keysInto (m .phases) t marked flags x c) ≡ keysInto (m .phases) t marked flags x c = take-all room _ (omega (arith, bag-length c e)) in
+          all-own m w t h now marked flags room x (length (atomics (m .components))) 0 j st (omega arith) (omega arith)
+          (omega (arith, q, atomic-below (m .components) c e)) (omega (arith, k .phases)) (omega (arith, k .lasts))
+          (λ u. ap (λ d. eqb (phaseAt m d (heldAt st j .phase) .advance) neverField) q
+          ∙ due-timed m c now (heldAt st j) (ap (λ r. sameTime (dueOf m c r) (finite now)) (sym r) ∙ sym b ∙ ap (isUp marked) (sym q) ∙ u))
+          ∙ ap (λ d. moved m now d (isUp marked d) (map messageOf (take room (keysInto (m .phases) t marked flags x d))) (heldAt st j)) q
+          ∙ ap (λ z. moved m now c (isUp marked c) (map messageOf z) (heldAt st j)) whole
+          ∙ ap (λ z. moved m now c z (map messageOf (keysInto (m .phases) t marked flags x c)) (heldAt st j)) b
+          ∙ moved-same m now c _ _ (bagAt m at now c (root m) x) (heldAt st j) (bag-same c e)
+          ∙ ap (moved m now c (due m at now (leaf c)) (bagAt m at now c (root m) x)) (sym r)
+
+      pub table-state : entriesOf (length (atomics (m .components))) (after .state) ≡ step m now x (entries m w st) .state
+      unfolding entriesOf
+      table-state =
+          map-up (heldAt (after .state)) (λ j. entryAfter m now x (entries m w st) (atomicAtPlace m w st j)) 0 (length (atomics (m .components))) (λ j a b. entry-after j (omega arith))
+          ∙ sym (take-up (entryAfter m now x (entries m w st)) (atomics (m .components)) 0 (length (atomics (m .components))) (omega arith))
+          ∙ ap (map (entryAfter m now x (entries m w st))) (take-length (atomics (m .components)))
+          ∙ sym (step-moved m w now x (entries m w st) is-ready)
+
+      -- the root's whole bag, which has at most 4 messages a route
+      root-whole : Same (map messageOf (rootKeys (m .phases) t marked flags)) (step m now x (entries m w st) .out)
+      root-whole p =
+          ap (λ l. count p (map messageOf l)) (root-keys m w t h (m .phases) marked flags x _ (flagged m w st t h now (k .soon) x)) ∙ root-same m w (m .phases) at now (ready-all m w at now fresh) (sent-values m w at now) p
+          ∙ ap (count p) (sym (step-out m w now x (entries m w st) is-ready))
+
+      root-few : length (rootKeys (m .phases) t marked flags) ≤ maxOutputs * length (routes m)
+      root-few =
+          omega (
+            arith,
+            length-map (rootKeys (m .phases) t marked flags) messageOf,
+            same-length (map messageOf (rootKeys (m .phases) t marked flags)) (step m now x (entries m w st) .out) root-whole,
+            ap length (step-out m w now x (entries m w st) is-ready),
+            root-bag m w at now is-ready,
+          )
+
+      pub table-out : Same (after .out) (step m now x (entries m w st) .out)
+      unfolding tableStep
+      table-out p =
+          let whole : take (rootRoom room) (rootKeys (m .phases) t marked flags) ≡ rootKeys (m .phases) t marked flags = take-all (rootRoom room) _ (omega (arith, root-few)) in
+          ap (λ l. count p (map messageOf l)) whole ∙ root-whole p
+
+      pub table-room : SameRoom (after .state) st
+      unfolding tableStep
+      table-room = all-room m w t h now _ _ room x (length (atomics (m .components))) 0 st
+
+      -- the root's bag has at most 4 messages a route
+      pub table-few : length (after .out) ≤ maxOutputs * length (routes m)
+      table-few =
+          omega (
+            arith,
+            same-length (after .out) (step m now x (entries m w st) .out) table-out,
+            ap length (step-out m w now x (entries m w st) is-ready),
+            root-bag m w at now is-ready,
+          )

@@ -1,0 +1,58 @@
+-- Decoding cut at each section: what is still to be read, given the records read so far. Assumes nothing.
+use mathlib.Core.Path.{_≡_, refl, sym, ap, subst, _∙_}
+use mathlib.Core.List.{List}
+use Prim.Native.Nat.{ℕ, _≤_, _<_}
+use native.Mathlib.Omega.{arith}
+use lib.ListN.{length}
+use Rattle.definition.specs.Bytes.{Bytes, Result, ok, refused, _>>=_}
+use Rattle.definition.specs.Limits.{maxComponents, componentSize}
+use Rattle.definition.specs.Model.{Component, Phase, Rule, Coupling, Model}
+use Rattle.definition.specs.Pinned.Decoder.{toComponent, componentFits, Section, componentCountRefusal, componentSection, phaseSection, ruleSection, couplingSection, endOfFile, decode}
+use Rattle.law_bytes.specs.Parts.{recordsIn, partOf, restAfter}
+use Rattle.law_bytes.proofs.Sections.{section-gives}
+use Rattle.law_bytes.proofs.Refusals.{then-ok, then-refused}
+use Rattle.model_records.specs.Values.{componentsIn}
+use Rattle.model_checks.specs.Known.{Counted, Placed}
+use Rattle.model_sections.specs.Answers.{sectionRead, sectionNumber, Learnt}
+use Rattle.model_sections.specs.declared.SectionRead as S
+use Rattle.model_sections.proofs.Bounds.{component-count}
+use Rattle.model_sections.specs.declared.SectionRead.the-variants as SV
+
+unfoldable pub fromEnd : List Component → List Phase → List Rule → List Coupling → Bytes → Result Model
+fromEnd cs ps rs ks s = endOfFile s >>= λ _. ok (record { components = cs; phases = ps; rules = rs; couplings = ks })
+
+unfoldable pub fromCouplings : List Component → List Phase → List Rule → Bytes → Result Model
+fromCouplings cs ps rs s = couplingSection cs s >>= λ d. fromEnd cs ps rs (d .records) (d .rest)
+
+unfoldable pub fromRules : List Component → List Phase → Bytes → Result Model
+fromRules cs ps s = ruleSection cs s >>= λ c. fromCouplings cs ps (c .records) (c .rest)
+
+unfoldable pub fromPhases : List Component → Bytes → Result Model
+fromPhases cs s = phaseSection cs s >>= λ b. fromRules cs (b .records) (b .rest)
+
+pub decode-from : (s : Bytes) → decode s ≡ (componentSection s >>= λ a. fromPhases (a .records) (a .rest))
+unfolding decode fromPhases fromRules fromCouplings fromEnd
+decode-from s = refl
+
+-- So many components an accepted section has.
+pub component-limit : (s : Bytes) {x : Section Component} → componentSection s ≡ ok x → (0 < length (x .records)) × (length (x .records) ≤ maxComponents)
+unfolding componentSection
+component-limit s {x} e =
+    let g = section-gives 5 componentCountRefusal toComponent componentFits 4 s (omega arith) e in
+    let f : length (x .records) ≡ _ = ap (λ y. length (y .records)) (g .is) ∙ g .count in
+    rw f (component-count _ (g .right))
+
+-- What is known of all components, as the sections after them ask for it.
+pub known : (s : Bytes) (n : ℕ) {read : S.SectionRead} (parents counts : List ℕ) → Learnt s read parents counts → read ≡ SV.Are n
+    → {records : Bytes} → records ≡ partOf componentSize n s → Placed (componentsIn records) parents × Counted (componentsIn records) counts
+known s n parents counts h e f = rw f (subst (λ r. Learnt s r parents counts) e h)
+
+-- ---- a section read: what follows its records, and what follows its refusal
+
+module _ {A B : Type 0} (size : ℕ) (to : Bytes → A) (s : Bytes) (f : Section A → Result B) {q : Result (Section A)} {read : S.SectionRead} {n : ℕ}
+    (e : sectionRead size to s read ≡ q) where
+  pub section-on : read ≡ SV.Are n → (q >>= f) ≡ f (record { records = recordsIn size to (partOf size n s); rest = restAfter size n s })
+  section-on h = then-ok f e (ap (sectionRead size to s) h)
+
+  pub section-off : read ≡ SV.Refused n → {m : ℕ} → m ≡ sectionNumber read → refused m ≡ (q >>= f)
+  section-off h g = sym (then-refused f e (ap (sectionRead size to s) h) ∙ ap refused (sym (g ∙ ap sectionNumber h)))

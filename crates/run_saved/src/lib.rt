@@ -1,0 +1,226 @@
+// Saved runs: which bytes fit a model, the state that they hold, and a state's bytes.
+ghost use mathlib.Core.Path.{_≡_};
+ghost use mathlib.Core.Bool.{cond, _&&_, _||_};
+ghost use Prim.Native.Nat.{_+_, _≤_, _<_};
+ghost use lib.Dec.{ltb, eqb};
+ghost use lib.ListN.{length, getD};
+ghost use lib.Seq.{sets};
+ghost use Rattle.definition.specs.Bytes.{numberAt, stored};
+ghost use Rattle.definition.specs.Limits.{maxComponents};
+ghost use Rattle.definition.specs.Model.{noPhase, atomics};
+ghost use Rattle.definition.specs.SavedRun.{runLength, toRun, entryBytes, runBytes, notBefore, runFits};
+ghost use Rattle.model_records.specs.Values.{componentsIn, phasesIn};
+ghost use Rattle.clock_due.specs.After.{dueAfter};
+ghost use Rattle.clock.specs.Times.{timeOf};
+ghost use Rattle.run_state.specs.Held.{held, entriesOf};
+ghost use Rattle.run_saved.specs.Runs.{bare, entryOf, entryAt, entriesFitIn, heldAt, entryRows, runIn, startEntries};
+use clock::Due;
+use clock::Moment;
+use limits::MAX_COMPONENTS;
+use model_records::Component;
+use model_records::component_at;
+use model_records::component_count;
+
+// Open moment (8) and atomic count (2), then for each atomic its phase (1) and last moment (8).
+const HEAD_SIZE: usize = 10;
+
+const ENTRY_SIZE: usize = 9;
+
+// The latest open moment: one past the latest moment to which a run is advanced.
+const LATEST_OPENING: u64 = 1000000000001;
+
+// The bytes of a run of n atomics.
+pub fn run_size(n: usize) -> usize
+    requires { ⌜ n ≤ maxComponents ⌝ }
+    ensures { λ r. ⌜ r ≡ runLength n ⌝ }
+{
+    HEAD_SIZE + ENTRY_SIZE * n
+}
+
+pub struct Entry {
+    pub phase: u8,
+    pub last: Moment,
+}
+
+fn one_if(b: bool) -> usize
+    ensures { λ r. ⌜ r ≡ cond b 1 0 ⌝ }
+{
+    if b { 1 } else { 0 }
+}
+
+pub fn atomic_count(components: &[u8]) -> usize
+    ensures { λ r. ⌜ r ≡ length (atomics (componentsIn (now (components .entry)))) ⌝ }
+{
+    let n = component_count(components);
+    let mut k: usize = 0;
+    let mut c: usize = 0;
+    while c < n {
+        k = k + one_if(model_records::is_atomic(components, c));
+        c = c + 1;
+    }
+    k
+}
+
+// ---- reading
+
+pub fn opening_of(run: &[u8]) -> Moment
+    ensures { λ r. ⌜ r .0 ≡ numberAt 8 0 (now (run .entry)) ⌝ }
+{
+    Moment(little_endian::u64_at(run, 0))
+}
+
+pub fn entry_at(run: &[u8], i: usize) -> Entry
+    requires { ⌜ i ≤ maxComponents ⌝ }
+    ensures { λ r. ⌜ entryOf r ≡ entryAt (now (run .entry)) i ⌝ }
+{
+    let at = HEAD_SIZE + ENTRY_SIZE * i;
+    Entry {
+        phase: little_endian::byte_at(run, at),
+        last: Moment(little_endian::u64_at(run, at + 1)),
+    }
+}
+
+// The state that the bytes of a run of n atomics hold, put into two lent arrays. What a lent array holds is a list, whose length no rule gives
+// away: it is asked, and told on.
+pub fn load(
+    run: &[u8],
+    n: usize,
+    phase: &mut [u8; MAX_COMPONENTS],
+    last: &mut [u64; MAX_COMPONENTS],
+)
+    requires { ⌜ (n ≤ maxComponents) × (length (now phase) ≡ maxComponents) × (length (now last) ≡ maxComponents) ⌝ }
+    ensures { λ _. ⌜ (entriesOf n (held (now (phase .exit)) (now (last .exit))) ≡ toRun n (now (run .entry)) .entries)
+        × (length (now (phase .exit)) ≡ maxComponents) × (length (now (last .exit)) ≡ maxComponents) ⌝ }
+{
+    let mut i: usize = 0;
+    while i < n {
+        let e = entry_at(run, i);
+        run_state::put_at(phase, last, i, e.phase, e.last);
+        i = i + 1;
+    }
+}
+
+// ---- fitting
+
+// The due moment of an atomic whose phase records begin at `first`.
+fn entry_due(phases: &[u8], first: usize, e: Entry) -> Due
+    requires { ⌜ first ≤ 65535 ⌝ }
+    ensures { λ r. ⌜ timeOf r ≡ dueAfter (e .last .0) (getD (phasesIn (now (phases .entry))) (first + e .phase) noPhase .advance) ⌝ }
+{
+    let phase = model_records::phase_at(phases, first + little_endian::size(e.phase));
+    clock_due::due_after(e.last, phase.advance)
+}
+
+// The lines that the entry of an atomic keeps, against the open moment.
+fn entry_fits(own: Component, due: Due, e: Entry, opening: Moment) -> bool
+    ensures { λ r. ⌜ r ≡ (ltb (e .phase) (own .phases) && (ltb (e .last .0) (opening .0) || (eqb (opening .0) 0 && eqb (e .last .0) 0))
+        && notBefore (opening .0) (timeOf due)) ⌝ }
+{
+    let last = e.last;
+    let begun = last.is_before(opening) | ((opening.0 == 0) & (last.0 == 0));
+    (e.phase < own.phases) & begun & clock_due::not_before(opening, due)
+}
+
+fn entries_fit(components: &[u8], phases: &[u8], run: &[u8]) -> bool
+    requires { ⌜ length (componentsIn (now components)) ≤ maxComponents ⌝ }
+    ensures { λ r. ⌜ r ≡ entriesFitIn (now (components .entry)) (now (phases .entry)) (now (run .entry)) ⌝ }
+{
+    let opening = opening_of(run);
+    let n = component_count(components);
+    let mut k: usize = 0;
+    let mut first: usize = 0;
+    let mut c: usize = 0;
+    while c < n {
+        let own = component_at(components, c);
+        let e = entry_at(run, k);
+        let fit = entry_fits(own, entry_due(phases, first, e), e, opening);
+        let atomic = own.kind == 1;
+        if atomic & !fit {
+            return false;
+        }
+        k = k + one_if(atomic);
+        first = first + little_endian::size(own.phases);
+        c = c + 1;
+    }
+    true
+}
+
+// The bytes are those of a run of the model with these components and phases.
+pub fn fits(components: &[u8], phases: &[u8], run: &[u8]) -> bool
+    requires { ⌜ length (componentsIn (now components)) ≤ maxComponents ⌝ }
+    ensures { λ r. ⌜ r ≡ runFits (bare (now (components .entry)) (now (phases .entry))) (now (run .entry)) ⌝ }
+{
+    let n = atomic_count(components);
+    let opening = opening_of(run);
+    let long = HEAD_SIZE + ENTRY_SIZE * n <= run.len();
+    let counted = little_endian::size16(little_endian::u16_at(run, 8)) == n;
+    let in_time = opening.0 <= LATEST_OPENING;
+    long & counted & in_time & entries_fit(components, phases, run)
+}
+
+// ---- writing
+
+fn wide(x: u8) -> u64
+    ensures { λ r. ⌜ r ≡ x ⌝ }
+{
+    x as u64
+}
+
+fn put_entry(run: &mut [u8], phase: &[u8; MAX_COMPONENTS], last: &[u64; MAX_COMPONENTS], i: usize)
+    requires { ⌜ (i < maxComponents) × (runLength (i + 1) ≤ length (now run)) ⌝ }
+    ensures { λ _. ⌜ now (run .exit) ≡ sets (now (run .entry)) (runLength i) (entryBytes (heldAt (held (now (phase .entry)) (now (last .entry))) i)) ⌝ }
+{
+    let at = HEAD_SIZE + ENTRY_SIZE * i;
+    let since = run_state::last_at(last, i);
+    little_endian::put_number(run, at, 1, wide(run_state::phase_at(phase, i)));
+    little_endian::put_number(run, at + 1, 8, since.0);
+}
+
+fn put_entries(run: &mut [u8], n: usize, phase: &[u8; MAX_COMPONENTS], last: &[u64; MAX_COMPONENTS])
+    requires { ⌜ (n ≤ maxComponents) × (runLength n ≤ length (now run)) ⌝ }
+    ensures { λ _. ⌜ now (run .exit) ≡ sets (now (run .entry)) (runLength 0) (entryRows (held (now (phase .entry)) (now (last .entry))) 0 n) ⌝ }
+{
+    let mut i: usize = 0;
+    while i < n {
+        put_entry(run, phase, last, i);
+        i = i + 1;
+    }
+}
+
+// The run of the first n atomics of a state, at the front of a buffer that is long enough; the bytes beyond it stay.
+pub fn store(
+    run: &mut [u8],
+    opening: Moment,
+    n: usize,
+    phase: &[u8; MAX_COMPONENTS],
+    last: &[u64; MAX_COMPONENTS],
+)
+    requires { ⌜ (n ≤ maxComponents) × (runLength n ≤ length (now run)) ⌝ }
+    ensures { λ _. ⌜ now (run .exit) ≡ stored (runBytes (runIn (opening .0) n (held (now (phase .entry)) (now (last .entry))))) (now (run .entry)) ⌝ }
+{
+    little_endian::put_number(run, 0, 8, opening.0);
+    little_endian::put_number(run, 8, 2, n as u64);
+    put_entries(run, n, phase, last);
+}
+
+// ---- the start
+
+// Every atomic in its initial phase since moment 0.
+pub fn start_state(
+    components: &[u8],
+    phase: &mut [u8; MAX_COMPONENTS],
+    last: &mut [u64; MAX_COMPONENTS],
+)
+    requires { ⌜ (length (componentsIn (now components)) ≤ maxComponents) × (length (now phase) ≡ maxComponents) × (length (now last) ≡ maxComponents) ⌝ }
+    ensures { λ _. ⌜ entriesOf (length (atomics (componentsIn (now (components .entry))))) (held (now (phase .exit)) (now (last .exit))) ≡ startEntries (componentsIn (now (components .entry))) ⌝ }
+{
+    let n = component_count(components);
+    let mut k: usize = 0;
+    let mut c: usize = 0;
+    while c < n {
+        let own = component_at(components, c);
+        run_state::put_at(phase, last, k, own.initial, Moment(0));
+        k = k + one_if(own.kind == 1);
+        c = c + 1;
+    }
+}

@@ -1,4 +1,0 @@
-pub mod Entries
-pub mod Fitting
-pub mod Storing
-pub mod Starting

@@ -1,0 +1,163 @@
+-- Laws of pulling, as the two recursions meet them: one coupling more of a chain, and a node that is open, shut, or the root's.
+-- Assumes nothing.
+use mathlib.Core.Path.{_≡_, refl, sym, _∙_}
+use mathlib.Core.List.{List, [], map}
+use mathlib.Core.Bool.{Bool, true, false, _&&_, not, true≢false, and-false}
+use Prim.Native.Nat.{ℕ, zero, suc, _+_, _-_, _*_, _/_, _%_, _≤_, _<_}
+use native.Mathlib.Omega.{arith}
+use lib.Dec.{ltb, eqb}
+use lib.ListN.{getD}
+use borrow.Author.Tests.{ltb-true, ltb-false, lt-ltb, le-ltb, eqb-false, ne-eqb, eq-eqb}
+use Rattle.definition.specs.Limits.{maxComponents, maxCouplings, portCount}
+use Rattle.definition.specs.Model.{Bag, Phase}
+use Rattle.spec_step.specs.Pull.{joined, coupledOut, inputIn}
+use Rattle.spec_step.specs.Put.{valuesOn, puts, putPorts}
+use Rattle.spec_step.specs.Tables.{sourceAt, nextAt, firstAt, liveAt, links, chainRows, portNodes, inputNode, outputNode, nodeComponent, nodePort, isRootNode, isOutput}
+use Rattle.spec_step.specs.Ranges.{maxNodes}
+use Rattle.spec_step.specs.TableStep.{isUp, mayCome, isOpen, openRows, sentBy, pulledBelow, pulledInto, givenBy}
+use Rattle.step_keys.specs.Sent.{sentOn}
+use Rattle.step_keys.proofs.Laws.{puts-append, puts-none}
+use Rattle.step_collect.specs.Turns.{pulledChild, pulledFrom}
+
+-- ---- chains
+
+-- The nodes where the couplings begin that are left of a chain.
+abbrev pub rowsFrom : List ℕ → ℕ → ℕ → List ℕ
+rowsFrom t left link = map (λ j. getD t (sourceAt + j) 0) (links (λ j. getD t (nextAt + j) 0) left link)
+
+pub rows-first : (t : List ℕ) (x : ℕ) → chainRows t x ≡ rowsFrom t maxCouplings (getD t (firstAt + x) 0)
+unfolding chainRows
+rows-first t x = refl
+
+-- Both numbers of the loop's test.
+pub both-left : (a b : ℕ) → (ltb 0 a && ltb 0 b) ≡ true → (0 < a) × (0 < b)
+both-left a b h = go (ltb 0 a) refl (ltb 0 b) refl h
+  where
+    go : (x : Bool) → ltb 0 a ≡ x → (y : Bool) → ltb 0 b ≡ y → (x && y) ≡ true → (0 < a) × (0 < b)
+    go true e true f k = (ltb-true 0 a e, ltb-true 0 b f)
+    go true e false f k = absurd (true≢false (sym k))
+    go false e y f k = absurd (true≢false (sym k))
+
+-- one coupling more
+pub chain-more : (F : ℕ → List ℕ) (t : List ℕ) (port left link : ℕ) (st : List ℕ × ℕ) → (ltb 0 left && ltb 0 link) ≡ true
+    → puts port (joined F (rowsFrom t (left - 1) (getD t (nextAt + link) 0))) (puts port (F (getD t (sourceAt + link) 0)) st)
+    ≡ puts port (joined F (rowsFrom t left link)) st
+unfolding joined links
+chain-more F t port zero link st h = absurd (omega (arith, both-left 0 link h .0))
+chain-more F t port (suc n) link st h =
+    let e : suc n - 1 ≡ n = omega arith in
+    rw (e, ne-eqb link 0 (λ z. omega (arith, both-left (suc n) link h .1)), puts-append)
+
+pub chain-end : (F : ℕ → List ℕ) (t : List ℕ) (port left link : ℕ) (st : List ℕ × ℕ) → (ltb 0 left && ltb 0 link) ≡ false
+    → puts port (joined F (rowsFrom t left link)) st ≡ st
+unfolding joined links
+chain-end F t port zero link st h = puts-none port st
+chain-end F t port (suc n) link st h = go (ltb 0 link) refl h
+  where
+    go : (b : Bool) → ltb 0 link ≡ b → (ltb 0 (suc n) && b) ≡ false
+        → puts port (joined F (rowsFrom t (suc n) link)) st ≡ st
+    go true e k = absurd (true≢false (sym (rw (lt-ltb 0 (suc n) (omega arith))) ∙ k))
+    go false e k = rw (eq-eqb link 0 (omega (arith, ltb-false 0 link e))) (puts-none port st)
+
+-- ---- open and shut
+
+not-root : (x : ℕ) → portNodes ≤ x → isRootNode x ≡ false
+unfolding isRootNode
+not-root x h = le-ltb x portNodes h
+
+module _ (ps : List Phase) (t es fs : List ℕ) where
+  -- which nodes are open does not depend on the phases
+  open-any : (x : ℕ) → isOpen [] t es fs x ≡ isOpen ps t es fs x
+  unfolding isOpen mayCome
+  open-any x = refl
+
+  pub coupled-open : (d x : ℕ) → 0 < d → isOpen [] t es fs x ≡ true
+      → joined (pulledChild ps t es fs (d - 1)) (rowsFrom t maxCouplings (getD t (firstAt + x) 0)) ≡ pulledBelow ps t es fs d x
+  unfolding coupledOut openRows
+  coupled-open zero x h o = absurd (omega arith)
+  coupled-open (suc d) x h o =
+      let e : suc d - 1 ≡ d = omega arith in
+      rw (e, ← rows-first t x, sym (open-any x) ∙ o)
+
+  pub coupled-shut : (d x : ℕ) → isOpen [] t es fs x ≡ false → pulledBelow ps t es fs d x ≡ []
+  unfolding coupledOut openRows joined
+  coupled-shut zero x o = refl
+  coupled-shut (suc d) x o = rw (sym (open-any x) ∙ o)
+
+  node-unreached : (c q : ℕ) → q < portCount → eqb (getD fs c 0) 0 ≡ true → isOpen [] t es fs (inputNode c q) ≡ false
+  unfolding isOpen mayCome isOutput nodeComponent isUp inputNode
+  node-unreached c q k e =
+      let m : (portNodes * c + q) % portNodes ≡ q = omega arith in
+      let n : (portNodes * c + q) / portNodes ≡ c = omega arith in
+      rw (m, n, lt-ltb q portCount k, e) (and-false (not (eqb (getD t (liveAt + (portNodes * c + q)) 0) 0)))
+
+  module _ (b : Bag) where
+    pub input-root : (d x : ℕ) → isRootNode x ≡ true → pulledInto ps t es fs b d x ≡ valuesOn (nodePort x) b
+    unfolding inputIn givenBy
+    input-root zero x r = rw r
+    input-root (suc d) x r = rw r
+
+    pub input-open : (d x : ℕ) → isRootNode x ≡ false → 0 < d → isOpen [] t es fs x ≡ true
+        → joined (pulledFrom ps t es fs b (d - 1)) (rowsFrom t maxCouplings (getD t (firstAt + x) 0)) ≡ pulledInto ps t es fs b d x
+    unfolding inputIn openRows
+    input-open zero x r h o = absurd (omega arith)
+    input-open (suc d) x r h o =
+        let e : suc d - 1 ≡ d = omega arith in
+        rw (r, e, ← rows-first t x, sym (open-any x) ∙ o)
+
+    pub input-shut : (d x : ℕ) → isRootNode x ≡ false → isOpen [] t es fs x ≡ false → pulledInto ps t es fs b d x ≡ []
+    unfolding inputIn openRows joined
+    input-shut zero x r o = rw r
+    input-shut (suc d) x r o = rw (r, sym (open-any x) ∙ o)
+
+    port-unreached : (d c q : ℕ) → 0 < c → q < portCount → eqb (getD fs c 0) 0 ≡ true → pulledInto ps t es fs b d (inputNode c q) ≡ []
+    port-unreached d c q h k e = input-shut d (inputNode c q) (not-root (inputNode c q) away) (node-unreached c q k e)
+      where
+        away : portNodes ≤ inputNode c q
+        away = unfold inputNode in omega arith
+
+    -- the ports of a component other than the root that nothing may reach
+    pub unreached : (d c n q : ℕ) (st : List ℕ × ℕ) → (not (eqb c 0) && eqb (getD fs c 0) 0) ≡ true → q + n ≤ portCount
+        → putPorts (λ p. pulledInto ps t es fs b d (inputNode c p)) n q st ≡ st
+    unfolding putPorts
+    unreached d c zero q st h k = refl
+    unreached d c (suc n) q st h k = rw (port-unreached d c q (here .0) (omega arith) (here .1), puts-none q st) (unreached d c n (q + 1) st h (omega arith))
+      where
+        here : (0 < c) × (eqb (getD fs c 0) 0 ≡ true)
+        here = both (eqb c 0) refl (eqb (getD fs c 0) 0) refl h
+          where
+            both : (u : Bool) → eqb c 0 ≡ u → (v : Bool) → eqb (getD fs c 0) 0 ≡ v → (not u && v) ≡ true → (0 < c) × (eqb (getD fs c 0) 0 ≡ true)
+            both false e true f z = (omega (arith, eqb-false c 0 e), f)
+            both false e false f z = absurd (true≢false (sym z))
+            both true e v f z = absurd (true≢false (sym z))
+
+    pub input-none : (x : ℕ) → isRootNode x ≡ false → pulledInto ps t es fs b 0 x ≡ []
+    unfolding inputIn
+    input-none x r = rw r
+
+-- ---- ports
+
+-- The nodes of a component that is numbered in range.
+pub input-below : (c q : ℕ) → c < maxComponents → q < portCount → inputNode c q < maxNodes
+unfolding inputNode
+input-below c q h k = omega arith
+
+pub root-below : (q : ℕ) → q < portCount → outputNode 0 q < maxNodes
+unfolding outputNode
+root-below q k = omega arith
+
+-- one port more
+pub ports-more : (values : ℕ → List ℕ) (n q : ℕ) (st : List ℕ × ℕ) → q < n
+    → putPorts values (n - (q + 1)) (q + 1) (puts q (values q) st) ≡ putPorts values (n - q) q st
+unfolding putPorts
+ports-more values n q st h = let e : n - q ≡ suc (n - (q + 1)) = omega arith in rw e
+
+pub ports-none : (values : ℕ → List ℕ) (n q : ℕ) (st : List ℕ × ℕ) → n ≤ q → putPorts values (n - q) q st ≡ st
+unfolding putPorts
+ports-none values n q st h = let e : n - q ≡ 0 = omega arith in rw e
+
+-- ---- what an atomic sends
+
+pub sent-by : (ps : List Phase) (t es : List ℕ) (y : ℕ) → sentOn ps (getD es (nodeComponent y) 0) (nodePort y) ≡ sentBy ps t es y
+unfolding sentOn sentBy
+sent-by ps t es y = refl

@@ -1,0 +1,61 @@
+-- A component that nothing may reach has an empty bag. Else the ports so far and those that are left are all four; one port more is one call more.
+use borrow.Author.Needs.{needs}
+use native.Mathlib.Omega.{arith}
+use Rattle.step_collect.proofs.Laws.{input-below, ports-more, ports-none, unreached}
+use Rattle.definition.specs.Engine.{toBag}
+use Rattle.model_records.specs.Values.{phasesIn}
+use Rattle.spec_step.specs.Put.{putPorts}
+use Rattle.law_routes.specs.Nodes.{inputNode}
+use Rattle.spec_step.specs.TableStep.{pulledInto}
+use denote.Ref.{now}
+use lib.ListN.{length}
+use mathlib.Core.List.{List}
+use mathlib.Core.Path.{_≡_, _∙_, refl, sym}
+use Prim.Native.Nat.{ℕ, _≤_, _-_}
+use Rattle.step_collect.proofs.collect_bag.Statement.{statement}
+use Rattle.step_collect.proofs.collect_bag.Tie as tie
+
+abbrev Inv-loop : tie.InvT-loop
+Inv-loop phases tables marks reached given c buf₀ next₀ q₀ buf next q = (q ≤ 4) × (length buf ≡ length buf₀) × (putPorts (λ p. pulledInto (phasesIn phases) tables marks reached (toBag given) 8 (inputNode c p)) (4 - q) q (buf, next) ≡ putPorts (λ p. pulledInto (phasesIn phases) tables marks reached (toBag given) 8 (inputNode c p)) 4 0 (buf₀, 0))
+
+abbrev μ-loop : tie.MeasureT-loop
+μ-loop phases tables marks reached given c buf₀ next₀ q₀ buf next q = 4 - q
+
+returns : tie.Need-returns Inv-loop μ-loop
+returns c =
+    let start : tie.Start Inv-loop μ-loop = search in let after-size16 : tie.After-size16 Inv-loop μ-loop = search in
+    let a = start .args in
+    sym (unreached (phasesIn (now (a .phases))) (now (a .tables)) (now (a .marks)) (now (a .reached)) (toBag (now (a .given))) 8 (a .c) 4 0 (now (a .buf), 0) (rw (c .before .mark-at .ensures, after-size16 .size16 .ensures) at (c .if1 .taken)) (omega arith))
+
+loop-holds : tie.Need-loop-holds Inv-loop μ-loop
+loop-holds c =
+    (omega arith, refl, refl)
+
+collect-arriving-requires : tie.Need-collect-arriving-requires Inv-loop μ-loop
+collect-arriving-requires c κs =
+    let start : tie.Start Inv-loop μ-loop = search in
+    let q = start .pre in
+    (rw (c .before .input-node .ensures) (input-below _ _ (q .0) (omega arith)), q .1)
+
+loop-again : tie.Need-loop-again Inv-loop μ-loop
+loop-again c =
+    let start : tie.Start Inv-loop μ-loop = search in let after-collect-arriving : tie.After-collect-arriving Inv-loop μ-loop = search in
+    let after-input-node : tie.After-input-node Inv-loop μ-loop = search in let at-loop : tie.At-loop Inv-loop μ-loop = search in
+    let a = start .args in
+    let l = at-loop .loop in
+    let m = after-collect-arriving .collect-arriving in
+    let f : ℕ → List ℕ = λ p. pulledInto (phasesIn (now (a .phases))) (now (a .tables)) (now (a .marks)) (now (a .reached)) (toBag (now (a .given))) 8 (inputNode (a .c) p) in
+    (omega arith, m .kept .1 .1 .1 .1 .1 .1 .1 .0 ∙ l .inv .1, rw (m .ensures, after-input-node .input-node .ensures) (ports-more f 4 (l .q) (l .buf, l .next) (omega arith) ∙ l .inv .2))
+
+same-length : tie.Need-same-length Inv-loop μ-loop
+same-length c =
+    c .before .loop .inv .1
+
+returns-2 : tie.Need-returns-2 Inv-loop μ-loop
+returns-2 c =
+    sym (ports-none _ 4 (c .before .loop .q) _ (omega arith)) ∙ c .before .loop .inv .2
+
+pub collect-bag-spec : {M : Type 1} → statement M
+collect-bag-spec =
+    tie.close (tie.spec Inv-loop μ-loop (λ c κs. search needs) (λ c κs. search needs) returns loop-holds (λ c κs. search needs)
+    collect-arriving-requires (λ c. search needs) (λ c. search needs) loop-again same-length returns-2)

@@ -1,0 +1,37 @@
+-- A closed node has nothing; any other is the call.
+use borrow.Author.Needs.{needs}
+use Rattle.step_collect.proofs.Laws.{coupled-shut}
+use Rattle.spec_step.specs.Put.{puts}
+use Rattle.model_records.specs.Values.{phasesIn}
+use borrow.Author.Tests.{not-true, not-false}
+use mathlib.Core.Path.{sym, _∙_}
+use denote.Ref.{now}
+use Rattle.step_collect.proofs.collect_leaving.Statement.{statement}
+use Rattle.step_collect.proofs.collect_leaving.Tie as tie
+
+returns : tie.Need-returns
+unfolding puts
+returns c =
+    let start : tie.Start = search in
+    let a = start .args in
+    rw (coupled-shut (phasesIn (now (a .phases))) (now (a .tables)) (now (a .marks)) (now (a .reached)) 8 (a .x) (sym (c .before .is-open .ensures) ∙ not-true _ (c .if1 .taken)))
+
+collect-coupled-requires : tie.Need-collect-coupled-requires
+collect-coupled-requires c κs =
+    let start : tie.Start = search in let after-is-open : tie.After-is-open = search in
+    let given = start .pre in
+    (given .0, given .1, sym (after-is-open .is-open .ensures) ∙ not-false _ (c .before .if1 .left))
+
+same-length : tie.Need-same-length
+same-length c =
+    let after-collect-coupled : tie.After-collect-coupled = search in
+    after-collect-coupled .collect-coupled .kept .1 .1 .1 .1 .1 .1 .1 .0
+
+returns-2 : tie.Need-returns-2
+returns-2 c =
+    let after-collect-coupled : tie.After-collect-coupled = search in
+    after-collect-coupled .collect-coupled .ensures
+
+pub collect-leaving-spec : {M : Type 1} → statement M
+collect-leaving-spec =
+    tie.close (tie.spec (λ c κs. search needs) returns collect-coupled-requires same-length returns-2)

@@ -1,0 +1,21 @@
+-- The mark of the node's component and the node's port are what the definition names.
+use borrow.Author.Needs.{needs}
+use Rattle.spec_step.specs.Tables.{nodeComponent}
+use Rattle.step_collect.proofs.outputs.put_output.Statement.{statement}
+use Rattle.step_collect.proofs.outputs.put_output.Tie as tie
+
+same-length : tie.Need-same-length
+same-length c =
+    let after-put-sent : tie.After-put-sent = search in
+    after-put-sent .put-sent .kept .1 .1 .1 .1 .0
+
+returns : tie.Need-returns
+unfolding nodeComponent
+returns c =
+    let after-put-sent : tie.After-put-sent = search in let after-port-of : tie.After-port-of = search in
+    let after-mark-at : tie.After-mark-at = search in let after-size : tie.After-size = search in
+    rw (after-mark-at .mark-at .ensures, after-size .size .ensures, after-port-of .port-of .ensures) at (after-put-sent .put-sent .ensures)
+
+pub put-output-spec : {M : Type 1} → statement M
+put-output-spec =
+    tie.close (tie.spec (λ c κs. search needs) (λ c κs. search needs) (λ c κs. search needs) (λ c κs. search needs) same-length returns)

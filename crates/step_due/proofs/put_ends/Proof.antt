@@ -1,0 +1,50 @@
+-- Every position passed carries its due moment.
+use borrow.Author.Needs.{needs}
+use native.Mathlib.Omega.{arith}
+use Prim.Native.Nat.{_≤_, _-_}
+use mathlib.Core.Path.{_≡_, _∙_, ap}
+use lib.ListN.{length, getD, set, length-set}
+use denote.Ref.{now}
+use Rattle.definition.specs.Limits.{maxComponents}
+use Rattle.definition.specs.Engine.{dueNumber}
+use Rattle.model_records.specs.Values.{phasesIn}
+use Rattle.run_state.specs.Held.{held}
+use Rattle.spec_step.specs.Carried.{Carried}
+use Rattle.step_due.proofs.Laws.{carried-more, due-named}
+use Rattle.step_due.proofs.put_ends.Statement.{statement}
+use Rattle.step_due.proofs.put_ends.Tie as tie
+
+abbrev Inv-loop : tie.InvT-loop
+Inv-loop phases tables n phase last ends₀ i₀ ends i = (i ≤ n) × (length ends ≡ maxComponents) × Carried (phasesIn phases) tables i (held phase last) ends
+
+abbrev μ-loop : tie.MeasureT-loop
+μ-loop phases tables n phase last ends₀ i₀ ends i = n - i
+
+loop-holds : tie.Need-loop-holds Inv-loop μ-loop
+loop-holds c = (omega arith, c .whole .ensures, λ j l. absurd (omega arith))
+
+put-end-requires : tie.Need-put-end-requires Inv-loop μ-loop
+put-end-requires c κs =
+    let start : tie.Start Inv-loop μ-loop = search in let after-row-in : tie.After-row-in Inv-loop μ-loop = search in
+    let at-loop : tie.At-loop Inv-loop μ-loop = search in
+    (omega arith, rw (after-row-in .row-in .ensures) (start .pre .1 .numbers (at-loop .loop .i) (omega arith)))
+
+loop-again : tie.Need-loop-again Inv-loop μ-loop
+loop-again c =
+    let start : tie.Start Inv-loop μ-loop = search in let after-phase-at : tie.After-phase-at Inv-loop μ-loop = search in
+    let after-size : tie.After-size Inv-loop μ-loop = search in let after-row-in : tie.After-row-in Inv-loop μ-loop = search in
+    let at-loop : tie.At-loop Inv-loop μ-loop = search in
+    let a = start .args in
+    let l = at-loop .loop in
+    let st = held (now (a .phase)) (now (a .last)) in
+    let p : after-phase-at .phase-at .result ≡ getD (now (a .phase)) (l .i) 0 = after-phase-at .phase-at .ensures ∙ ap (λ k. getD (now (a .phase)) k 0) (after-size .size .ensures) in
+    let put = c .put-end .ensures ∙ ap (λ u. set (l .ends) (l .i) (dueNumber u)) (due-named (phasesIn (now (a .phases))) (now (a .tables)) st (l .i) _ _ (after-row-in .row-in .ensures) p) in
+    (omega arith, rw put (simp length-set (l .inv .1)), rw put (carried-more (phasesIn (now (a .phases))) (now (a .tables)) st (l .ends) (l .i) (omega arith) (l .inv .2)))
+
+returns : tie.Need-returns Inv-loop μ-loop
+returns c = λ j l. c .before .loop .inv .2 j (omega arith)
+
+pub put-ends-spec : {M : Type 1} → statement M
+put-ends-spec =
+    tie.close (tie.spec Inv-loop μ-loop (λ c κs. search needs) loop-holds (λ c. search needs) (λ c κs. search needs) (λ c κs. search needs)
+    (λ c κs. search needs) put-end-requires (λ c. search needs) (λ c. search needs) loop-again returns)

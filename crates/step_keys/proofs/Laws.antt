@@ -1,0 +1,108 @@
+-- Laws of putting: one list after another, one message more of a bag, of the slots of a phase record, of the given bytes. Assumes nothing.
+use mathlib.Core.Path.{_≡_, refl, sym, _∙_}
+use mathlib.Core.List.{List, [], _∷_, _++_}
+use mathlib.Core.Bool.{Bool, true, false, cond}
+use Prim.Native.Nat.{ℕ, zero, suc, _+_, _-_, _*_, _/_, _≤_, _<_, min}
+use native.Mathlib.Omega.{arith}
+use native.Mathlib.Nat.{add-zero}
+use native.Mathlib.Numerals.{add-one}
+use lib.Dec.{eqb}
+use lib.ListN.{length, drop, getD, length-take}
+use lib.Seq.{drop-cons, drop-length, getD-take}
+use Rattle.definition.specs.Bytes.{Bytes, numberAt}
+use Rattle.definition.specs.Limits.{messageSize}
+use Rattle.definition.specs.Model.{Message, Bag, noMessage, noPhase, slots, outputs}
+use Rattle.definition.specs.Records.{messageAt}
+use Rattle.definition.specs.Pinned.Decoder.{toPhase}
+use Rattle.definition.specs.Engine.{toBag}
+use Rattle.law_bytes.specs.Parts.{recordsIn, row}
+use Rattle.law_bytes.proofs.Rows.{number-row}
+use Rattle.law_bytes.proofs.Records.{record-in, record-out}
+use Rattle.model_records.specs.Values.{phasesIn}
+use Rattle.spec_step.specs.Put.{put1, puts, valuesOn}
+use Rattle.step_keys.specs.Sent.{wantedValue}
+use Rattle.law_model.proofs.Codec.{bag-length}
+
+pub puts-append : (port : ℕ) (xs ys : List ℕ) (st : List ℕ × ℕ) → puts port (xs ++ ys) st ≡ puts port ys (puts port xs st)
+unfolding puts
+puts-append port [] ys st = refl
+puts-append port (x ∷ xs) ys st = puts-append port xs ys (put1 _ st)
+
+pub puts-none : (port : ℕ) (st : List ℕ × ℕ) → puts port [] st ≡ st
+unfolding puts
+puts-none port st = refl
+
+values-one : (q : ℕ) (x : Message) (xs : Bag) → valuesOn q (x ∷ xs) ≡ wantedValue (eqb q (x .port)) (x .value) ++ valuesOn q xs
+unfolding valuesOn wantedValue
+values-one q x xs = go (eqb q (x .port))
+  where
+    go : (b : Bool) → cond b (x .value ∷ valuesOn q xs) (valuesOn q xs) ≡ cond b (x .value ∷ []) [] ++ valuesOn q xs
+    go true = refl
+    go false = refl
+
+module _ (xs : Bag) (q port i : ℕ) (st : List ℕ × ℕ) where
+  -- one message more
+  bag-more : (x : Message) → i < length xs → getD xs i noMessage ≡ x
+      → puts port (valuesOn q (drop (i + 1) xs)) (puts port (wantedValue (eqb q (x .port)) (x .value)) st) ≡ puts port (valuesOn q (drop i xs)) st
+  bag-more x h e = rw (add-one i, drop-cons xs i noMessage h, e, values-one, puts-append)
+
+  pub bag-none : i ≡ length xs → puts port (valuesOn q (drop i xs)) st ≡ st
+  unfolding valuesOn puts
+  bag-none e = rw (e, drop-length)
+
+-- ---- the slots of a phase record
+
+pub length-outputs : (r : Bytes) → length (outputs (toPhase r)) ≡ min (numberAt 1 5 r) 4
+unfolding outputs slots toPhase
+length-outputs r = length-take (numberAt 1 5 r) (slots (toPhase r))
+
+slot-at : (r : Bytes) (j : ℕ) → j < 4
+    → getD (slots (toPhase r)) j noMessage ≡ record { port = numberAt 1 (6 + messageSize * j) r; value = numberAt 2 (6 + messageSize * j + 1) r }
+unfolding slots toPhase messageAt
+slot-at r zero h = refl
+slot-at r (suc zero) h = refl
+slot-at r (suc (suc zero)) h = refl
+slot-at r (suc (suc (suc zero))) h = refl
+slot-at r (suc (suc (suc (suc j)))) h = absurd (omega arith)
+
+output-at : (r : Bytes) (j : ℕ) → j < length (outputs (toPhase r))
+    → getD (outputs (toPhase r)) j noMessage ≡ record { port = numberAt 1 (6 + messageSize * j) r; value = numberAt 2 (6 + messageSize * j + 1) r }
+output-at r j h =
+    let used : j < numberAt 1 5 r = omega (arith, length-outputs r) in
+    let four : j < 4 = omega (arith, length-outputs r) in
+    of-slots used ∙ slot-at r j four
+  where
+    of-slots : j < numberAt 1 5 r → getD (outputs (toPhase r)) j noMessage ≡ getD (slots (toPhase r)) j noMessage
+    of-slots used = unfold outputs toPhase in getD-take (numberAt 1 5 r) (slots (toPhase r)) j noMessage used
+
+pub slot-more : (r : Bytes) (q port j : ℕ) (st : List ℕ × ℕ) → j < length (outputs (toPhase r))
+    → puts port (valuesOn q (drop (j + 1) (outputs (toPhase r))))
+    (puts port (wantedValue (eqb q (numberAt 1 (6 + messageSize * j) r)) (numberAt 2 (6 + messageSize * j + 1) r)) st)
+    ≡ puts port (valuesOn q (drop j (outputs (toPhase r)))) st
+slot-more r q port j st h = bag-more (outputs (toPhase r)) q port j st _ h (output-at r j h)
+
+-- The bytes of a record are the phase of its number.
+pub sent-in : (s : Bytes) (i : ℕ) {bytes : Bytes} → i < length s / 18 → bytes ≡ row 18 i s → toPhase bytes ≡ getD (phasesIn s) i noPhase
+unfolding phasesIn
+sent-in s i h e = rw e (sym (record-in 18 toPhase s i noPhase h))
+
+pub sent-out : (s : Bytes) (q i port : ℕ) (st : List ℕ × ℕ) → length s / 18 ≤ i → puts port (valuesOn q (outputs (getD (phasesIn s) i noPhase))) st ≡ st
+unfolding phasesIn noPhase outputs valuesOn puts
+sent-out s q i port st h = rw (record-out 18 toPhase s i noPhase h)
+
+-- ---- the given messages
+
+given-at : (s : Bytes) (i : ℕ) → i < length s / messageSize
+    → getD (toBag s) i noMessage ≡ record { port = numberAt 1 (messageSize * i) s; value = numberAt 2 (messageSize * i + 1) s }
+unfolding toBag recordsIn messageAt
+given-at s i h =
+    record-in messageSize (messageAt 0) s i noMessage h
+    ∙ rw (number-row 1 0 messageSize i s (omega arith), number-row 2 1 messageSize i s (omega arith), add-zero)
+
+pub given-more : (s : Bytes) (q port i : ℕ) (st : List ℕ × ℕ) → i < length s / messageSize
+    → puts port (valuesOn q (drop (i + 1) (toBag s))) (puts port (wantedValue (eqb q (numberAt 1 (messageSize * i) s)) (numberAt 2 (messageSize * i + 1) s)) st)
+    ≡ puts port (valuesOn q (drop i (toBag s))) st
+given-more s q port i st h = bag-more (toBag s) q port i st _ (rw (bag-length s) h) (given-at s i h)
+
+pub given-none : (s : Bytes) (q port i : ℕ) (st : List ℕ × ℕ) → i ≡ length s / messageSize → puts port (valuesOn q (drop i (toBag s))) st ≡ st
+given-none s q port i st e = bag-none (toBag s) q port i st (e ∙ sym (bag-length s))

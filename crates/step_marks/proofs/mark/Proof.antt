@@ -1,0 +1,13 @@
+-- The atomics' marks, then those of the components above them.
+use borrow.Author.Needs.{needs}
+use Rattle.step_marks.proofs.mark.Statement.{statement}
+use Rattle.step_marks.proofs.mark.Tie as tie
+
+returns : tie.Need-returns
+returns c =
+    let after-mark-atomics : tie.After-mark-atomics = search in
+    rw (after-mark-atomics .mark-atomics .ensures) at (c .mark-parents .ensures)
+
+pub mark-spec : {M : Type 1} → statement M
+mark-spec =
+    tie.close (tie.spec (λ c κs. search needs) (λ c κs. search needs) returns)

@@ -1,0 +1,36 @@
+-- The parent is marked where the component's mark is up.
+use borrow.Author.Needs.{needs}
+use lib.ListN.{getD}
+use denote.Ref.{now}
+use borrow.Author.Tests.{eq-eqb, ne-eqb}
+use mathlib.Core.Path.{_≡_, _∙_, sym}
+use Rattle.spec_step.specs.TableStep.{isUp}
+use Rattle.step_marks.proofs.mark_parent.Statement.{statement}
+use Rattle.step_marks.proofs.mark_parent.Tie as tie
+
+put-mark-requires : tie.Need-put-mark-requires
+put-mark-requires c κs =
+    let start : tie.Start = search in
+    let q = start .pre in
+    rw (c .row-in .ensures) (q .1 .parents (start .args .c) (q .0))
+
+returns : tie.Need-returns
+unfolding isUp
+returns c =
+    let start : tie.Start = search in let then1 : tie.Then1 = search in let after-mark-at : tie.After-mark-at = search in
+    let after-size16 : tie.After-size16 = search in
+    let a = start .args in
+    let k : after-mark-at .mark-at .result ≡ getD (now (a .marks)) (a .c) 0 = rw (after-size16 .size16 .ensures) at (after-mark-at .mark-at .ensures) in
+    rw (ne-eqb (getD (now (a .marks)) (a .c) 0) 0 (λ q. then1 .if1 .taken (k ∙ q))) (rw (c .before .row-in .ensures) at (c .put-mark .ensures))
+
+returns-2 : tie.Need-returns-2
+unfolding isUp
+returns-2 c =
+    let start : tie.Start = search in let after-size16 : tie.After-size16 = search in
+    let a = start .args in
+    let k : c .before .mark-at .result ≡ getD (now (a .marks)) (a .c) 0 = rw (after-size16 .size16 .ensures) at (c .before .mark-at .ensures) in
+    rw (eq-eqb (getD (now (a .marks)) (a .c) 0) 0 (sym k ∙ c .if1 .left))
+
+pub mark-parent-spec : {M : Type 1} → statement M
+mark-parent-spec =
+    tie.close (tie.spec (λ c κs. search needs) (λ c κs. search needs) (λ c κs. search needs) put-mark-requires returns returns-2)

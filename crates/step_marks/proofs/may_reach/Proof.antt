@@ -1,0 +1,61 @@
+-- Some port of those that are left, since none was found before.
+use borrow.Author.Needs.{needs}
+use Rattle.spec_step.specs.Ranges.{maxNodes}
+use native.Mathlib.Omega.{arith}
+use Prim.Native.Nat.{_≤_, _<_, _-_}
+use mathlib.Core.Path.{_≡_, _∙_, refl, sym}
+use mathlib.Core.List.{[]}
+use denote.Ref.{now}
+use Rattle.spec_step.specs.TableStep.{anyOf, mayCome, mayReach}
+use Rattle.spec_step.specs.Tables.{chainRows}
+use Rattle.law_routes.specs.Nodes.{inputNode}
+use Rattle.step_marks.proofs.Laws.{reach-here, reach-later, reach-none}
+use Rattle.step_marks.proofs.may_reach.Statement.{statement}
+use Rattle.step_marks.proofs.may_reach.Tie as tie
+
+abbrev Inv-loop : tie.InvT-loop
+Inv-loop tables marks reached c q₀ q = (q ≤ 4) × (mayReach [] tables marks reached c (4 - q) q ≡ mayReach [] tables marks reached c 4 0)
+
+abbrev μ-loop : tie.MeasureT-loop
+μ-loop tables marks reached c q₀ q = 4 - q
+
+loop-holds : tie.Need-loop-holds Inv-loop μ-loop
+loop-holds c =
+    (omega arith, refl)
+
+any-source-requires : tie.Need-any-source-requires Inv-loop μ-loop
+any-source-requires c κs =
+    let start : tie.Start Inv-loop μ-loop = search in let at-loop : tie.At-loop Inv-loop μ-loop = search in
+    let l = at-loop .loop in
+    let node : inputNode (start .args .c) (l .q) < maxNodes = unfold inputNode in omega arith in
+    (rw (c .input-node .ensures) node, start .pre .1)
+
+returns : tie.Need-returns Inv-loop μ-loop
+returns c =
+    let start : tie.Start Inv-loop μ-loop = search in let after-input-node : tie.After-input-node Inv-loop μ-loop = search in
+    let at-loop : tie.At-loop Inv-loop μ-loop = search in
+    let a = start .args in
+    let l = at-loop .loop in
+    let e : anyOf (mayCome [] (now (a .tables)) (now (a .marks)) (now (a .reached))) (chainRows (now (a .tables)) (inputNode (a .c) (l .q))) ≡ c .before .any-source .result = sym (rw (after-input-node .input-node .ensures) at (c .before .any-source .ensures)) in
+    reach-here (now (a .tables)) (now (a .marks)) (now (a .reached)) (a .c) 4 (l .q) (omega arith) (e ∙ c .if1 .taken) ∙ l .inv .1
+
+loop-again : tie.Need-loop-again Inv-loop μ-loop
+loop-again c =
+    let start : tie.Start Inv-loop μ-loop = search in let after-input-node : tie.After-input-node Inv-loop μ-loop = search in
+    let at-loop : tie.At-loop Inv-loop μ-loop = search in
+    let a = start .args in
+    let l = at-loop .loop in
+    let e : anyOf (mayCome [] (now (a .tables)) (now (a .marks)) (now (a .reached))) (chainRows (now (a .tables)) (inputNode (a .c) (l .q))) ≡ c .before .any-source .result = sym (rw (after-input-node .input-node .ensures) at (c .before .any-source .ensures)) in
+    (omega arith, reach-later (now (a .tables)) (now (a .marks)) (now (a .reached)) (a .c) 4 (l .q) (omega arith) (e ∙ c .if1 .left) ∙ l .inv .1)
+
+returns-2 : tie.Need-returns-2 Inv-loop μ-loop
+returns-2 c =
+    let start : tie.Start Inv-loop μ-loop = search in
+    let a = start .args in
+    let l = c .before .loop in
+    reach-none (now (a .tables)) (now (a .marks)) (now (a .reached)) (a .c) 4 (l .q) (omega arith) ∙ l .inv .1
+
+pub may-reach-spec : {M : Type 1} → statement M
+may-reach-spec =
+    tie.close (tie.spec Inv-loop μ-loop loop-holds (λ c κs. search needs) any-source-requires returns (λ c. search needs) (λ c. search needs)
+    loop-again returns-2)

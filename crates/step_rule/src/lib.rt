@@ -1,0 +1,188 @@
+// The deciding rule: "the first rule in file order whose conditions all hold decides". It is answered by its position, not by the
+// phase it leads to. A bag is a slice of message keys, port times 65,536 and value.
+ghost use mathlib.Core.Path.{_≡_};
+ghost use mathlib.Core.List.{map};
+ghost use Prim.Native.Nat.{_+_, _*_, _/_, _≤_, _<_, min};
+ghost use lib.ListN.{length, getD};
+ghost use Rattle.definition.specs.Limits.{ruleSize};
+ghost use Rattle.definition.specs.Lists.{count};
+ghost use Rattle.definition.specs.Model.{noRule};
+ghost use Rattle.definition.specs.Atomic.{withinElapsed, meets, holds};
+ghost use Rattle.model_records.specs.Values.{ruleOf, rulesIn};
+ghost use Rattle.law_base.specs.Keys.{messageOf};
+ghost use Rattle.spec_step.specs.TableStep.{decidingIn};
+ghost use Rattle.step_rule.specs.Search.{foundOf, headOf, between};
+use clock::Stay;
+use limits::NEVER_FIELD;
+use limits::RULE_SIZE;
+use model_records::Rule;
+
+// The position of the deciding rule, or none.
+pub enum Found {
+    At(u16),
+    Nothing,
+}
+
+fn wide(x: u32) -> u64
+    ensures { λ r. ⌜ r ≡ x ⌝ }
+{
+    x as u64
+}
+
+// How many keys of the bag lie between two.
+fn count_between(bag: &[u32], low: u32, high: u32) -> usize
+    ensures { λ r. ⌜ r ≡ count (between low high) (now (bag .entry)) ⌝ }
+{
+    let mut n: usize = 0;
+    for i in 0..bag.len() {
+        let key = bag[i];
+        if (low <= key) & (key <= high) {
+            n += 1;
+        }
+    }
+    n
+}
+
+// How many messages of the bag meet the rule: those on its port with a value in its range lie between two keys.
+fn count_meeting(rule: Rule, bag: &[u32]) -> usize
+    ensures { λ r. ⌜ r ≡ count (meets (ruleOf rule)) (map messageOf (now (bag .entry))) ⌝ }
+{
+    let port = rule.port as u32 * 65536;
+    count_between(bag, port + rule.low as u32, port + rule.high as u32)
+}
+
+fn within_elapsed(rule: Rule, elapsed: Stay) -> bool
+    ensures { λ r. ⌜ r ≡ withinElapsed (ruleOf rule) (elapsed .0) ⌝ }
+{
+    let low = wide(rule.low_elapsed);
+    let high = wide(rule.high_elapsed);
+    (low <= elapsed.0) & ((elapsed.0 <= high) | (rule.high_elapsed == NEVER_FIELD))
+}
+
+// The bag is looked at only where the other conditions hold.
+fn rule_holds(rule: Rule, component: u16, phase: u8, elapsed: Stay, bag: &[u32]) -> bool
+    ensures { λ r. ⌜ r ≡ holds component phase (elapsed .0) (map messageOf (now (bag .entry))) (ruleOf rule) ⌝ }
+{
+    let own = rule.component as u16;
+    if (own == component) & (rule.phase == phase) & within_elapsed(rule, elapsed) {
+        let least = rule.least as usize;
+        least <= count_meeting(rule, bag)
+    } else {
+        false
+    }
+}
+
+// ---- the search: a rule of another component or phase is passed over by its first two bytes, which are one read
+
+// No two bytes make this number.
+const NO_HEAD: u32 = 65536;
+
+fn wide8(x: u8) -> u32
+    ensures { λ r. ⌜ r ≡ x ⌝ }
+{
+    x as u32
+}
+
+// Component and phase of the rule whose record stands at `at`, as one number.
+fn head_at(rules: &[u8], at: usize) -> u32
+    requires { ⌜ at + 1 < length (now rules) ⌝ }
+    ensures { λ r. ⌜ r ≡ getD (now (rules .entry)) at 0 + 256 * getD (now (rules .entry)) (at + 1) 0 ⌝ }
+{
+    wide8(rules[at]) + 256 * wide8(rules[at + 1])
+}
+
+// The same of a component and a phase; a component whose number is no byte has no rule.
+fn head_of(component: u16, phase: u8) -> u32
+    ensures { λ r. ⌜ r ≡ headOf component phase ⌝ }
+{
+    if component < 256 {
+        component as u32 + 256 * wide8(phase)
+    } else {
+        NO_HEAD
+    }
+}
+
+// The rule at position i, whose record stands at `at`, decides.
+fn decides(
+    rules: &[u8],
+    i: u16,
+    at: usize,
+    head: u32,
+    component: u16,
+    phase: u8,
+    elapsed: Stay,
+    bag: &[u32],
+) -> bool
+    requires { ⌜ (i < length (now rules) / ruleSize) × (at ≡ ruleSize * i) × (head ≡ headOf component phase) ⌝ }
+    ensures { λ r. ⌜ r ≡ holds component phase (elapsed .0) (map messageOf (now (bag .entry))) (getD (rulesIn (now (rules .entry))) i noRule) ⌝ }
+{
+    if head_at(rules, at) != head {
+        return false;
+    }
+    let rule = model_records::rule_at(rules, i as usize);
+    rule_holds(rule, component, phase, elapsed, bag)
+}
+
+// Where the search stops: at `end`, or after the last record where that comes first.
+fn stop_before(rules: &[u8], end: u16) -> u16
+    ensures { λ r. ⌜ r ≡ min (length (now (rules .entry)) / ruleSize) end ⌝ }
+{
+    let count = rules.len() / RULE_SIZE;
+    if count < end as usize {
+        count as u16
+    } else {
+        end
+    }
+}
+
+// The deciding rule from i on, where no record is left: all rules there are alike, so it is the first of them, or none.
+fn decided_past(
+    rules: &[u8],
+    i: u16,
+    end: u16,
+    component: u16,
+    phase: u8,
+    elapsed: Stay,
+    bag: &[u32],
+) -> Found
+    requires { ⌜ min (length (now rules) / ruleSize) end ≤ i ⌝ }
+    ensures { λ r. ⌜ foundOf r ≡ decidingIn (rulesIn (now (rules .entry))) i end component phase (elapsed .0) (map messageOf (now (bag .entry))) ⌝ }
+{
+    if end <= i {
+        return Found::Nothing;
+    }
+    let rule = model_records::rule_at(rules, i as usize);
+    if rule_holds(rule, component, phase, elapsed, bag) {
+        return Found::At(i);
+    }
+    Found::Nothing
+}
+
+// The position of the deciding rule among those from `first` up to `end`.
+pub fn deciding(
+    rules: &[u8],
+    first: u16,
+    end: u16,
+    component: u16,
+    phase: u8,
+    elapsed: Stay,
+    bag: &[u32],
+) -> Found
+    ensures { λ r. ⌜ foundOf r ≡ decidingIn (rulesIn (now (rules .entry))) first end component phase (elapsed .0) (map messageOf (now (bag .entry))) ⌝ }
+{
+    let stop = stop_before(rules, end);
+    let head = head_of(component, phase);
+    let mut i = first;
+    let mut at = RULE_SIZE * (first as usize);
+    let found = loop {
+        if stop <= i {
+            break decided_past(rules, i, end, component, phase, elapsed, bag);
+        }
+        if decides(rules, i, at, head, component, phase, elapsed, bag) {
+            break Found::At(i);
+        }
+        i = i + 1;
+        at = at + RULE_SIZE;
+    };
+    found
+}

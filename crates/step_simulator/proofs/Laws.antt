@@ -1,0 +1,107 @@
+-- What the buffers hold after a bag was pulled and after it was sorted; one atomic more. Assumes nothing.
+use mathlib.Core.Path.{_≡_, sym, ap, _∙_, subst}
+use mathlib.Core.List.{List, [], _∷_, _++_, map}
+use Prim.Native.Nat.{ℕ, suc, _+_, _-_, _≤_, _<_, min}
+use native.Mathlib.Omega.{arith}
+use lib.Dec.{leb, eqb}
+use lib.ListN.{length, take, drop, getD, set, replicate, length-map, length-take}
+use lib.Seq.{take-at, length-take-le}
+use mathlib.Core.Bool.{Bool, true, cond, _&&_, not}
+use Rattle.definition.specs.Lists.{isEmpty, sortBy}
+use Rattle.definition.specs.Limits.{maxComponents, maxAncestors, portCount}
+use Rattle.definition.specs.Model.{Bag, Phase, Rule, messageLe}
+use Rattle.definition.specs.Engine.{dueNumber}
+use Rattle.clock.specs.Times.{latest}
+use Rattle.run_state.specs.declared.State.{State}
+use Rattle.sort.proofs.Keys.{sort-messages}
+use Rattle.sort.proofs.Merging.{length-sort}
+use Rattle.law_routes.specs.Nodes.{inputNode, outputNode}
+use Rattle.law_base.specs.Keys.{messageOf}
+use Rattle.spec_step.specs.Put.{putPorts, keysOf}
+use Rattle.definition.specs.Step.{Stepped}
+use Rattle.spec_step.specs.Tables.{numbersAt, countAt}
+use Rattle.spec_step.specs.TableStep.{isUp, dueAtPosition, raised, marks, reachedFrom, reached, pulledInto, pulledBelow, keysInto, rootKeys, rootRoom, changedBy, changedFrom, tableStep}
+use Rattle.step_collect.proofs.Laws.{unreached}
+use Rattle.step_marks.proofs.Laws.{raised-any, flags-any}
+use Rattle.spec_step.specs.Carried.{Carried, endMarked}
+use Rattle.law_step.proofs.Carried.{marked-carried, carried-put, changed-elsewhere}
+use Rattle.law_step.proofs.Putting.{bag-front}
+use Rattle.law_stores.proofs.Fronts.{Front}
+
+module _ (ps : List Phase) (t es fs : List ℕ) where
+  -- an atomic's bag in a buffer
+  pub into-held : (x : Bag) (c : ℕ) (b d : List ℕ) (k : ℕ) → (d, k) ≡ putPorts (λ q. pulledInto ps t es fs x maxAncestors (inputNode c q)) portCount 0 (b, 0)
+      → Front (length b) (d, k) (keysInto ps t es fs x c)
+  unfolding keysInto
+  into-held x c b d k e =
+      let f : ℕ → List ℕ = λ q. pulledInto ps t es fs x maxAncestors (inputNode c q) in
+      subst (λ (st : List ℕ × ℕ). Front (length b) st (keysOf f portCount 0)) (sym e) (bag-front f portCount 0 b)
+
+  -- a component that nothing may reach has no bag
+  pub keys-unreached : (x : Bag) (c : ℕ) → (not (eqb c 0) && eqb (getD fs c 0) 0) ≡ true → length (keysInto ps t es fs x c) ≡ 0
+  keys-unreached x c h =
+      let b : List ℕ = 0 ∷ [] in
+      let f = into-held x c b b 0 (sym (unreached ps t es fs x maxAncestors c portCount 0 (b, 0) h (omega arith))) in
+      omega (arith, f .position)
+
+  -- the root's output bag in a buffer
+  pub root-held : (b d : List ℕ) (k : ℕ) → (d, k) ≡ putPorts (λ q. pulledBelow ps t es fs maxAncestors (outputNode 0 q)) portCount 0 (b, 0)
+      → Front (length b) (d, k) (rootKeys ps t es fs)
+  unfolding rootKeys
+  root-held b d k e =
+      let f : ℕ → List ℕ = λ q. pulledBelow ps t es fs maxAncestors (outputNode 0 q) in
+      subst (λ (st : List ℕ × ℕ). Front (length b) st (keysOf f portCount 0)) (sym e) (bag-front f portCount 0 b)
+
+-- The front of a buffer, sorted.
+pub sorted-front : (n : ℕ) (b d : List ℕ) → n ≤ length b → d ≡ sortBy leb (take n b) ++ drop n b
+    → map messageOf (take n d) ≡ sortBy messageLe (map messageOf (take n b))
+sorted-front n b d h e =
+    ap (λ l. map messageOf (take n l)) e
+    ∙ ap (map messageOf) (take-at (sortBy leb (take n b)) (drop n b) n (length-sort (take n b) ∙ length-take-le n b h))
+    ∙ sort-messages (take n b)
+
+-- one atomic more
+module _ (ps : List Phase) (t : List ℕ) (rs : List Rule) (es fs : List ℕ) (room now : ℕ) (x : Bag) (n i : ℕ) (st : State) where
+  pub changed-more : i < n
+      → changedFrom ps t rs es fs room now x (n - (i + 1)) (i + 1)
+      (changedBy ps t rs now st i (getD t (numbersAt + i) 0) (isUp es (getD t (numbersAt + i) 0)) (map messageOf (take room (keysInto ps t es fs x (getD t (numbersAt + i) 0)))))
+      ≡ changedFrom ps t rs es fs room now x (n - i) i st
+  unfolding changedFrom
+  changed-more h = let e : n - i ≡ suc (n - (i + 1)) = omega arith in rw e
+
+  pub changed-none : n ≤ i → st ≡ changedFrom ps t rs es fs room now x (n - i) i st
+  unfolding changedFrom
+  changed-none h = let e : n - i ≡ 0 = omega arith in rw e
+
+-- one atomic changed: its due moment is carried anew, and those of the others stay
+pub carried-changed : (ps : List Phase) (t : List ℕ) (rs : List Rule) (now n : ℕ) (st st' : State) (ends : List ℕ) (i c : ℕ) (due : Bool) (x : Bag) → i < length ends
+    → st' ≡ changedBy ps t rs now st i c due x → Carried ps t n st ends → Carried ps t n st' (set ends i (dueNumber (dueAtPosition ps t st' i)))
+carried-changed ps t rs now n st st' ends i c due x l e h =
+    carried-put ps t n st st' ends i l (λ j d. ap (λ s. dueAtPosition ps t s j) e ∙ changed-elsewhere ps t rs now st i c due x j d) h
+
+-- ---- the whole step, where the marks and flags are those that the code filled in over zeros, by due moments that are carried
+
+module _ (ps : List Phase) (t : List ℕ) (rs : List Rule) (n room now : ℕ) (x : Bag) (st : State) (ends es fs : List ℕ) (h : Carried ps t n st ends) (l : now < latest)
+    (e : es ≡ raised [] t (getD t countAt 0 - 1) (endMarked t now (st .phase) ends n 0 (replicate maxComponents 0)))
+    (f : fs ≡ reachedFrom [] t es (getD t countAt 0 - 1) 1 (set (replicate maxComponents 0) 0 (cond (isEmpty x) 0 1))) where
+  marks-are : marks ps t n now st ≡ es
+  unfolding marks
+  marks-are =
+      sym
+      (e ∙ raised-any ps t (getD t countAt 0 - 1) (endMarked t now (st .phase) ends n 0 (replicate maxComponents 0))
+      ∙ ap (raised ps t (getD t countAt 0 - 1)) (marked-carried ps t n st ends h now n 0 (replicate maxComponents 0) l (omega arith)))
+
+  flags-are : reached ps t es x ≡ fs
+  unfolding reached
+  flags-are = sym (f ∙ flags-any ps t es (getD t countAt 0 - 1) 1 (set (replicate maxComponents 0) 0 (cond (isEmpty x) 0 1)))
+
+  build : List ℕ → List ℕ → Stepped State
+  build es fs = record { out = map messageOf (take (rootRoom room) (rootKeys ps t es fs)); state = changedFrom ps t rs es fs room now x n 0 st }
+
+  pub step-is : tableStep ps t rs n room now x st ≡ record { out = map messageOf (take (rootRoom room) (rootKeys ps t es fs)); state = changedFrom ps t rs es fs room now x n 0 st }
+  unfolding tableStep build
+  step-is = ap (λ l. build l (reached ps t l x)) marks-are ∙ ap (build es) flags-are
+
+-- what has room of a bag
+pub count-bag : (room : ℕ) (ks : List ℕ) → min room (length ks) ≡ length (map messageOf (take room ks))
+count-bag room ks = sym (length-map (take room ks) messageOf ∙ length-take room ks)

@@ -1,0 +1,54 @@
+-- The marks and flags over zeros are the definition's, and then the step is the definition's with them.
+use borrow.Author.Needs.{needs}
+use native.Mathlib.Omega.{arith}
+use Rattle.step_simulator.proofs.Laws.{step-is, count-bag}
+use Rattle.definition.specs.Lists.{sortBy}
+use Rattle.definition.specs.Model.{messageLe}
+use Rattle.definition.specs.Engine.{toBag}
+use Rattle.run_state.specs.Held.{held}
+use Rattle.model_records.specs.Values.{phasesIn, rulesIn}
+use Rattle.law_base.specs.Keys.{messageOf}
+use Rattle.spec_step.specs.TableStep.{rootKeys, rootRoom}
+use denote.Ref.{now}
+use lib.ListN.{length, take}
+use mathlib.Core.List.{map}
+use mathlib.Core.Path.{_∙_, ap}
+use Prim.Native.Nat.{min}
+use Rattle.step_simulator.proofs.step_once.Statement.{statement}
+use Rattle.step_simulator.proofs.step_once.Tie as tie
+
+front-requires : tie.Need-front-requires
+front-requires c κs = search needs
+
+mark-requires : tie.Need-mark-requires
+mark-requires c κs = search needs
+
+reach-requires : tie.Need-reach-requires
+reach-requires c κs = search needs
+
+step-marked-requires : tie.Need-step-marked-requires
+step-marked-requires c κs =
+    let q = c .before .before .before .before .before .before .before .before .before .before .before .before .before .before .before .before .before .before .before .before .pre in
+    (q .0, q .2, omega (arith, q .3), q .4)
+
+same-length : tie.Need-same-length
+same-length c = search needs
+
+same-length-2 : tie.Need-same-length-2
+same-length-2 c = search needs
+
+returns : tie.Need-returns
+returns c =
+    let a = c .before .before .before .before .before .before .before .before .before .before .before .before .before .before .before .before .before .before .before .before .before .before .before .before .before .args in
+    let q = c .before .before .before .before .before .before .before .before .before .before .before .before .before .before .before .before .before .before .before .before .before .before .before .before .before .pre in
+    let ps = phasesIn (now (a .phases)) in
+    let t = now (a .tables) in
+    let es = c .before .before .before .before .before .before .before .before .before .before .before .before .before .before .before .mark .last .1 .1 .1 .1 .1 .0 in
+    let fs = c .before .before .before .before .before .before .before .before .before .before .before .before .reach .last .1 .1 .1 .0 in
+    let s = c .before .before .before .before .step-marked .ensures in
+    rw (← c .before .before .before .before .before .before .before .before .before .before .before .before .before .before .before .before .before .before .before .front .ensures, step-is ps t (rulesIn (now (a .rules))) (a .n) (length (now (a .work))) (a .at .0) (toBag (now (c .before .before .before .before .before .before .before .before .before .before .before .before .before .before .before .before .before .before .before .front .result))) (held (now (a .phase)) (now (a .last))) (now (a .ends)) es fs (q .4) (q .1) (c .before .before .before .before .before .before .before .before .before .before .before .before .before .before .before .mark .ensures) (c .before .before .before .before .before .before .before .before .before .before .before .before .reach .ensures))
+    (s .0, s .1, s .2 ∙ ap (λ n. min n (length (rootKeys ps t es fs))) (q .3) ∙ count-bag (rootRoom (length (now (a .work)))) (rootKeys ps t es fs), s .3 ∙ ap (λ n. sortBy messageLe (map messageOf (take n (rootKeys ps t es fs)))) (q .3))
+
+pub step-once-spec : {M : Type 1} → statement M
+step-once-spec =
+    tie.close (tie.spec front-requires mark-requires reach-requires step-marked-requires same-length same-length-2 returns)

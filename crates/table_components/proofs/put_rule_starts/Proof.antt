@@ -1,0 +1,54 @@
+-- The invariant is that the rules before this one, over the table as it stands, give the whole (starts-more). Assumes nothing.
+use borrow.Author.Needs.{needs}
+use native.Mathlib.Omega.{arith}
+use Rattle.table_components.proofs.Loops.{starts-more, starts-end}
+use Rattle.table_components.specs.Columns.{ruleNames, ruleStarts}
+use Rattle.table_words.specs.Writes.{putIn}
+use Rattle.spec_step.specs.Tables.{rulesFromAt}
+use Rattle.model_records.specs.Values.{rulesIn}
+use Rattle.definition.specs.Limits.{maxComponents}
+use lib.ListN.{length}
+use denote.Ref.{now}
+use mathlib.Core.Path.{_≡_, refl, sym, ap, _∙_}
+use Prim.Native.Nat.{_≤_, _-_}
+use Rattle.table_components.proofs.put_rule_starts.Statement.{statement}
+use Rattle.table_components.proofs.put_rule_starts.Tie as tie
+
+abbrev Inv-loop : tie.InvT-loop
+Inv-loop rules t₀ i₀ t i = (i ≤ length (rulesIn rules)) × (length t ≡ length t₀) × (ruleStarts (rulesIn rules) i t ≡ ruleStarts (rulesIn rules) (length (rulesIn rules)) t₀)
+
+abbrev μ-loop : tie.MeasureT-loop
+μ-loop rules t₀ i₀ t i = i
+
+loop-holds : tie.Need-loop-holds Inv-loop μ-loop
+loop-holds c =
+    (omega arith, refl, rw (c .rule-word .ensures))
+
+loop-again : tie.Need-loop-again Inv-loop μ-loop
+loop-again c =
+    let start : tie.Start Inv-loop μ-loop = search in let after-put-in : tie.After-put-in Inv-loop μ-loop = search in
+    let after-size : tie.After-size Inv-loop μ-loop = search in let after-rule-name : tie.After-rule-name Inv-loop μ-loop = search in
+    let at-loop : tie.At-loop Inv-loop μ-loop = search in
+    let a = start .args in
+    let l = at-loop .loop in
+    let rs = rulesIn (now (a .rules)) in
+    let k : after-size .size .result ≡ ruleNames rs (l .i - 1) = after-size .size .ensures ∙ after-rule-name .rule-name .ensures in
+    let e : after-put-in .put-in .last .0 ≡ putIn rulesFromAt maxComponents (ruleNames rs (l .i - 1)) (l .i - 1) (l .t) = rw k at (after-put-in .put-in .ensures) in
+    (omega arith, after-put-in .put-in .kept .0 ∙ l .inv .1, ap (ruleStarts rs (l .i - 1)) e ∙ starts-more rs (l .i) (l .t) (omega arith) ∙ l .inv .2)
+
+same-length : tie.Need-same-length Inv-loop μ-loop
+same-length c =
+    c .before .loop .inv .1
+
+returns : tie.Need-returns Inv-loop μ-loop
+returns c =
+    let start : tie.Start Inv-loop μ-loop = search in
+    let a = start .args in
+    let l = c .before .loop in
+    let rs = rulesIn (now (a .rules)) in
+    sym (starts-end rs (l .i) (l .t) (omega arith)) ∙ l .inv .2
+
+pub put-rule-starts-spec : {M : Type 1} → statement M
+put-rule-starts-spec =
+    tie.close (tie.spec Inv-loop μ-loop (λ c κs. search needs) loop-holds (λ c. search needs) (λ c κs. search needs) (λ c κs. search needs)
+    (λ c κs. search needs) (λ c. search needs) loop-again same-length returns)

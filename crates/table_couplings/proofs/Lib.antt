@@ -1,0 +1,4 @@
+pub mod Begun
+pub mod Loops
+pub mod Nodes
+pub mod Order

@@ -1,0 +1,33 @@
+-- A coupling from a parent begins at an input, any other at an output: the definition's test. Assumes nothing.
+use borrow.Author.Needs.{needs}
+use Rattle.spec_step.specs.Tables.{sourceNumber}
+use Rattle.model_records.specs.Values.{componentsIn}
+use Rattle.definition.specs.Model.{isChild}
+use denote.Ref.{now}
+use mathlib.Core.Bool.{true, false}
+use mathlib.Core.Path.{_≡_, sym, _∙_}
+use Rattle.table_couplings.proofs.source_node.Statement.{statement}
+use Rattle.table_couplings.proofs.source_node.Tie as tie
+
+returns : tie.Need-returns
+unfolding sourceNumber
+returns c =
+    let start : tie.Start = search in let after-is-child : tie.After-is-child = search in let after-size2 : tie.After-size2 = search in
+    let after-size : tie.After-size = search in
+    let k = start .args .k in
+    let e : isChild (componentsIn (now (start .args .components))) (k .source) (k .target) ≡ true = rw (after-size .size .ensures, after-size2 .size2 .ensures) at (sym (after-is-child .is-child .ensures) ∙ c .before .if1 .taken) in
+    rw e (c .input-node .ensures)
+
+returns-2 : tie.Need-returns-2
+unfolding sourceNumber
+returns-2 c =
+    let start : tie.Start = search in let after-is-child : tie.After-is-child = search in let after-size2 : tie.After-size2 = search in
+    let after-size : tie.After-size = search in
+    let k = start .args .k in
+    let e : isChild (componentsIn (now (start .args .components))) (k .source) (k .target) ≡ false = rw (after-size .size .ensures, after-size2 .size2 .ensures) at (sym (after-is-child .is-child .ensures) ∙ c .before .if1 .left) in
+    rw e (c .output-node .ensures)
+
+pub source-node-spec : {M : Type 1} → statement M
+source-node-spec =
+    tie.close (tie.spec (λ c κs. search needs) (λ c κs. search needs) (λ c κs. search needs) (λ c κs. search needs) (λ c κs. search needs) returns
+    returns-2)

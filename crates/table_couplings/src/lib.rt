@@ -1,0 +1,179 @@
+// The tables of a call by node and by link, filled from a model's couplings: coupling i is link i + 1.
+ghost use mathlib.Core.Path.{_≡_};
+ghost use mathlib.Core.Bool.{cond};
+ghost use Prim.Native.Nat.{_+_, _*_, _<_, _≤_};
+ghost use lib.ListN.{length, getD};
+ghost use Rattle.definition.specs.Limits.{maxComponents, maxCouplings};
+ghost use Rattle.model_records.specs.Values.{couplingOf, componentsIn, couplingsIn};
+ghost use Rattle.spec_step.specs.Tables.{portNodes, inputNode, outputNode, sourceNumber, targetNumber, liveAt};
+ghost use Rattle.table_words.specs.Writes.{column};
+ghost use Rattle.table_couplings.specs.Links.{sourceIn, linkEnd, Held, OnNodes, Joined, begun, sourceFlag, spread, spreadUp, spreadDown, byCoupling};
+use limits::MAX_NODES;
+use limits::PORT_COUNT;
+use limits::PORT_NODES;
+use little_endian::size;
+use little_endian::size16;
+use model_records::Coupling;
+use table_words::FIRST_AT;
+use table_words::LINKS;
+use table_words::LIVE_AT;
+use table_words::NEXT_AT;
+use table_words::SOURCE_AT;
+use table_words::TABLE_SIZE;
+
+// The two ends of a coupling, as the contracts name them.
+pub enum End {
+    Source,
+    Target,
+}
+
+fn input_node(c: u8, q: u8) -> u16
+    ensures { λ r. ⌜ r ≡ inputNode c q ⌝ }
+{
+    PORT_NODES as u16 * table_words::word(c) + table_words::word(q)
+}
+
+fn output_node(c: u8, q: u8) -> u16
+    ensures { λ r. ⌜ r ≡ outputNode c q ⌝ }
+{
+    PORT_NODES as u16 * table_words::word(c)
+        + (table_words::word(PORT_COUNT) + table_words::word(q))
+}
+
+// A coupling from a parent begins at an input, any other at an output.
+fn source_node(components: &[u8], k: Coupling) -> u16
+    ensures { λ r. ⌜ r ≡ sourceNumber (componentsIn (now (components .entry))) (couplingOf k) ⌝ }
+{
+    if model_records::is_child(components, size(k.source), size(k.target)) {
+        input_node(k.source, k.source_port)
+    } else {
+        output_node(k.source, k.source_port)
+    }
+}
+
+// A coupling to a parent ends at an output, any other at an input.
+fn target_node(components: &[u8], k: Coupling) -> u16
+    ensures { λ r. ⌜ r ≡ targetNumber (componentsIn (now (components .entry))) (couplingOf k) ⌝ }
+{
+    if model_records::is_child(components, size(k.target), size(k.source)) {
+        output_node(k.target, k.target_port)
+    } else {
+        input_node(k.target, k.target_port)
+    }
+}
+
+fn link_count(couplings: &[u8]) -> u16
+    requires { ⌜ length (couplingsIn (now couplings)) ≤ maxCouplings ⌝ }
+    ensures { λ r. ⌜ r ≡ length (couplingsIn (now (couplings .entry))) ⌝ }
+{
+    model_records::coupling_count(couplings) as u16
+}
+
+// The node where each link begins, in its table, and the node where it ends; each coupling is read once.
+pub fn put_ends(
+    components: &[u8],
+    couplings: &[u8],
+    targets: &mut [u16; LINKS],
+    t: &mut [u16; TABLE_SIZE],
+)
+    requires { ⌜ (length (couplingsIn (now couplings)) ≤ maxCouplings) × (length (now targets) ≡ maxCouplings + 1) ⌝ }
+    ensures { λ _. ⌜ Held (linkEnd End.Target (componentsIn (now (components .entry))) (couplingsIn (now (couplings .entry)))) (length (couplingsIn (now (couplings .entry)))) (now (targets .exit))
+        × (now (t .exit) ≡ begun (componentsIn (now (components .entry))) (couplingsIn (now (couplings .entry))) (now (t .entry))) ⌝ }
+{
+    let n = model_records::coupling_count(couplings);
+    let mut i: usize = 0;
+    while i < n {
+        let k = model_records::coupling_at(couplings, i);
+        t[SOURCE_AT + 1 + i] = source_node(components, k);
+        i = i + 1;
+        targets[i] = target_node(components, k);
+    }
+}
+
+fn flag(b: bool) -> u16
+    ensures { λ r. ⌜ r ≡ cond b 1 0 ⌝ }
+{
+    if b { 1 } else { 0 }
+}
+
+// The sources are live, and nothing else yet: the root's inputs and the atomics' outputs, four ports at once.
+fn mark_sources(components: &[u8], t: &mut [u16; TABLE_SIZE])
+    requires { ⌜ length (componentsIn (now components)) ≤ maxComponents ⌝ }
+    ensures { λ _. ⌜ now (t .exit) ≡ column liveAt (sourceFlag (componentsIn (now (components .entry)))) (portNodes * length (componentsIn (now (components .entry)))) 0 (now (t .entry)) ⌝ }
+{
+    let n = model_records::component_count(components);
+    let mut c: usize = 0;
+    while c < n {
+        let x = PORT_NODES * c;
+        table_words::put_four(t, LIVE_AT + x, flag(c == 0));
+        table_words::put_four(
+            t,
+            LIVE_AT + (x + 4),
+            flag(model_records::is_atomic(components, c)),
+        );
+        c = c + 1;
+    }
+}
+
+// Where x is live, so is y.
+fn spread_one(x: u16, y: u16, t: &mut [u16; TABLE_SIZE])
+    requires { ⌜ (x < portNodes * maxComponents) × (y < portNodes * maxComponents) ⌝ }
+    ensures { λ _. ⌜ now (t .exit) ≡ spread x y (now (t .entry)) ⌝ }
+{
+    if !(t[LIVE_AT + size16(x)] == 0) {
+        t[LIVE_AT + size16(y)] = 1;
+    }
+}
+
+// Along link j.
+fn spread_link(targets: &[u16; LINKS], j: u16, t: &mut [u16; TABLE_SIZE])
+    requires { ⌜ (j ≤ maxCouplings) × (sourceIn (now t) j < portNodes * maxComponents) × (getD (now targets) j 0 < portNodes * maxComponents) ⌝ }
+    ensures { λ _. ⌜ now (t .exit) ≡ spread (sourceIn (now (t .entry)) j) (getD (now (targets .entry)) j 0) (now (t .entry)) ⌝ }
+{
+    let at = size16(j);
+    let x = t[SOURCE_AT + at];
+    let y = targets[at];
+    spread_one(x, y, t);
+}
+
+// Outputs, from the deepest components up.
+fn spread_up(targets: &[u16; LINKS], n: u16, t: &mut [u16; TABLE_SIZE])
+    requires { ⌜ (n ≤ maxCouplings) × OnNodes (sourceIn (now t)) (λ j. getD (now targets) j 0) n ⌝ }
+    ensures { λ _. ⌜ now (t .exit) ≡ spreadUp (sourceIn (now (t .entry))) (λ j. getD (now (targets .entry)) j 0) n (now (t .entry)) ⌝ }
+{
+    let mut j = n;
+    while 0 < j {
+        spread_link(targets, j, t);
+        j = j - 1;
+    }
+}
+
+// Inputs, from the root down.
+fn spread_down(targets: &[u16; LINKS], n: u16, t: &mut [u16; TABLE_SIZE])
+    requires { ⌜ (n ≤ maxCouplings) × OnNodes (sourceIn (now t)) (λ j. getD (now targets) j 0) n ⌝ }
+    ensures { λ _. ⌜ now (t .exit) ≡ spreadDown (sourceIn (now (t .entry))) (λ j. getD (now (targets .entry)) j 0) n 1 (now (t .entry)) ⌝ }
+{
+    let mut j: u16 = 1;
+    while j < n + 1 {
+        spread_link(targets, j, t);
+        j = j + 1;
+    }
+}
+
+// Every other table by node and by link, where the nodes of the links stand.
+pub fn fill_linked(
+    components: &[u8],
+    couplings: &[u8],
+    targets: &[u16; LINKS],
+    t: &mut [u16; TABLE_SIZE],
+)
+    requires { ⌜ (length (componentsIn (now components)) ≤ maxComponents) × (length (couplingsIn (now couplings)) ≤ maxCouplings)
+        × Joined (componentsIn (now components)) (couplingsIn (now couplings)) (now targets) (now t) ⌝ }
+    ensures { λ _. ⌜ now (t .exit) ≡ byCoupling (componentsIn (now (components .entry))) (couplingsIn (now (couplings .entry))) (now (t .entry)) ⌝ }
+{
+    let n = link_count(couplings);
+    table_words::link_all(targets, n, FIRST_AT, MAX_NODES, NEXT_AT, t);
+    mark_sources(components, t);
+    spread_up(targets, n, t);
+    spread_down(targets, n, t);
+}

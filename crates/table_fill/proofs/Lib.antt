@@ -1,0 +1,10 @@
+pub mod Allowed
+pub mod Holding
+pub mod Kin
+pub mod Links
+pub mod Live
+pub mod Ranged
+pub mod Ranges
+pub mod Rows
+pub mod Sources
+pub mod Tables

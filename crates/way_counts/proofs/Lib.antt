@@ -1,3 +1,0 @@
--- Laws of ways counted on words.
-pub mod Loops
-pub mod Words
