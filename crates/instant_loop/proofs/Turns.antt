@@ -1,29 +1,34 @@
 -- One turn of advance, by the moment that is next and by what the tried instant gave: it goes on, it stops, or it was the last. Over
 -- anything that takes steps. Assumes nothing.
 use mathlib.Core.Path.{_≡_, refl, _∙_, sym, ap, ap₂, subst}
-use mathlib.Core.List.{[]}
-use mathlib.Core.Bool.{Bool, true, false, cond}
-use Prim.Native.Nat.{ℕ, suc, _+_, _-_, _≤_, _<_}
+use mathlib.Core.List.{List, []}
+use mathlib.Core.Bool.{Bool, true, false, not, _||_, cond}
+use Prim.Native.Nat.{ℕ, suc, _+_, _-_, _*_, _≤_, _<_}
 use native.Mathlib.Omega.{arith}
 use lib.ListN.{length, drop}
-use lib.Dec.{ltb, eqb}
+use lib.Dec.{ltb, leb, eqb}
 use lib.Seq.{drop-drop}
-use borrow.Author.Tests.{ltb-true, eq-eqb, ne-eqb, eqb-false}
+use borrow.Author.Tests.{ltb-true, lt-ltb, le-ltb, leb-true, leb-false, eq-eqb, ne-eqb, eqb-true, eqb-false}
 use Rattle.definition.specs.Bytes.{Bytes, ok, refused}
 use Rattle.definition.specs.Model.{Bag}
 use Rattle.definition.specs.Devs.{Time, finite, never, ticks}
 use Rattle.definition.specs.Step.{Simulator}
 use Rattle.definition.specs.Instant.{Instant, instant}
-use Rattle.definition.specs.Advance.{Progress, Ended, ended, tried, continued, succeeded, isBefore, advancing}
-use Rattle.definition.specs.Engine.{dueNumber}
+use Rattle.definition.specs.Advance.{ended, tried, continued, succeeded, isBefore, advancing}
+use Rattle.definition.specs.Advance as Definition
+use Rattle.definition.specs.Limits.{maxSteps}
+use Rattle.definition.specs.Engine.{toBag, dueNumber}
+use Rattle.law_base.proofs.Tests.{clash}
 use Rattle.law_base.proofs.Turns.{last-turn, more-turn}
 use Rattle.clock.specs.Times.{latest}
 use Rattle.run_state.specs.declared.State.{State}
 use Rattle.law_step.proofs.Carried.{before-number, moment-number}
-use Rattle.instant_attempt.specs.Progress.{progressOf, triedOf, Beyond, Attempted}
-use Rattle.instant_attempt.specs.declared.Going.{Going}
-use Rattle.instant_attempt.specs.declared.Ending.{Ending}
-use Rattle.instant_loop.specs.Ends.{endedOf, finishedOf}
+use Rattle.instant_steps.specs.Sim.{Ready}
+use Rattle.instant_steps.proofs.Steps.{bag-none}
+use Rattle.instant_attempt.specs.Progress.{progressOf, triedOf, Beyond, Tried}
+use Rattle.instant_attempt.specs.declared.Progress.{Progress}
+use Rattle.instant_attempt.specs.declared.Ended.{Ended}
+use Rattle.instant_loop.specs.Ends.{advancingOf, givenTo, endedOf, finishedOf}
 
 -- ---- the next moment
 
@@ -38,6 +43,13 @@ next-as u due t v d l e =
     go : (b : Bool) → isBefore u t ≡ b → cond b (dueNumber u) t ≡ cond b (ticks u) t
     go true f = moment-number u t f
     go false f = refl
+
+pub next-most : (due t v : ℕ) → v ≡ cond (ltb due t) due t → v ≤ t
+next-most due t v e = go (ltb due t) refl e
+  where
+    go : (b : Bool) → ltb due t ≡ b → v ≡ cond b due t → v ≤ t
+    go true f g = omega (arith, ltb-true due t f)
+    go false f g = omega arith
 
 pub not-before : (u : Time) (t v : ℕ) → v ≡ nextOf u t → t ≤ v → isBefore u t ≡ false
 unfolding isBefore ticks
@@ -57,57 +69,57 @@ is-before (finite a) t v e h = go (ltb a t) refl e
     go false f e = absurd (omega arith)
 is-before never t v e h = absurd (omega arith)
 
-goes-ok : {S : Type 0} (on : Progress S → Ended S) (p q : Progress S) → continued on p (ok q) ≡ on q
+goes-ok : {S : Type 0} (on : Definition.Progress S → Definition.Ended S) (p q : Definition.Progress S) → continued on p (ok q) ≡ on q
 unfolding continued
 goes-ok on p q = refl
 
-goes-no : {S : Type 0} (on : Progress S → Ended S) (p : Progress S) (m : ℕ) → continued on p (refused m) ≡ ended m p
+goes-no : {S : Type 0} (on : Definition.Progress S → Definition.Ended S) (p : Definition.Progress S) (m : ℕ) → continued on p (refused m) ≡ ended m p
 unfolding continued
 goes-no on p m = refl
 
 -- ---- one turn of the code
 
-abbrev reopened : ℕ → Going → ℕ → Ending
-reopened t g due = record { number = 0; going = record { opening = record { 0 = suc t }; instants = g .instants; steps = g .steps; used = g .used }; due = due }
+abbrev reopened : ℕ → Progress → ℕ → Ended
+reopened t g due = record { number = 0; progress = record { opening = record { 0 = suc t }; instants = g .instants; steps = g .steps; used = g .used }; due = due }
 
-succeeded-as : (t : ℕ) (trace : Bytes) (st : State) (g : Going) (due : ℕ) → succeeded t (progressOf trace st g) ≡ endedOf trace st (reopened t g due)
+succeeded-as : (t : ℕ) (trace : Bytes) (st : State) (g : Progress) (due : ℕ) → succeeded t (progressOf trace st g) ≡ endedOf trace st (reopened t g due)
 unfolding succeeded progressOf
 succeeded-as t trace st g due = refl
 
-finished-ok : (t : ℕ) (e : Ending) → eqb (e .number) 0 ≡ true → finishedOf t e ≡ reopened t (e .going) (e .due)
+finished-ok : (t : ℕ) (e : Ended) → eqb (e .number) 0 ≡ true → finishedOf t e ≡ reopened t (e .progress) (e .due)
 unfolding finishedOf
 finished-ok t e q = rw q
 
-finished-no : (t : ℕ) (e : Ending) → eqb (e .number) 0 ≡ false → finishedOf t e ≡ e
+finished-no : (t : ℕ) (e : Ended) → eqb (e .number) 0 ≡ false → finishedOf t e ≡ e
 unfolding finishedOf
 finished-no t e q = rw q
 
-tried-no : (trace : Bytes) (st : State) (e : Ending) → eqb (e .number) 0 ≡ false → triedOf trace st e ≡ refused (e .number)
+tried-no : (trace : Bytes) (st : State) (e : Ended) → eqb (e .number) 0 ≡ false → triedOf trace st e ≡ refused (e .number)
 tried-no trace st e q = rw q
 
-tried-ok : (trace : Bytes) (st : State) (e : Ending) → eqb (e .number) 0 ≡ true → triedOf trace st e ≡ ok (progressOf trace st (e .going))
+tried-ok : (trace : Bytes) (st : State) (e : Ended) → eqb (e .number) 0 ≡ true → triedOf trace st e ≡ ok (progressOf trace st (e .progress))
 tried-ok trace st e q = rw q
 
-state-in : (trace : Bytes) (st : State) (g : Going) → progressOf trace st g .state ≡ st
+state-in : (trace : Bytes) (st : State) (g : Progress) → progressOf trace st g .state ≡ st
 unfolding progressOf
 state-in trace st g = refl
 
 -- An undone instant leaves the progress as it was.
-left-as : (now : ℕ) (g : Going) (st st′ : State) (trace trace′ : Bytes) (i : Instant State) (e : Ending) → Attempted now g st st′ trace trace′ i e → (e .number ≡ 0 → ⊥)
-    → progressOf trace st g ≡ progressOf trace′ st′ (e .going)
+left-as : (now : ℕ) (g : Progress) (st st′ : State) (trace trace′ : Bytes) (i : Instant State) (e : Ended) → Tried now g st st′ trace trace′ i e → (e .number ≡ 0 → ⊥)
+    → progressOf trace st g ≡ progressOf trace′ st′ (e .progress)
 left-as now g st st′ trace trace′ i e a z =
     let u = a .undone z in
-    ap (λ (b : Bytes). progressOf b st g) (sym (u .2)) ∙ ap₂ (progressOf trace′) (sym (u .1)) (sym (u .0))
+    ap (λ (b : Bytes). progressOf b st g) (sym (u .bytes)) ∙ ap₂ (progressOf trace′) (sym (u .state)) (sym (u .progress))
 
-module _ (k : Simulator State) (t : ℕ) (x : Bag) (g : Going) (st st′ : State) (trace trace′ : Bytes) (e : Ending) (m : ℕ) where
-  abbrev p : Progress State
+module _ (k : Simulator State) (t : ℕ) (x : Bag) (g : Progress) (st st′ : State) (trace trace′ : Bytes) (e : Ended) (m : ℕ) where
+  abbrev p : Definition.Progress State
   p = progressOf trace st g
 
-  abbrev p′ : Progress State
-  p′ = progressOf trace′ st′ (e .going)
+  abbrev p′ : Definition.Progress State
+  p′ = progressOf trace′ st′ (e .progress)
 
   -- The last turn: t with the bag.
-  pub turn-last : Attempted t g st st′ trace trace′ (instant k t x st) e → isBefore (k .next st) t ≡ false
+  pub turn-last : Tried t g st st′ trace trace′ (instant k t x st) e → isBefore (k .next st) t ≡ false
       → advancing k (length trace) t x (suc m) p ≡ endedOf trace′ st′ (finishedOf t e)
   turn-last a b =
       last-turn k (length trace) t x m p (subst (λ (s : State). isBefore (k .next s) t ≡ false) (sym (state-in trace st g)) b)
@@ -117,15 +129,15 @@ module _ (k : Simulator State) (t : ℕ) (x : Bag) (g : Going) (st st′ : State
       go : (b : Bool) → eqb (e .number) 0 ≡ b → continued (succeeded t) p (triedOf trace′ st′ e) ≡ endedOf trace′ st′ (finishedOf t e)
       go true q =
           ap (continued (succeeded t) p) (tried-ok trace′ st′ e q) ∙ goes-ok (succeeded t) p p′
-          ∙ succeeded-as t trace′ st′ (e .going) (e .due) ∙ ap (endedOf trace′ st′) (sym (finished-ok t e q))
+          ∙ succeeded-as t trace′ st′ (e .progress) (e .due) ∙ ap (endedOf trace′ st′) (sym (finished-ok t e q))
       go false q =
           ap (continued (succeeded t) p) (tried-no trace′ st′ e q) ∙ goes-no (succeeded t) p (e .number)
           ∙ ap (ended (e .number)) (left-as t g st st′ trace trace′ (instant k t x st) e a (eqb-false (e .number) 0 q)) ∙ ap (endedOf trace′ st′) (sym (finished-no t e q))
 
   -- An instant before t, with no bag.
-  module _ (u : ℕ) (y : Bag) (none : y ≡ []) (a : Attempted u g st st′ trace trace′ (instant k u y st) e)
+  module _ (u : ℕ) (y : Bag) (none : y ≡ []) (a : Tried u g st st′ trace trace′ (instant k u y st) e)
       (b : (isBefore (k .next st) t ≡ true) × (ticks (k .next st) ≡ u)) where
-    abbrev on : Progress State → Ended State
+    abbrev on : Definition.Progress State → Definition.Ended State
     on q = advancing k (length trace) t x m q
 
     turn : advancing k (length trace) t x (suc m) p ≡ continued on p (triedOf trace′ st′ e)
@@ -151,43 +163,109 @@ pub beyond-on : (trace₀ trace trace′ : Bytes) (u v : ℕ) → u ≤ v → Be
 beyond-on trace₀ trace trace′ u v l a b =
     let e : u + (v - u) ≡ v = omega arith in
     let d : drop v trace ≡ drop v trace₀
-    = subst (λ (k : ℕ). drop k trace ≡ drop k trace₀) e (sym (drop-drop (v - u) u trace) ∙ ap (drop (v - u)) (a .2) ∙ drop-drop (v - u) u trace₀) in
-    (omega (arith, a .1, b .0), b .1 ∙ a .1, b .2 ∙ d)
+    = subst (λ (k : ℕ). drop k trace ≡ drop k trace₀) e (sym (drop-drop (v - u) u trace) ∙ ap (drop (v - u)) (a .same) ∙ drop-drop (v - u) u trace₀) in
+    record { within = omega (arith, a .size, b .within); size = b .size ∙ a .size; same = b .same ∙ d }
 
-pub used-as : (t : ℕ) (e : Ending) → finishedOf t e .going .used ≡ e .going .used
+pub used-as : (t : ℕ) (e : Ended) → finishedOf t e .progress .used ≡ e .progress .used
 used-as t e = go (eqb (e .number) 0) refl
   where
-    go : (b : Bool) → eqb (e .number) 0 ≡ b → finishedOf t e .going .used ≡ e .going .used
+    go : (b : Bool) → eqb (e .number) 0 ≡ b → finishedOf t e .progress .used ≡ e .progress .used
     go true q = rw (finished-ok t e q)
     go false q = rw (finished-no t e q)
 
+-- ---- a test of two
+
+or-no : (a b : Bool) → (a || b) ≡ false → (a ≡ false) × (b ≡ false)
+or-no false b e = (refl, e)
+or-no true b e = absurd (clash refl e)
+
+or-left : (a b : Bool) → (a || b) ≡ true → b ≡ false → a ≡ true
+or-left true b h q = refl
+or-left false b h q = absurd (clash h q)
+
+not-true : (a : Bool) → not a ≡ true → a ≡ false
+not-true false h = refl
+not-true true h = absurd (clash h refl)
+
+not-false : (a : Bool) → not a ≡ false → a ≡ true
+not-false true h = refl
+not-false false h = absurd (clash refl h)
+
 -- ---- a turn inside the loop: `whole` is what the call gives, and the turns left give it from here
 
-module _ (k : Simulator State) (t : ℕ) (x : Bag) (whole : Ended State) (trace₀ trace : Bytes) (st : State) (g : Going) (left : ℕ) (h : 0 < left)
+module _ (k : Simulator State) (t : ℕ) (x : Bag) (whole : Definition.Ended State) (trace₀ trace : Bytes) (st : State) (g : Progress) (left : ℕ) (h : 0 < left)
     (from-here : advancing k (length trace₀) t x left (progressOf trace st g) ≡ whole) (b : Beyond trace₀ trace (g .used)) where
   here : advancing k (length trace) t x (suc (left - 1)) (progressOf trace st g) ≡ whole
   here =
       let q : suc (left - 1) ≡ left = omega arith in
-      ap₂ (λ (m room : ℕ). advancing k room t x m (progressOf trace st g)) q (b .1) ∙ from-here
+      ap₂ (λ (m room : ℕ). advancing k room t x m (progressOf trace st g)) q (b .size) ∙ from-here
 
-  module _ (trace′ : Bytes) (st′ : State) (e : Ending) (v : ℕ) (next : v ≡ nextOf (k .next st) t) where
-    pub ends-last : Attempted t g st st′ trace trace′ (instant k t x st) e → t ≤ v → (f : Ending) → f ≡ finishedOf t e
-        → (endedOf trace′ st′ f ≡ whole) × Beyond trace₀ trace′ (f .going .used)
+  module _ (trace′ : Bytes) (st′ : State) (e : Ended) (v : ℕ) (next : v ≡ nextOf (k .next st) t) where
+    pub ends-last : Tried t g st st′ trace trace′ (instant k t x st) e → t ≤ v → (f : Ended) → f ≡ finishedOf t e
+        → (endedOf trace′ st′ f ≡ whole) × Beyond trace₀ trace′ (f .progress .used)
     ends-last a l f w =
         let s = turn-last k t x g st st′ trace trace′ e (left - 1) a (not-before (k .next st) t v next l) in
-        let d = beyond-on trace₀ trace trace′ (g .used) (e .going .used) (a .more) b (a .beyond) in
-        (ap (endedOf trace′ st′) w ∙ sym s ∙ here, subst (Beyond trace₀ trace′) (sym (ap (λ (z : Ending). z .going .used) w ∙ used-as t e)) d)
+        let d = beyond-on trace₀ trace trace′ (g .used) (e .progress .used) (a .more) b (a .beyond) in
+        (ap (endedOf trace′ st′) w ∙ sym s ∙ here, subst (Beyond trace₀ trace′) (sym (ap (λ (z : Ended). z .progress .used) w ∙ used-as t e)) d)
 
-    module _ (y : Bag) (none : y ≡ []) (a : Attempted v g st st′ trace trace′ (instant k v y st) e) (l : v < t) where
-      pub ends-stop : (e .number ≡ 0 → ⊥) → (endedOf trace′ st′ e ≡ whole) × Beyond trace₀ trace′ (e .going .used)
+    module _ (y : Bag) (none : y ≡ []) (a : Tried v g st st′ trace trace′ (instant k v y st) e) (l : v < t) where
+      pub ends-stop : (e .number ≡ 0 → ⊥) → (endedOf trace′ st′ e ≡ whole) × Beyond trace₀ trace′ (e .progress .used)
       ends-stop z = (
         sym (turn-stop k t x g st st′ trace trace′ e (left - 1) v y none a (is-before (k .next st) t v next l) z) ∙ here,
-        beyond-on trace₀ trace trace′ (g .used) (e .going .used) (a .more) b (a .beyond),
+        beyond-on trace₀ trace trace′ (g .used) (e .progress .used) (a .more) b (a .beyond),
       )
 
-      pub goes-on : e .number ≡ 0 → Beyond trace₀ trace′ (e .going .used) × (advancing k (length trace₀) t x (left - 1) (progressOf trace′ st′ (e .going)) ≡ whole)
+      pub goes-on : e .number ≡ 0 → Beyond trace₀ trace′ (e .progress .used) × (advancing k (length trace₀) t x (left - 1) (progressOf trace′ st′ (e .progress)) ≡ whole)
       goes-on z = (
-        beyond-on trace₀ trace trace′ (g .used) (e .going .used) (a .more) b (a .beyond),
-        ap (λ (room : ℕ). advancing k room t x (left - 1) (progressOf trace′ st′ (e .going))) (sym (b .1))
+        beyond-on trace₀ trace trace′ (g .used) (e .progress .used) (a .more) b (a .beyond),
+        ap (λ (room : ℕ). advancing k room t x (left - 1) (progressOf trace′ st′ (e .progress))) (sym (b .size))
             ∙ sym (turn-more k t x g st st′ trace trace′ e (left - 1) v y none a (is-before (k .next st) t v next l) z) ∙ here,
       )
+
+    -- The turn as the code takes it: the bag is given at t alone, and the call ends at t, or where a number leaves the instant undone.
+    module _ (bag : Bytes) (whole-bag : x ≡ toBag bag) (a : Tried v g st st′ trace trace′ (instant k v (toBag (givenTo bag v t)) st) e) where
+      before : v < t → toBag (givenTo bag v t) ≡ []
+      before l = rw (lt-ltb v t l) (bag-none bag)
+
+      last-as : v ≡ t → Tried t g st st′ trace trace′ (instant k t x st) e
+      last-as q =
+          let b : givenTo bag t t ≡ bag = rw (le-ltb t t (omega arith)) in
+          subst (λ (y : Bag). Tried t g st st′ trace trace′ (instant k t y st) e) (ap toBag b ∙ sym whole-bag)
+          (subst (λ (w : ℕ). Tried w g st st′ trace trace′ (instant k w (toBag (givenTo bag w t)) st) e) q a)
+
+      pub ends-turn : v ≤ t → (not (eqb (e .number) 0) || leb t v) ≡ true → (f : Ended) → f ≡ finishedOf t e
+          → (endedOf trace′ st′ f ≡ whole) × Beyond trace₀ trace′ (f .progress .used)
+      ends-turn m h f w = go (leb t v) refl
+        where
+          go : (b : Bool) → leb t v ≡ b → (endedOf trace′ st′ f ≡ whole) × Beyond trace₀ trace′ (f .progress .used)
+          go true q = let l = leb-true t v q in ends-last (last-as (omega arith)) l f w
+          go false q =
+              let o : not (eqb (e .number) 0) ≡ true = or-left (not (eqb (e .number) 0)) (leb t v) h q in
+              let z : eqb (e .number) 0 ≡ false = not-true (eqb (e .number) 0) o in
+              let l = leb-false t v q in
+              rw (w, finished-no t e z) (ends-stop (toBag (givenTo bag v t)) (before l) a l (eqb-false (e .number) 0 z))
+
+      pub goes-turn : (not (eqb (e .number) 0) || leb t v) ≡ false
+          → Beyond trace₀ trace′ (e .progress .used) × (advancing k (length trace₀) t x (left - 1) (progressOf trace′ st′ (e .progress)) ≡ whole)
+      goes-turn h =
+          let q = or-no (not (eqb (e .number) 0)) (leb t v) h in
+          let z : e .number ≡ 0 = eqb-true (e .number) 0 (not-false (eqb (e .number) 0) (q .0)) in
+          let l = leb-false t v (q .1) in
+          goes-on (toBag (givenTo bag v t)) (before l) a l z
+
+-- ---- the loop
+
+-- What holds with so many turns left: the sizes of what is lent, numbers with room for the turns left, the trace beyond the records, the turns
+-- left from here, and the due moments.
+pub record Turning (phases rules tables : List ℕ) (n t : ℕ) (bag : Bytes) (g₀ : Progress) (st₀ : State) (work₀ keys₀ scratch₀ : List ℕ) (trace₀ : Bytes)
+    (g : Progress) (st : State) (ends work keys scratch : List ℕ) (trace : Bytes) (due left : ℕ) : Type 0 where
+  pub turns : left ≤ suc t
+  pub words : length work ≡ length work₀
+  pub rows : length keys ≡ length keys₀
+  pub bytes : length scratch ≡ length scratch₀
+  pub instants : g .instants + left ≤ latest
+  pub steps : g .steps + maxSteps * left ≤ latest
+  pub beyond : Beyond trace₀ trace (g .used)
+  pub from-here : advancingOf phases rules tables n (length work₀) (length trace₀) t bag left (progressOf trace st g)
+      ≡ advancingOf phases rules tables n (length work₀) (length trace₀) t bag (suc t) (progressOf trace₀ st₀ g₀)
+  pub ready : Ready phases tables n st ends due

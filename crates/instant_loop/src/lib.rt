@@ -1,24 +1,20 @@
 // Advance, behind its checks: every instant due before t, then t with the bag; the numbers, the whole run and the whole trace.
 ghost use mathlib.Core.Path.{_≡_};
 ghost use mathlib.Core.Bool.{cond};
-ghost use Prim.Native.Nat.{suc, _+_, _*_, _≤_};
+ghost use Prim.Native.Nat.{suc, _≤_};
 ghost use lib.Dec.{ltb};
 ghost use lib.ListN.{length};
 ghost use Rattle.definition.specs.Bytes.{ok};
-ghost use Rattle.definition.specs.Limits.{maxMoment, maxSteps};
-ghost use Rattle.definition.specs.SavedRun.{runLength};
-ghost use Rattle.definition.specs.Advance.{advancing, advanceFrom};
+ghost use Rattle.definition.specs.Limits.{maxMoment};
+ghost use Rattle.definition.specs.Advance.{advanceFrom};
 ghost use Rattle.definition.specs.Engine.{toBag, advanced};
-ghost use Rattle.clock.specs.Times.{latest};
 ghost use Rattle.run_state.specs.Held.{held, heldEnd};
-ghost use Rattle.model_records.specs.Values.{phasesIn};
-ghost use Rattle.spec_step.specs.Carried.{Carried};
-ghost use Rattle.instant_steps.specs.Sim.{simOf, Lent, Fit};
+ghost use Rattle.instant_steps.specs.Sim.{simOf};
 ghost use Rattle.instant_attempt.specs.Progress.{progressOf, Beyond};
-ghost use Rattle.instant_loop.specs.Ends.{endedOf, finishedOf, outcomeOf};
+ghost use Rattle.instant_loop.specs.Ends.{Callable, Startable, givenTo, advancingOf, endedOf, finishedOf, outcomeOf};
 use clock::Moment;
-use instant_attempt::Ending;
-use instant_attempt::Going;
+use instant_attempt::Ended;
+use instant_attempt::Progress;
 use instant_attempt::attempt;
 use limits::MAX_COMPONENTS;
 use little_endian::size;
@@ -40,8 +36,15 @@ fn next_moment(due: u64, t: Moment) -> Moment
     if due < t.0 { Moment(due) } else { t }
 }
 
+// What an instant is given: the bag at t, and nothing before.
+fn given_to<'a>(bag: &'a [u8], at: Moment, t: Moment) -> &'a [u8]
+    ensures { λ r. ⌜ now r ≡ givenTo (now (bag .entry)) (at .0) (t .0) ⌝ }
+{
+    if at.0 < t.0 { &bag[..0] } else { bag }
+}
+
 // "On success the open moment is t + 1."
-fn finish(t: Moment, e: Ending) -> Ending
+fn finish(t: Moment, e: Ended) -> Ended
     requires { ⌜ t .0 ≤ maxMoment ⌝ }
     ensures { λ r. ⌜ r ≡ finishedOf (t .0) e ⌝ }
 {
@@ -49,12 +52,12 @@ fn finish(t: Moment, e: Ending) -> Ending
         return e;
     }
     let opening = Moment(t.0 + 1);
-    let mut going = e.going;
-    going.opening = opening;
+    let mut progress = e.progress;
+    progress.opening = opening;
     let due = e.due;
-    Ending {
+    Ended {
         number: 0,
-        going,
+        progress,
         due,
     }
 }
@@ -68,7 +71,7 @@ pub fn advance_on(
     n: u8,
     t: Moment,
     bag: &[u8],
-    from: Going,
+    from: Progress,
     phase: &mut [u8; MAX_COMPONENTS],
     last: &mut [u64; MAX_COMPONENTS],
     ends: &mut [u64; MAX_COMPONENTS],
@@ -76,52 +79,26 @@ pub fn advance_on(
     keys: &mut [u32],
     scratch: &mut [u8],
     trace: &mut [u8],
-) -> Ending
-    requires { ⌜ Lent (length (now work)) (length (now keys)) × (t .0 ≤ maxMoment) × (from .used ≤ length (now trace))
-        × (from .instants + suc (t .0) ≤ latest) × (from .steps + maxSteps * suc (t .0) ≤ latest) × Fit n (now tables)
-        × Carried (phasesIn (now phases)) (now tables) n (held (now phase) (now last)) (now ends) ⌝ }
+) -> Ended
+    requires { ⌜ Callable (now phases) (now tables) n (t .0) from (held (now phase) (now last)) (now ends) (length (now work)) (length (now keys)) (length (now trace)) ⌝ }
     ensures { λ r. ⌜ (endedOf (now (trace .exit)) (held (now (phase .exit)) (now (last .exit))) r
-        ≡ advancing (simOf (now (phases .entry)) (now (rules .entry)) (now (tables .entry)) n (length (now (work .entry))))
-        (length (now (trace .entry))) (t .0) (toBag (now (bag .entry))) (suc (t .0)) (progressOf (now (trace .entry)) (held (now (phase .entry)) (now (last .entry))) from))
-        × Beyond (now (trace .entry)) (now (trace .exit)) (r .going .used) ⌝ }
+        ≡ advancingOf (now (phases .entry)) (now (rules .entry)) (now (tables .entry)) n (length (now (work .entry)))
+        (length (now (trace .entry))) (t .0) (now (bag .entry)) (suc (t .0)) (progressOf (now (trace .entry)) (held (now (phase .entry)) (now (last .entry))) from))
+        × Beyond (now (trace .entry)) (now (trace .exit)) (r .progress .used) ⌝ }
 {
-    let mut g = from;
+    let mut p = from;
     let mut due = next_end(tables, ends);
     let mut left = t.0 + 1;
     while 0 < left {
         let at = next_moment(due, t);
-        if t.0 <= at.0 {
-            return finish(
-                t,
-                attempt(
-                    phases,
-                    rules,
-                    tables,
-                    n,
-                    t,
-                    bag,
-                    bag.len(),
-                    g,
-                    phase,
-                    last,
-                    ends,
-                    due,
-                    work,
-                    keys,
-                    scratch,
-                    trace,
-                ),
-            );
-        }
         let e = attempt(
             phases,
             rules,
             tables,
             n,
             at,
-            bag,
-            0,
-            g,
+            given_to(bag, at, t),
+            p,
             phase,
             last,
             ends,
@@ -131,16 +108,16 @@ pub fn advance_on(
             scratch,
             trace,
         );
-        if e.number != 0 {
-            return e;
+        if (e.number != 0) | (t.0 <= at.0) {
+            return finish(t, e);
         }
-        g = e.going;
+        p = e.progress;
         due = e.due;
         left = left - 1;
     }
-    Ending {
+    Ended {
         number: 0,
-        going: g,
+        progress: p,
         due,
     }
 }
@@ -163,12 +140,12 @@ pub fn advance_from(
     scratch: &mut [u8],
     trace: &mut [u8],
 ) -> Answer
-    requires { ⌜ Lent (length (now work)) (length (now keys)) × (t .0 ≤ maxMoment) × Fit n (now tables) × (runLength n ≤ length (now run)) ⌝ }
+    requires { ⌜ Startable (now tables) n (t .0) (length (now work)) (length (now keys)) (length (now run)) ⌝ }
     ensures { λ r. ⌜ outcomeOf (now (run .exit)) (now (trace .exit)) r ≡ advanced (now (run .entry)) (now (trace .entry))
         (ok (heldEnd n (advanceFrom (simOf (now (phases .entry)) (now (rules .entry)) (now (tables .entry)) n (length (now (work .entry))))
         (length (now (trace .entry))) (t .0) (toBag (now (bag .entry))) (opening .0) (held (now (phase .entry)) (now (last .entry)))))) ⌝ }
 {
-    let from = Going {
+    let from = Progress {
         opening,
         instants: 0,
         steps: 0,
@@ -192,12 +169,12 @@ pub fn advance_from(
         scratch,
         trace,
     );
-    let g = e.going;
-    run_saved::store(run, g.opening, size(n), phase, last);
+    let p = e.progress;
+    run_saved::store(run, p.opening, size(n), phase, last);
     Answer {
         number: e.number,
-        instants: g.instants,
-        steps: g.steps,
-        used: g.used,
+        instants: p.instants,
+        steps: p.steps,
+        used: p.used,
     }
 }

@@ -3,12 +3,12 @@
 use mathlib.Core.Path.{_≡_, refl, _∙_, sym, ap, ap₂, subst}
 use mathlib.Core.List.{List, [], _∷_, _++_, map}
 use mathlib.Core.Bool.{Bool, true, false, _&&_, _||_, not}
-use Prim.Native.Nat.{ℕ, zero, suc, _+_, _-_, _≤_, _<_}
+use Prim.Native.Nat.{ℕ, zero, suc, _+_, _-_, _*_, _≤_, _<_}
 use native.Mathlib.Omega.{arith}
 use lib.ListN.{length, length-append, length-map, length-take, take}
 use lib.Dec.{ltb, leb, eqb}
 use lib.Seq.{sets}
-use borrow.Author.Tests.{ltb-false, le-ltb, lt-ltb, le-leb, leb-true, leb-false}
+use borrow.Author.Tests.{ltb-false, ne-eqb, le-ltb, lt-ltb, le-leb, leb-true, leb-false}
 use Rattle.definition.specs.Lists.{concat, all, isEmpty, sortBy}
 use Rattle.definition.specs.Bytes.{Bytes}
 use Rattle.definition.specs.Limits.{maxSteps, maxRootBag}
@@ -27,7 +27,7 @@ use Rattle.law_base.specs.Keys.{messageOf}
 use Rattle.instant_records.specs.Written.{stepBytes, stepSize, stepPut}
 use Rattle.instant_records.proofs.Records.{length-step}
 use Rattle.law_stores.proofs.Stores.{sets-append}
-use Rattle.instant_steps.specs.Sim.{simOf, Lent, Fit, Ready}
+use Rattle.instant_steps.specs.Sim.{simOf, instantOf, givenAt, Lent, Fit, Ready}
 use Rattle.instant_steps.specs.Verdicts.{ranOf, Judged}
 use Rattle.instant_steps.specs.declared.Verdict.{Verdict}
 use Rattle.instant_steps.specs.declared.Verdict.the-variants as VV
@@ -150,6 +150,10 @@ module _ {S : Type 0} (whole rest : Instant S) (now from : ℕ) (out₀ out out�
 
 -- ---- the loop's ways on
 
+-- No step but the first is given anything.
+given-none : (given : Bytes) (k : ℕ) → toBag (givenAt given (k + 1)) ≡ []
+given-none given k = let e : eqb (k + 1) 0 ≡ false = ne-eqb (k + 1) 0 (λ z. omega arith) in rw e (bag-none given)
+
 module _ {S : Type 0} (k : Simulator S) (now : ℕ) (x : Bag) (s : S) where
   pub rest-all : instant k now x s ≡ stepsAt k (maxSteps - 0) now x s
   unfolding instant
@@ -169,10 +173,10 @@ module _ {S : Type 0} (k : Simulator S) (now : ℕ) (x : Bag) (s : S) where
   one-step m e = rw e
 
   pub rest-more : (n : ℕ) (s′ : S) (b : Bytes) → goesOn k now x s ≡ true → n < maxSteps → s′ ≡ k .step now x s .state
-      → stepsAt k (maxSteps - n) now x s ≡ stepped (k .step now x s .out) (stepsAt k (maxSteps - (n + 1)) now (toBag (take 0 b)) s′)
+      → stepsAt k (maxSteps - n) now x s ≡ stepped (k .step now x s .out) (stepsAt k (maxSteps - (n + 1)) now (toBag (givenAt b (n + 1))) s′)
   rest-more n s′ b e h f =
       let z : maxSteps - n ≡ suc (maxSteps - (n + 1)) = omega arith in
-      rw (z, bag-none b, f) (one-step (maxSteps - (n + 1)) e)
+      rw (z, given-none b n, f) (one-step (maxSteps - (n + 1)) e)
 
 -- ---- the test of the loop, and the due moments
 
@@ -186,6 +190,20 @@ goes-as phases rules tables n room now x st ends due l r =
 pub ready-next : (phases tables : List ℕ) (n : ℕ) (st : State) (ends : List ℕ) (due : ℕ) → Fit n tables → Carried (phasesIn phases) tables n st ends → due ≡ nextEnd tables ends
     → Ready phases tables n st ends due
 ready-next phases tables n st ends due f h e = record { carried = h; next = e ∙ next-carried (phasesIn phases) tables n st ends h (f .in-range) (f .seated) }
+
+-- ---- the loop
+
+-- What holds after k steps: the sizes of what is lent, a bound on the bytes counted, the due moments, and what is left of the instant.
+pub record Stepping (phases rules tables : List ℕ) (n now : ℕ) (given : Bytes) (st₀ : State) (work₀ keys₀ : List ℕ) (out₀ : Bytes) (from : ℕ)
+    (st : State) (ends work keys : List ℕ) (out : Bytes) (next used : ℕ) (flag : Bool) (k : ℕ) : Type 0 where
+  pub few : k ≤ maxSteps
+  pub words : length work ≡ length work₀
+  pub rows : length keys ≡ length keys₀
+  pub size : length out ≡ length out₀
+  pub bound : used ≤ from + 12300 * k
+  pub ready : Ready phases tables n st ends next
+  pub sofar : Sofar (instantOf phases rules tables n (length work₀) now given st₀)
+      (stepsAt (simOf phases rules tables n (length work₀)) (maxSteps - k) now (toBag (givenAt given k)) st) now from out₀ out k used flag
 
 -- ---- the verdicts
 
@@ -206,7 +224,7 @@ module _ {whole rest : Instant State} {now from : ℕ} {out₀ out : Bytes} {k u
   unfolding ranOf
   judged-jams e =
       subst (λ (i : Instant State). Judged now from out₀ out st i (record { verdict = VV.Jammed; steps = 0; used = from; due = due }))
-      (sym (sofar .split ∙ ap (after (sofar .bags)) e ∙ after-jammed (sofar .bags))) (refl, omega arith, tt, tt)
+      (sym (sofar .split ∙ ap (after (sofar .bags)) e ∙ after-jammed (sofar .bags))) (record { answer = refl; few = omega arith; recorded = tt; left = tt })
 
   ends : rest ≡ done [] st → done (sofar .bags) st ≡ whole
   ends e = sym (sofar .split ∙ ap (after (sofar .bags)) e ∙ after-done (sofar .bags) st)
@@ -216,14 +234,14 @@ module _ {whole rest : Instant State} {now from : ℕ} {out₀ out : Bytes} {k u
   judged-over e f =
       let o : over (sofar .bags) ≡ true = sym (sofar .overs) ∙ f in
       subst (λ (i : Instant State). Judged now from out₀ out st i (record { verdict = VV.Over; steps = 0; used = from; due = due })) (ends e)
-      (rw o, omega arith, λ h. absurd (clash o h), refl)
+      (record { answer = rw o; few = omega arith; recorded = λ h. absurd (clash o h); left = refl })
 
   pub judged-stands : rest ≡ done [] st → flag ≡ false → k ≤ maxSteps → Judged now from out₀ out st whole (record { verdict = VV.Stands; steps = k; used = used; due = due })
   unfolding ranOf
   judged-stands e f most =
       let o : over (sofar .bags) ≡ false = sym (sofar .overs) ∙ f in
       subst (λ (i : Instant State). Judged now from out₀ out st i (record { verdict = VV.Stands; steps = k; used = used; due = due })) (ends e)
-      (rw (o, sofar .count, sofar .sized f), most, λ h l. sofar .put f (rw (sofar .sized f) l), refl)
+      (record { answer = rw (o, sofar .count, sofar .sized f); few = most; recorded = λ h l. sofar .put f (rw (sofar .sized f) l); left = refl })
 
 -- Buffers of the same lengths are lent as well.
 pub lent-kept : {w w₀ k k₀ : ℕ} → w ≡ w₀ → k ≡ k₀ → Lent w₀ k₀ → Lent w k

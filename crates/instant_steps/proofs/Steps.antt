@@ -2,13 +2,13 @@
 -- and the verdict at each way out of the loop. Over anything that takes steps. Assumes nothing.
 use mathlib.Core.Path.{_≡_, refl, _∙_, sym, ap}
 use mathlib.Core.List.{List, [], _∷_, _++_, map, append-nil}
-use mathlib.Core.Bool.{Bool, true, false, _&&_, not, cond}
-use Prim.Native.Nat.{ℕ, zero, suc, _+_, _*_, _/_, _≤_, _<_, min}
+use mathlib.Core.Bool.{Bool, true, false, not, cond}
+use Prim.Native.Nat.{ℕ, zero, suc, _+_, _*_, _/_, _≤_, _<_}
 use native.Mathlib.Omega.{arith}
 use native.Mathlib.Nat.{add-zero}
-use lib.ListN.{length, length-map, length-take, take}
+use lib.ListN.{length, length-map, take}
 use lib.Dec.{leb}
-use borrow.Author.Tests.{le-leb, lt-leb, leb-true, leb-false}
+use borrow.Author.Tests.{le-leb, lt-leb}
 use Rattle.definition.specs.Lists.{concat, isEmpty, sortBy}
 use Rattle.definition.specs.Bytes.{Bytes, chunks}
 use Rattle.definition.specs.Model.{Message, Bag, messageLe}
@@ -22,25 +22,14 @@ use Rattle.instant_records.specs.Written.{recordOf, stepBytes}
 
 -- ---- the given bag
 
-bag-some : (s : Bytes) → not (isEmpty (toBag s)) ≡ leb 3 (length s)
+-- A bag of whole rows is empty where it has less bytes than a row.
+pub bag-some : (s : Bytes) → not (isEmpty (toBag s)) ≡ leb 3 (length s)
 unfolding isEmpty toBag chunks
 bag-some s = go (length s / 3) (omega arith) (omega arith)
   where
     go : (q : ℕ) → 3 * q ≤ length s → length s < 3 * q + 3 → not (isEmpty (map (messageAt 0) (chunks q 3 s))) ≡ leb 3 (length s)
     go zero l h = sym (lt-leb 3 (length s) (omega arith))
     go (suc q) l h = sym (le-leb 3 (length s) (omega arith))
-
-both-leb : (m a b : ℕ) → leb m (min a b) ≡ (leb m a && leb m b)
-both-leb m a b = go (leb m a) refl (leb m b) refl
-  where
-    go : (p : Bool) → leb m a ≡ p → (q : Bool) → leb m b ≡ q → leb m (min a b) ≡ (p && q)
-    go true e true f = le-leb m (min a b) (omega (arith, leb-true m a e, leb-true m b f))
-    go true e false f = lt-leb m (min a b) (omega (arith, leb-false m b f))
-    go false e q f = lt-leb m (min a b) (omega (arith, leb-false m a e))
-
--- A bag of whole rows is empty where it has less bytes than a row.
-pub bag-empty : (b : Bytes) (len : ℕ) → not (isEmpty (toBag (take len b))) ≡ (leb 3 len && leb 3 (length b))
-bag-empty b len = bag-some (take len b) ∙ rw (length-take len b) (both-leb 3 len (length b))
 
 pub bag-none : (b : Bytes) → toBag (take 0 b) ≡ []
 unfolding toBag chunks

@@ -1,11 +1,16 @@
 -- The step on the tables of a call as something that takes steps, what it asks of the tables and the buffers lent, and the state with its due
 -- moments. Assumes nothing.
 use mathlib.Core.Path.{_≡_}
-use Prim.Native.Nat.{ℕ, _*_, _≤_}
-use mathlib.Core.List.{List}
+use Prim.Native.Nat.{ℕ, _*_, _≤_, _<_}
+use mathlib.Core.List.{List, []}
+use mathlib.Core.Bool.{cond}
+use lib.Dec.{eqb}
+use Rattle.definition.specs.Bytes.{Bytes}
 use Rattle.definition.specs.Limits.{maxComponents, maxGiven, maxRoutes}
 use Rattle.definition.specs.Step.{Simulator}
-use Rattle.definition.specs.Engine.{dueNumber}
+use Rattle.definition.specs.Instant.{Instant, instant}
+use Rattle.definition.specs.Engine.{toBag, dueNumber}
+use Rattle.clock.specs.Times.{latest}
 use Rattle.run_state.specs.declared.State.{State}
 use Rattle.model_records.specs.Values.{phasesIn}
 use Rattle.spec_step.specs.Ranges.{InRange, Seated}
@@ -16,6 +21,14 @@ use Rattle.step_simulator.specs.Simulator.{tableSim}
 -- The slices phases, rules and tables of n atomics, where a bag has room for so many messages.
 abbrev pub simOf : List ℕ → List ℕ → List ℕ → ℕ → ℕ → Simulator State
 simOf phases rules tables n room = tableSim phases rules tables n room
+
+-- "A given bag belongs to the first of them.": what a step is given.
+abbrev pub givenAt : Bytes → ℕ → Bytes
+givenAt given step = cond (eqb step 0) given []
+
+-- The instant at `now` with the given messages, from a state.
+abbrev pub instantOf : List ℕ → List ℕ → List ℕ → ℕ → ℕ → ℕ → Bytes → State → Instant State
+instantOf phases rules tables n room now given st = instant (simOf phases rules tables n room) now (toBag given) st
 
 -- The words lent for an atomic's bag, no more than the largest one needs, and for the root's output bag.
 abbrev pub Lent : ℕ → ℕ → Type 0
@@ -31,3 +44,10 @@ pub record Fit (n : ℕ) (tables : List ℕ) : Type 0 where
 pub record Ready (phases tables : List ℕ) (n : ℕ) (st : State) (ends : List ℕ) (due : ℕ) : Type 0 where
   pub carried : Carried (phasesIn phases) tables n st ends
   pub next : due ≡ dueNumber (tableNext (phasesIn phases) tables st)
+
+-- What the steps at `now` ask: words for the bags, a moment that another may follow, tables in range, and the state's due moments.
+pub record Steppable (phases tables : List ℕ) (n now : ℕ) (st : State) (ends : List ℕ) (due work keys : ℕ) : Type 0 where
+  pub lent : Lent work keys
+  pub moment : now < latest
+  pub fit : Fit n tables
+  pub ready : Ready phases tables n st ends due

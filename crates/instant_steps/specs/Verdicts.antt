@@ -31,5 +31,8 @@ Left jammed st = Unit {0}
 Left (done xs s) st = st ≡ s
 
 -- The answer, the buffer and the state; at most 1,024 steps are counted.
-abbrev pub Judged : ℕ → ℕ → Bytes → Bytes → State → Instant State → Ran → Type 0
-Judged now from out₀ out st i r = (r ≡ ranOf now from i (r .due)) × (r .steps ≤ maxSteps) × Recorded now from out₀ out i × Left i st
+pub record Judged (now from : ℕ) (out₀ out : Bytes) (st : State) (i : Instant State) (r : Ran) : Type 0 where
+  pub answer : r ≡ ranOf now from i (r .due)
+  pub few : r .steps ≤ maxSteps
+  pub recorded : Recorded now from out₀ out i
+  pub left : Left i st

@@ -2,15 +2,13 @@
 // its bytes are counted in any case, so that one function serves a first pass into a small scratch and a second one into the trace.
 ghost use mathlib.Core.Path.{_≡_};
 ghost use mathlib.Core.Bool.{_||_, not};
-ghost use Prim.Native.Nat.{_≤_, _<_};
+ghost use Prim.Native.Nat.{_≤_};
 ghost use lib.Dec.{eqb};
-ghost use lib.ListN.{length, take};
+ghost use lib.ListN.{length};
 ghost use Rattle.definition.specs.Lists.{isEmpty};
-ghost use Rattle.definition.specs.Instant.{instant};
 ghost use Rattle.definition.specs.Engine.{toBag};
-ghost use Rattle.clock.specs.Times.{latest};
 ghost use Rattle.run_state.specs.Held.{held};
-ghost use Rattle.instant_steps.specs.Sim.{simOf, Lent, Fit, Ready};
+ghost use Rattle.instant_steps.specs.Sim.{instantOf, givenAt, Ready, Steppable};
 ghost use Rattle.instant_steps.specs.Verdicts.{Judged};
 ghost use Rattle.instant_steps.specs.declared.Verdict.the-variants as VV;
 use clock::Moment;
@@ -41,22 +39,28 @@ pub struct Ran {
 }
 
 // "A step is taken if something is due or the given bag is not empty"
-fn goes_on(due: u64, at: Moment, bag: &[u8], len: usize) -> bool
-    ensures { λ r. ⌜ r ≡ (eqb due (at .0) || not (isEmpty (toBag (take len (now (bag .entry)))))) ⌝ }
+fn goes_on(due: u64, at: Moment, given: &[u8]) -> bool
+    ensures { λ r. ⌜ r ≡ (eqb due (at .0) || not (isEmpty (toBag (now (given .entry))))) ⌝ }
 {
-    (due == at.0) | ((MESSAGE_SIZE <= len) & (MESSAGE_SIZE <= bag.len()))
+    (due == at.0) | (MESSAGE_SIZE <= given.len())
 }
 
-// The instant at a moment with the first `len` bytes of a bag, its records put from `from` on; `due` is when the state is next due. The
-// state is changed in place: where the instant does not stand, what it holds afterwards is left open.
+// "A given bag belongs to the first of them."
+fn given_at<'a>(given: &'a [u8], step: u64) -> &'a [u8]
+    ensures { λ r. ⌜ now r ≡ givenAt (now (given .entry)) step ⌝ }
+{
+    if step == 0 { given } else { &given[..0] }
+}
+
+// The instant at a moment with the given messages, its records put from `from` on; `due` is when the state is next due. The state is
+// changed in place: where the instant does not stand, what it holds afterwards is left open.
 pub fn instant(
     phases: &[u8],
     rules: &[u8],
     tables: &[u16; TABLE_SIZE],
     n: u8,
     at: Moment,
-    bag: &[u8],
-    len: usize,
+    given: &[u8],
     phase: &mut [u8; MAX_COMPONENTS],
     last: &mut [u64; MAX_COMPONENTS],
     ends: &mut [u64; MAX_COMPONENTS],
@@ -66,19 +70,18 @@ pub fn instant(
     out: &mut [u8],
     from: usize,
 ) -> Ran
-    requires { ⌜ Lent (length (now work)) (length (now keys)) × (from ≤ length (now out)) × (at .0 < latest) × Fit n (now tables)
-        × Ready (now phases) (now tables) n (held (now phase) (now last)) (now ends) due ⌝ }
+    requires { ⌜ Steppable (now phases) (now tables) n (at .0) (held (now phase) (now last)) (now ends) due (length (now work)) (length (now keys))
+        × (from ≤ length (now out)) ⌝ }
     ensures { λ r. ⌜ Judged (at .0) from (now (out .entry)) (now (out .exit)) (held (now (phase .exit)) (now (last .exit)))
-        (instant (simOf (now (phases .entry)) (now (rules .entry)) (now (tables .entry)) n (length (now (work .entry))))
-        (at .0) (toBag (take len (now (bag .entry)))) (held (now (phase .entry)) (now (last .entry)))) r
+        (instantOf (now (phases .entry)) (now (rules .entry)) (now (tables .entry)) n (length (now (work .entry)))
+        (at .0) (now (given .entry)) (held (now (phase .entry)) (now (last .entry)))) r
         × (r .verdict ≡ VV.Stands → Ready (now (phases .entry)) (now (tables .entry)) n (held (now (phase .exit)) (now (last .exit))) (now (ends .exit)) (r .due)) ⌝ }
 {
     let mut next = due;
-    let mut given = len;
     let mut used = from;
     let mut over = false;
     let mut k: u64 = 0;
-    while goes_on(next, at, bag, given) {
+    while goes_on(next, at, given_at(given, k)) {
         if k == MAX_STEPS {
             return Ran {
                 verdict: Verdict::Jammed,
@@ -96,15 +99,13 @@ pub fn instant(
             last,
             ends,
             at,
-            bag,
-            given,
+            given_at(given, k),
             work,
             keys,
         );
         over = over | (MAX_ROOT_BAG < count);
         used = put_step(out, used, at, k, keys, count);
         next = next_end(tables, ends);
-        given = 0;
         k = k + 1;
     }
     if over {

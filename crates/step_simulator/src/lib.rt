@@ -178,8 +178,8 @@ fn step_marked(
     root_bag(phases, tables, marks, reached, keys, work)
 }
 
-// One step of n atomics at a moment, their phases, last moments and due moments changed in place, with the given messages in the first `len` bytes of
-// `bag`. An atomic's bag has room for as many messages as `work` has words, and the root's, which stands sorted in `keys`, for a
+// One step of n atomics at a moment, their phases, last moments and due moments changed in place, with the given
+// messages. An atomic's bag has room for as many messages as `work` has words, and the root's, which stands sorted in `keys`, for a
 // quarter. What `work` and the rest of `keys` hold afterwards is left open.
 pub fn step_once(
     phases: &[u8],
@@ -190,19 +190,17 @@ pub fn step_once(
     last: &mut [u64; MAX_COMPONENTS],
     ends: &mut [u64; MAX_COMPONENTS],
     at: Moment,
-    bag: &[u8],
-    len: usize,
+    given: &[u8],
     work: &mut [u32],
     keys: &mut [u32],
 ) -> usize
     requires { ⌜ (n ≤ maxComponents) × (at .0 < latest) × InRange (now tables) × (length (now keys) ≡ rootRoom (length (now work)))
         × Carried (phasesIn (now phases)) (now tables) n (held (now phase) (now last)) (now ends) ⌝ }
-    ensures { λ r. ⌜ (held (now (phase .exit)) (now (last .exit)) ≡ tableStep (now (phases .entry)) (now (rules .entry)) (now (tables .entry)) n (length (now (work .entry))) (at .0) (toBag (take len (now (bag .entry)))) (held (now (phase .entry)) (now (last .entry))) .state)
+    ensures { λ r. ⌜ (held (now (phase .exit)) (now (last .exit)) ≡ tableStep (now (phases .entry)) (now (rules .entry)) (now (tables .entry)) n (length (now (work .entry))) (at .0) (toBag (now (given .entry))) (held (now (phase .entry)) (now (last .entry))) .state)
         × Carried (phasesIn (now (phases .entry))) (now (tables .entry)) n (held (now (phase .exit)) (now (last .exit))) (now (ends .exit))
-        × (r ≡ length (tableStep (now (phases .entry)) (now (rules .entry)) (now (tables .entry)) n (length (now (work .entry))) (at .0) (toBag (take len (now (bag .entry)))) (held (now (phase .entry)) (now (last .entry))) .out))
-        × (map messageOf (take r (now (keys .exit))) ≡ sortBy messageLe (tableStep (now (phases .entry)) (now (rules .entry)) (now (tables .entry)) n (length (now (work .entry))) (at .0) (toBag (take len (now (bag .entry)))) (held (now (phase .entry)) (now (last .entry))) .out)) ⌝ }
+        × (r ≡ length (tableStep (now (phases .entry)) (now (rules .entry)) (now (tables .entry)) n (length (now (work .entry))) (at .0) (toBag (now (given .entry))) (held (now (phase .entry)) (now (last .entry))) .out))
+        × (map messageOf (take r (now (keys .exit))) ≡ sortBy messageLe (tableStep (now (phases .entry)) (now (rules .entry)) (now (tables .entry)) n (length (now (work .entry))) (at .0) (toBag (now (given .entry))) (held (now (phase .entry)) (now (last .entry))) .out)) ⌝ }
 {
-    let given = little_endian::front(bag, len);
     let mut due = [0u32; MAX_COMPONENTS];
     let mut flags = [0u32; MAX_COMPONENTS];
     step_marks::mark(tables, n, phase, ends, at, &mut due);

@@ -48,7 +48,7 @@ advance-from-requires c κs =
     let f = c .before .before .before .before .before .before .before .before .before in
     let given = f .before .before .before .before .before .before .before .before .before .before .before .before in
     let r = checked-room (file f) (counts f) (bytes f) (told f) (given .args .run .now) (given .args .t .0) (given .args .bag .now) (given .args .count) (given .pre .2) (given .pre .3) _ (given .pre .1) in
-    (given .pre .4, r .0, r .1, r .2)
+    record { lent = given .pre .4; moment = r .0; fit = r .1; run-fits = r .2 }
 
 same-length : tie.Need-same-length
 same-length c = search needs

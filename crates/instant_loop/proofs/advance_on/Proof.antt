@@ -1,229 +1,233 @@
 -- The turns left give from here what all of them give from the start, and the trace beyond the records is as lent; a turn keeps that
--- (`goes-on`), or it ends the call (`ends-stop`, `ends-last`). The due moments go along with the state (`Ready`). Instants and steps have
--- room for the turns left, so that no sum overflows.
+-- (`goes-turn`), or it ends the call (`ends-turn`). The due moments go along with the state (`Ready`). Instants and steps have room for the
+-- turns left, so that no sum overflows.
 use borrow.Author.Needs.{needs}
 use native.Mathlib.Omega.{arith}
-use Rattle.instant_steps.proofs.Sofar.{lent-kept, ready-next}
 use denote.Ref.{now}
-use mathlib.Core.Path.{_≡_, _∙_, refl, sym, subst}
-use Prim.Native.Nat.{ℕ, suc, _≤_, _*_, _+_}
-use lib.ListN.{length, take}
-use lib.Seq.{take-length}
-use Rattle.instant_loop.proofs.Turns.{nextOf, next-as, ends-last, ends-stop, goes-on}
-use Rattle.law_base.proofs.Turns.{no-turn}
-use Rattle.instant_attempt.specs.Progress.{progressOf, Beyond, Attempted}
-use Rattle.instant_steps.proofs.Steps.{bag-none}
-use Rattle.instant_steps.specs.Sim.{simOf, Ready}
-use Rattle.clock.specs.Times.{latest}
-use Rattle.run_state.specs.declared.State.{State}
-use Rattle.run_state.specs.Held.{held}
+use mathlib.Core.Path.{_≡_, _∙_, refl, sym, ap, subst}
+use mathlib.Core.Bool.{Bool, true, false, cond}
+use Prim.Native.Nat.{ℕ, suc, _≤_, _*_, _+_, _-_}
+use lib.Dec.{ltb}
+use lib.ListN.{length}
+use borrow.Author.Tests.{ltb-true}
 use Rattle.definition.specs.Bytes.{Bytes}
 use Rattle.definition.specs.Step.{Simulator}
 use Rattle.definition.specs.Engine.{toBag}
 use Rattle.definition.specs.Instant.{instant}
-use Rattle.definition.specs.Advance.{Ended, advancing}
-use Rattle.definition.specs.Limits.{maxSteps}
+use Rattle.definition.specs.Advance as Definition
+use Rattle.law_base.proofs.Turns.{no-turn}
+use Rattle.run_state.specs.declared.State.{State}
+use Rattle.run_state.specs.Held.{held}
+use Rattle.instant_steps.specs.Sim.{simOf}
+use Rattle.instant_steps.proofs.Sofar.{lent-kept, ready-next}
+use Rattle.instant_attempt.specs.Progress.{progressOf, Tried}
+use Rattle.instant_loop.specs.Ends.{givenTo, advancingOf}
+use Rattle.instant_loop.proofs.Turns.{nextOf, next-as, next-most, ends-turn, goes-turn, Turning}
 use Rattle.instant_loop.proofs.advance_on.Statement.{statement}
 use Rattle.instant_loop.proofs.advance_on.Tie as tie
 
 abbrev Inv-loop : tie.InvT-loop
-Inv-loop phases rules tables n t bag phase₀ last₀ ends₀ work₀ keys₀ scratch₀ trace₀ g₀ due₀ left₀ phase last ends work keys scratch trace g due left =
-    (left ≤ suc (t .0)) × (length work ≡ length work₀) × (length keys ≡ length keys₀) × (length scratch ≡ length scratch₀) × (g .instants + left ≤ latest) × (g .steps + maxSteps * left ≤ latest) × Beyond trace₀ trace (g .used) × (advancing (simOf phases rules tables n (length work₀)) (length trace₀) (t .0) (toBag bag) left (progressOf trace (held phase last) g) ≡ advancing (simOf phases rules tables n (length work₀)) (length trace₀) (t .0) (toBag bag) (suc (t .0)) (progressOf trace₀ (held phase₀ last₀) g₀)) × Ready phases tables n (held phase last) ends due
+Inv-loop phases rules tables n t bag phase₀ last₀ ends₀ work₀ keys₀ scratch₀ trace₀ p₀ due₀ left₀ phase last ends work keys scratch trace p due left =
+    Turning phases rules tables n (t .0) bag p₀ (held phase₀ last₀) work₀ keys₀ scratch₀ trace₀ p (held phase last) ends work keys scratch trace due left
 
 abbrev μ-loop : tie.MeasureT-loop
-μ-loop phases rules tables n t bag phase₀ last₀ ends₀ work₀ keys₀ scratch₀ trace₀ g₀ due₀ left₀ phase last ends work keys scratch trace g due left =
+μ-loop phases rules tables n t bag phase₀ last₀ ends₀ work₀ keys₀ scratch₀ trace₀ p₀ due₀ left₀ phase last ends work keys scratch trace p due left =
     left
 
--- ---- a turn
-
--- What takes the steps.
-abbrev sim : tie.After-next-moment Inv-loop μ-loop → Simulator State
-sim c = simOf (now (c .before .before .before .before .before .before .before .before .before .before .before .before .before .args .phases)) (now (c .before .before .before .before .before .before .before .before .before .before .before .before .before .args .rules)) (now (c .before .before .before .before .before .before .before .before .before .before .before .before .before .args .tables)) (c .before .before .before .before .before .before .before .before .before .before .before .before .before .args .n) (length (now (c .before .before .before .before .before .before .before .before .before .before .before .before .before .args .work)))
-
--- What all turns give from the start.
-abbrev whole : tie.After-next-moment Inv-loop μ-loop → Ended State
-whole c = advancing (sim c) (length (now (c .before .before .before .before .before .before .before .before .before .before .before .before .before .args .trace))) (c .before .before .before .before .before .before .before .before .before .before .before .before .before .args .t .0) (toBag (now (c .before .before .before .before .before .before .before .before .before .before .before .before .before .args .bag))) (suc (c .before .before .before .before .before .before .before .before .before .before .before .before .before .args .t .0)) (progressOf (now (c .before .before .before .before .before .before .before .before .before .before .before .before .before .args .trace)) (held (now (c .before .before .before .before .before .before .before .before .before .before .before .before .before .args .phase)) (now (c .before .before .before .before .before .before .before .before .before .before .before .before .before .args .last))) (c .before .before .before .before .before .before .before .before .before .before .before .before .before .args .from))
-
--- The state at the turn.
-abbrev state : tie.After-next-moment Inv-loop μ-loop → State
-state c = held (c .before .before .loop .phase) (c .before .before .loop .last)
-
-next : (c : tie.After-next-moment Inv-loop μ-loop) → c .next-moment .result .0 ≡ nextOf (sim c .next (state c)) (c .before .before .before .before .before .before .before .before .before .before .before .before .before .args .t .0)
-next c =
-    let l = c .before .before .loop in
-    next-as (sim c .next (state c)) (l .due) (c .before .before .before .before .before .before .before .before .before .before .before .before .before .args .t .0) (c .next-moment .result .0) (l .inv .8 .next) (omega (arith, c .before .before .before .before .before .before .before .before .before .before .before .before .before .pre .1)) (c .next-moment .ensures)
-
--- ---- the needs
-
 next-end-requires : tie.Need-next-end-requires Inv-loop μ-loop
-next-end-requires c κs = c .before .before .before .before .before .before .before .before .pre .5 .in-range
-
-add-left : tie.Need-add-left Inv-loop μ-loop
-add-left c = record { fits = omega (arith, c .before .before .before .before .before .before .before .before .before .before .pre .1) }
+next-end-requires c κs =
+    let start : tie.Start Inv-loop μ-loop = search in
+    start .pre .fit .in-range
 
 loop-holds : tie.Need-loop-holds Inv-loop μ-loop
 loop-holds c =
-    let a = c .before .before .before .before .before .before .before .before .before .before .args in
-    let q = c .before .before .before .before .before .before .before .before .before .before .pre in
-    let o : a .t .0 + 1 ≡ suc (a .t .0) = omega arith in (
-      omega arith,
-      refl,
-      refl,
-      refl,
-      omega (arith, q .3),
-      omega (arith, q .4),
-      (q .2, refl, refl),
-      rw o,
-      ready-next (now (a .phases)) (now (a .tables)) (a .n) (held (now (a .phase)) (now (a .last))) (now (a .ends)) (c .before .next-end .result) (q .5) (q .6) (c .before .next-end .ensures),
-    )
+    let first : tie.After-next-end Inv-loop μ-loop = search in
+    let start : tie.Start Inv-loop μ-loop = search in
+    let a = start .args in
+    let q = start .pre in
+    let o : a .t .0 + 1 ≡ suc (a .t .0) = omega arith in record {
+      turns = omega arith;
+      words = refl;
+      rows = refl;
+      bytes = refl;
+      instants = omega (arith, q .instants);
+      steps = omega (arith, q .steps);
+      beyond = record { within = q .used; size = refl; same = refl };
+      from-here = rw o;
+      ready = ready-next (now (a .phases)) (now (a .tables)) (a .n) (held (now (a .phase)) (now (a .last))) (now (a .ends)) (first .next-end .result) (q .fit) (q .carried)
+          (first .next-end .ensures);
+    }
+
+-- ---- a turn
+
+abbrev start-of : tie.At-loop Inv-loop μ-loop → tie.Start Inv-loop μ-loop
+start-of c = search
+
+-- What takes the steps.
+abbrev sim : tie.At-loop Inv-loop μ-loop → Simulator State
+sim c = let a = start-of c .args in simOf (now (a .phases)) (now (a .rules)) (now (a .tables)) (a .n) (length (now (a .work)))
+
+-- What all turns give from the start.
+abbrev whole : tie.At-loop Inv-loop μ-loop → Definition.Ended State
+whole c =
+    let a = start-of c .args in
+    advancingOf (now (a .phases)) (now (a .rules)) (now (a .tables)) (a .n) (length (now (a .work))) (length (now (a .trace))) (a .t .0) (now (a .bag)) (suc (a .t .0))
+    (progressOf (now (a .trace)) (held (now (a .phase)) (now (a .last))) (a .from))
+
+-- The state at the turn.
+abbrev state : tie.At-loop Inv-loop μ-loop → State
+state c = held (c .loop .phase) (c .loop .last)
+
+abbrev loop-of : tie.After-next-moment Inv-loop μ-loop → tie.At-loop Inv-loop μ-loop
+loop-of c = search
+
+next : (c : tie.After-next-moment Inv-loop μ-loop) → c .next-moment .result .0 ≡ nextOf (sim (loop-of c) .next (state (loop-of c))) (start-of (loop-of c) .args .t .0)
+next c =
+    let p = loop-of c in
+    let s = start-of p in
+    let l = p .loop in
+    next-as (sim p .next (state p)) (l .due) (s .args .t .0) (c .next-moment .result .0) (l .inv .ready .next) (omega (arith, s .pre .moment)) (c .next-moment .ensures)
+
+-- It is at t or before.
+most : (c : tie.After-next-moment Inv-loop μ-loop) → c .next-moment .result .0 ≤ start-of (loop-of c) .args .t .0
+most c =
+    let p = loop-of c in
+    next-most (p .loop .due) (start-of p .args .t .0) (c .next-moment .result .0) (c .next-moment .ensures)
 
 next-moment-requires : tie.Need-next-moment-requires Inv-loop μ-loop
 next-moment-requires c κs = search needs
 
+given-to-requires : tie.Need-given-to-requires Inv-loop μ-loop
+given-to-requires c κs = search needs
+
 attempt-requires : tie.Need-attempt-requires Inv-loop μ-loop
 attempt-requires c κs =
-    let l = c .before .before .before .before .before .before .before .before .before .before .before .before .loop in
-    let q = c .before .before .before .before .before .before .before .before .before .before .before .before .before .before .before .before .before .before .before .before .before .before .before .pre in
-    (lent-kept (l .inv .1) (l .inv .2) (q .0), omega (arith, l .inv .6 .0, l .inv .6 .1), omega (arith, q .1), omega (arith, l .inv .4, c .before .before .before .before .before .before .before .before .before .before .before .loop-test .taken), omega (arith, l .inv .5, c .before .before .before .before .before .before .before .before .before .before .before .loop-test .taken), q .5, l .inv .8)
+    let moment : tie.After-next-moment Inv-loop μ-loop = search in
+    let test : tie.In-loop Inv-loop μ-loop = search in
+    let p = loop-of moment in
+    let q = start-of p .pre in
+    let v = p .loop .inv in
+    let l = test .loop-test .taken in (
+      record { lent = lent-kept (v .words) (v .rows) (q .lent); moment = omega (arith, most moment, q .moment); fit = q .fit; ready = v .ready },
+      record { used = omega (arith, v .beyond .within, v .beyond .size); instants = omega (arith, v .instants, l); steps = omega (arith, v .steps, l) },
+    )
+
+-- ---- the instant tried
+
+abbrev moment-of : tie.After-attempt Inv-loop μ-loop → tie.After-next-moment Inv-loop μ-loop
+moment-of c = search
+
+abbrev given-of : tie.After-attempt Inv-loop μ-loop → tie.After-given-to Inv-loop μ-loop
+given-of c = search
+
+abbrev test-of : tie.After-next-moment Inv-loop μ-loop → tie.In-loop Inv-loop μ-loop
+test-of c = search
+
+abbrev turn-of : tie.After-attempt Inv-loop μ-loop → tie.At-loop Inv-loop μ-loop
+turn-of c = loop-of (moment-of c)
+
+-- The state and the trace after it.
+abbrev changed : tie.After-attempt Inv-loop μ-loop → State
+changed c = held (c .attempt .last .1 .1 .1 .1 .1 .1 .1 .0) (c .attempt .last .1 .1 .1 .1 .1 .1 .1 .1 .0)
+
+abbrev written : tie.After-attempt Inv-loop μ-loop → Bytes
+written c = c .attempt .last .1 .1 .1 .1 .1 .1 .1 .1 .1 .1 .1 .1 .1 .1 .0
+
+-- It was tried on the words of the start, with what t is given.
+tried : (c : tie.After-attempt Inv-loop μ-loop)
+    → Tried (moment-of c .next-moment .result .0) (turn-of c .loop .p) (state (turn-of c)) (changed c) (turn-of c .loop .trace) (written c)
+    (instant (sim (turn-of c)) (moment-of c .next-moment .result .0) (toBag (givenTo (now (start-of (turn-of c) .args .bag)) (moment-of c .next-moment .result .0) (start-of (turn-of c) .args .t .0))) (state (turn-of c)))
+    (c .attempt .result)
+tried c =
+    let p = turn-of c in
+    let a = start-of p .args in
+    let l = p .loop in
+    let v = moment-of c .next-moment .result .0 in
+    let given = now (given-of c .given-to .result) in
+    subst (λ (s : Bytes). Tried v (l .p) (state p) (changed c) (l .trace) (written c) (instant (sim p) v (toBag s) (state p)) (c .attempt .result)) (given-of c .given-to .ensures)
+    (subst (λ (m : ℕ). Tried v (l .p) (state p) (changed c) (l .trace) (written c) (instant (simOf (now (a .phases)) (now (a .rules)) (now (a .tables)) (a .n) m) v (toBag given) (state p)) (c .attempt .result))
+    (l .inv .words) (c .attempt .ensures .0))
 
 finish-requires : tie.Need-finish-requires Inv-loop μ-loop
-finish-requires c κs = c .before .before .before .before .before .before .before .before .before .before .before .before .before .before .before .before .before .before .before .before .before .before .before .before .before .before .before .before .before .before .before .before .pre .1
+finish-requires c κs =
+    let here : tie.After-attempt Inv-loop μ-loop = search in
+    start-of (turn-of here) .pre .moment
 
-same-length : tie.Need-same-length Inv-loop μ-loop
-same-length c = c .before .before .before .before .before .before .before .before .before .attempt .kept .1 .1 .1 .1 .1 .1 .1 .1 .1 .1 .1 .1 .0 ∙ c .before .before .before .before .before .before .before .before .before .before .before .before .before .before .before .before .before .before .before .before .before .before .loop .inv .1
+same-work : tie.Need-same-length Inv-loop μ-loop
+same-work c =
+    let here : tie.After-attempt Inv-loop μ-loop = search in
+    here .attempt .kept .1 .1 .1 .1 .1 .1 .1 .1 .1 .1 .1 .0 ∙ turn-of here .loop .inv .words
 
-same-length-2 : tie.Need-same-length-2 Inv-loop μ-loop
-same-length-2 c = c .before .before .before .before .before .before .before .before .before .attempt .kept .1 .1 .1 .1 .1 .1 .1 .1 .1 .1 .1 .1 .1 .0 ∙ c .before .before .before .before .before .before .before .before .before .before .before .before .before .before .before .before .before .before .before .before .before .before .loop .inv .2
+same-keys : tie.Need-same-length-2 Inv-loop μ-loop
+same-keys c =
+    let here : tie.After-attempt Inv-loop μ-loop = search in
+    here .attempt .kept .1 .1 .1 .1 .1 .1 .1 .1 .1 .1 .1 .1 .0 ∙ turn-of here .loop .inv .rows
 
-same-length-3 : tie.Need-same-length-3 Inv-loop μ-loop
-same-length-3 c = c .before .before .before .before .before .before .before .before .before .attempt .kept .1 .1 .1 .1 .1 .1 .1 .1 .1 .1 .1 .1 .1 .1 .0 ∙ c .before .before .before .before .before .before .before .before .before .before .before .before .before .before .before .before .before .before .before .before .before .before .loop .inv .3
+same-scratch : tie.Need-same-length-3 Inv-loop μ-loop
+same-scratch c =
+    let here : tie.After-attempt Inv-loop μ-loop = search in
+    here .attempt .kept .1 .1 .1 .1 .1 .1 .1 .1 .1 .1 .1 .1 .1 .0 ∙ turn-of here .loop .inv .bytes
 
-same-length-4 : tie.Need-same-length-4 Inv-loop μ-loop
-same-length-4 c = c .before .before .before .before .before .before .before .before .before .attempt .kept .1 .1 .1 .1 .1 .1 .1 .1 .1 .1 .1 .1 .1 .1 .1 .0 ∙ c .before .before .before .before .before .before .before .before .before .before .before .before .before .before .before .before .before .before .before .before .before .before .loop .inv .6 .1
+same-trace : tie.Need-same-length-4 Inv-loop μ-loop
+same-trace c =
+    let here : tie.After-attempt Inv-loop μ-loop = search in
+    here .attempt .kept .1 .1 .1 .1 .1 .1 .1 .1 .1 .1 .1 .1 .1 .1 .0 ∙ turn-of here .loop .inv .beyond .size
 
 returns : tie.Need-returns Inv-loop μ-loop
 returns c =
-    let a = c .before .before .before .before .before .before .before .before .before .before .before .before .before .before .before .before .before .before .before .before .before .before .before .before .before .before .before .before .before .before .before .before .before .args in
-    let p = c .before .before .before .before .before .before .before .before .before .before .before .before .before .before .before .before .before .before .before .before in
-    let l = c .before .before .before .before .before .before .before .before .before .before .before .before .before .before .before .before .before .before .before .before .before .before .loop in
-    let r = c .before .before .before .before .before .before .before .before .before .attempt in
-    let k = sim p in
-    let st = state p in
-    let st′ = held (r .last .1 .1 .1 .1 .1 .1 .1 .1 .0) (r .last .1 .1 .1 .1 .1 .1 .1 .1 .1 .0) in
-    let tr = r .last .1 .1 .1 .1 .1 .1 .1 .1 .1 .1 .1 .1 .1 .1 .1 .0 in
-    let tried = subst (λ (m : ℕ). Attempted (a .t .0) (l .g) st st′ (l .trace) tr (instant (simOf (now (a .phases)) (now (a .rules)) (now (a .tables)) (a .n) m) (a .t .0) (toBag (take (length (now (a .bag))) (now (a .bag)))) st) (r .result)) (l .inv .1) (r .ensures .0) in
-    let whole-bag = subst (λ (b : Bytes). Attempted (a .t .0) (l .g) st st′ (l .trace) tr (instant k (a .t .0) (toBag b) st) (r .result)) (take-length (now (a .bag))) tried in
-    ends-last k (a .t .0) (toBag (now (a .bag))) (whole p) (now (a .trace)) (l .trace) st (l .g) (l .left) (c .before .before .before .before .before .before .before .before .before .before .before .before .before .before .before .before .before .before .before .before .before .loop-test .taken) (l .inv .7) (l .inv .6) tr st′ (r .result) (c .before .before .before .before .before .before .before .before .before .before .before .before .before .before .before .before .before .before .before .before .next-moment .result .0) (next p) whole-bag (c .before .before .before .before .before .before .before .before .before .before .before .before .before .before .before .before .before .if1 .taken) (c .finish .result) (c .finish .ensures)
-
-attempt-requires-2 : tie.Need-attempt-requires-2 Inv-loop μ-loop
-attempt-requires-2 c κs =
-    let l = c .before .before .before .before .before .before .before .before .before .before .before .before .loop in
-    let q = c .before .before .before .before .before .before .before .before .before .before .before .before .before .before .before .before .before .before .before .before .before .before .before .pre in
-    (lent-kept (l .inv .1) (l .inv .2) (q .0), omega (arith, l .inv .6 .0, l .inv .6 .1), omega (arith, c .before .before .before .before .before .before .before .if1 .left, q .1), omega (arith, l .inv .4, c .before .before .before .before .before .before .before .before .before .before .before .loop-test .taken), omega (arith, l .inv .5, c .before .before .before .before .before .before .before .before .before .before .before .loop-test .taken), q .5, l .inv .8)
-
--- The instant before t, tried on the room of the start.
-tried : (c : tie.After-attempt2 Inv-loop μ-loop)
-    → Attempted (c .before .before .before .before .before .before .before .before .before .before .before .next-moment .result .0) (c .before .before .before .before .before .before .before .before .before .before .before .before .before .loop .g) (state (c .before .before .before .before .before .before .before .before .before .before .before)) (held (c .attempt2 .last .1 .1 .1 .1 .1 .1 .1 .1 .0) (c .attempt2 .last .1 .1 .1 .1 .1 .1 .1 .1 .1 .0)) (c .before .before .before .before .before .before .before .before .before .before .before .before .before .loop .trace) (c .attempt2 .last .1 .1 .1 .1 .1 .1 .1 .1 .1 .1 .1 .1 .1 .1 .1 .0)
-    (instant (sim (c .before .before .before .before .before .before .before .before .before .before .before)) (c .before .before .before .before .before .before .before .before .before .before .before .next-moment .result .0) (toBag (take 0 (now (c .before .before .before .before .before .before .before .before .before .before .before .before .before .before .before .before .before .before .before .before .before .before .before .before .args .bag)))) (state (c .before .before .before .before .before .before .before .before .before .before .before))) (c .attempt2 .result)
-tried c =
-    let a = c .before .before .before .before .before .before .before .before .before .before .before .before .before .before .before .before .before .before .before .before .before .before .before .before .args in
-    let p = c .before .before .before .before .before .before .before .before .before .before .before in
-    let l = c .before .before .before .before .before .before .before .before .before .before .before .before .before .loop in
-    let r = c .attempt2 in
-    let v = c .before .before .before .before .before .before .before .before .before .before .before .next-moment .result .0 in
-    subst (λ (m : ℕ). Attempted v (l .g) (state p) (held (r .last .1 .1 .1 .1 .1 .1 .1 .1 .0) (r .last .1 .1 .1 .1 .1 .1 .1 .1 .1 .0)) (l .trace) (r .last .1 .1 .1 .1 .1 .1 .1 .1 .1 .1 .1 .1 .1 .1 .1 .0) (instant (simOf (now (a .phases)) (now (a .rules)) (now (a .tables)) (a .n) m) v (toBag (take 0 (now (a .bag)))) (state p)) (r .result)) (l .inv .1) (r .ensures .0)
-
-same-length-5 : tie.Need-same-length-5 Inv-loop μ-loop
-same-length-5 c = c .before .before .before .before .before .before .before .before .before .before .attempt2 .kept .1 .1 .1 .1 .1 .1 .1 .1 .1 .1 .1 .1 .0 ∙ c .before .before .before .before .before .before .before .before .before .before .before .before .before .before .before .before .before .before .before .before .before .before .before .loop .inv .1
-
-same-length-6 : tie.Need-same-length-6 Inv-loop μ-loop
-same-length-6 c = c .before .before .before .before .before .before .before .before .before .before .attempt2 .kept .1 .1 .1 .1 .1 .1 .1 .1 .1 .1 .1 .1 .1 .0 ∙ c .before .before .before .before .before .before .before .before .before .before .before .before .before .before .before .before .before .before .before .before .before .before .before .loop .inv .2
-
-same-length-7 : tie.Need-same-length-7 Inv-loop μ-loop
-same-length-7 c = c .before .before .before .before .before .before .before .before .before .before .attempt2 .kept .1 .1 .1 .1 .1 .1 .1 .1 .1 .1 .1 .1 .1 .1 .0 ∙ c .before .before .before .before .before .before .before .before .before .before .before .before .before .before .before .before .before .before .before .before .before .before .before .loop .inv .3
-
-same-length-8 : tie.Need-same-length-8 Inv-loop μ-loop
-same-length-8 c = c .before .before .before .before .before .before .before .before .before .before .attempt2 .kept .1 .1 .1 .1 .1 .1 .1 .1 .1 .1 .1 .1 .1 .1 .1 .0 ∙ c .before .before .before .before .before .before .before .before .before .before .before .before .before .before .before .before .before .before .before .before .before .before .before .loop .inv .6 .1
-
-returns-2 : tie.Need-returns-2 Inv-loop μ-loop
-returns-2 c =
-    let a = c .before .before .before .before .before .before .before .before .before .before .before .before .before .before .before .before .before .before .before .before .before .before .before .before .before .before .before .before .before .before .before .before .before .before .args in
-    let p = c .before .before .before .before .before .before .before .before .before .before .before .before .before .before .before .before .before .before .before .before .before in
-    let l = c .before .before .before .before .before .before .before .before .before .before .before .before .before .before .before .before .before .before .before .before .before .before .before .loop in
-    let r = c .before .before .before .before .before .before .before .before .before .before .attempt2 in
-    ends-stop (sim p) (a .t .0) (toBag (now (a .bag))) (whole p) (now (a .trace)) (l .trace) (state p) (l .g) (l .left) (c .before .before .before .before .before .before .before .before .before .before .before .before .before .before .before .before .before .before .before .before .before .before .loop-test .taken) (l .inv .7) (l .inv .6) (r .last .1 .1 .1 .1 .1 .1 .1 .1 .1 .1 .1 .1 .1 .1 .1 .0) (held (r .last .1 .1 .1 .1 .1 .1 .1 .1 .0) (r .last .1 .1 .1 .1 .1 .1 .1 .1 .1 .0)) (r .result) (c .before .before .before .before .before .before .before .before .before .before .before .before .before .before .before .before .before .before .before .before .before .next-moment .result .0) (next p) (toBag (take 0 (now (a .bag)))) (bag-none (now (a .bag))) (tried (c .before .before .before .before .before .before .before .before .before .before)) (c .before .before .before .before .before .before .before .before .before .before .before .before .before .before .before .before .before .before .if1 .left) (c .if2 .taken)
+    let test : tie.Then1 Inv-loop μ-loop = search in
+    let here : tie.After-attempt Inv-loop μ-loop = search in
+    let p = turn-of here in
+    let a = start-of p .args in
+    let l = p .loop in
+    ends-turn (sim p) (a .t .0) (toBag (now (a .bag))) (whole p) (now (a .trace)) (l .trace) (state p) (l .p) (l .left) (test-of (moment-of here) .loop-test .taken)
+    (l .inv .from-here) (l .inv .beyond) (written here) (changed here) (here .attempt .result) (moment-of here .next-moment .result .0) (next (moment-of here))
+    (now (a .bag)) refl (tried here) (most (moment-of here)) (test .if1 .taken) (c .finish .result) (c .finish .ensures)
 
 sub-left : tie.Need-sub-left Inv-loop μ-loop
-sub-left c = omega (arith, c .before .before .before .before .before .before .before .before .before .before .before .before .before .before .before .before .before .before .before .before .before .before .before .loop-test .taken)
+sub-left c =
+    let here : tie.After-attempt Inv-loop μ-loop = search in
+    omega (arith, test-of (moment-of here) .loop-test .taken)
 
 loop-less : tie.Need-loop-less Inv-loop μ-loop
-loop-less c = omega (arith, c .before .before .before .before .before .before .before .before .before .before .before .before .before .before .before .before .before .before .before .before .before .before .before .loop-test .taken)
+loop-less c =
+    let here : tie.After-attempt Inv-loop μ-loop = search in
+    omega (arith, test-of (moment-of here) .loop-test .taken)
 
 loop-again : tie.Need-loop-again Inv-loop μ-loop
 loop-again c =
-    let a = c .before .before .before .before .before .before .before .before .before .before .before .before .before .before .before .before .before .before .before .before .before .before .before .before .before .before .before .before .before .before .before .before .before .before .before .args in
-    let p = c .before .before .before .before .before .before .before .before .before .before .before .before .before .before .before .before .before .before .before .before .before .before in
-    let l = c .before .before .before .before .before .before .before .before .before .before .before .before .before .before .before .before .before .before .before .before .before .before .before .before .loop in
-    let r = c .before .before .before .before .before .before .before .before .before .before .before .attempt2 in
-    let on = goes-on (sim p) (a .t .0) (toBag (now (a .bag))) (whole p) (now (a .trace)) (l .trace) (state p) (l .g) (l .left) (c .before .before .before .before .before .before .before .before .before .before .before .before .before .before .before .before .before .before .before .before .before .before .before .loop-test .taken) (l .inv .7) (l .inv .6) (r .last .1 .1 .1 .1 .1 .1 .1 .1 .1 .1 .1 .1 .1 .1 .1 .0) (held (r .last .1 .1 .1 .1 .1 .1 .1 .1 .0) (r .last .1 .1 .1 .1 .1 .1 .1 .1 .1 .0)) (r .result) (c .before .before .before .before .before .before .before .before .before .before .before .before .before .before .before .before .before .before .before .before .before .before .next-moment .result .0) (next p) (toBag (take 0 (now (a .bag)))) (bag-none (now (a .bag))) (tried (c .before .before .before .before .before .before .before .before .before .before .before)) (c .before .before .before .before .before .before .before .before .before .before .before .before .before .before .before .before .before .before .before .if1 .left) (c .before .if2 .left) in (
-      omega arith,
-      r .kept .1 .1 .1 .1 .1 .1 .1 .1 .1 .1 .1 .1 .0 ∙ l .inv .1,
-      r .kept .1 .1 .1 .1 .1 .1 .1 .1 .1 .1 .1 .1 .1 .0 ∙ l .inv .2,
-      r .kept .1 .1 .1 .1 .1 .1 .1 .1 .1 .1 .1 .1 .1 .1 .0 ∙ l .inv .3,
-      omega (arith, c .before .before .before .before .before .before .before .before .before .before .before .before .before .before .before .before .before .before .before .before .before .before .before .loop-test .taken, r .ensures .0 .instants, l .inv .4),
-      omega (arith, c .before .before .before .before .before .before .before .before .before .before .before .before .before .before .before .before .before .before .before .before .before .before .before .loop-test .taken, r .ensures .0 .steps, l .inv .5),
-      on .0,
-      on .1,
-      r .ensures .1,
-    )
+    let test : tie.Else1 Inv-loop μ-loop = search in
+    let here : tie.After-attempt Inv-loop μ-loop = search in
+    let p = turn-of here in
+    let a = start-of p .args in
+    let l = p .loop in
+    let r = here .attempt in
+    let more = test-of (moment-of here) .loop-test .taken in
+    let on = goes-turn (sim p) (a .t .0) (toBag (now (a .bag))) (whole p) (now (a .trace)) (l .trace) (state p) (l .p) (l .left) more
+    (l .inv .from-here) (l .inv .beyond) (written here) (changed here) (r .result) (moment-of here .next-moment .result .0) (next (moment-of here))
+    (now (a .bag)) refl (tried here) (test .if1 .left) in record {
+      turns = omega (arith, l .inv .turns);
+      words = r .kept .1 .1 .1 .1 .1 .1 .1 .1 .1 .1 .1 .0 ∙ l .inv .words;
+      rows = r .kept .1 .1 .1 .1 .1 .1 .1 .1 .1 .1 .1 .1 .0 ∙ l .inv .rows;
+      bytes = r .kept .1 .1 .1 .1 .1 .1 .1 .1 .1 .1 .1 .1 .1 .0 ∙ l .inv .bytes;
+      instants = omega (arith, more, r .ensures .0 .instants, l .inv .instants);
+      steps = omega (arith, more, r .ensures .0 .steps, l .inv .steps);
+      beyond = on .0;
+      from-here = on .1;
+      ready = r .ensures .1;
+    }
 
-same-length-9 : tie.Need-same-length-9 Inv-loop μ-loop
-same-length-9 c = c .before .loop .inv .1
+-- ---- no turn is left
 
-same-length-10 : tie.Need-same-length-10 Inv-loop μ-loop
-same-length-10 c = c .before .loop .inv .2
-
-same-length-11 : tie.Need-same-length-11 Inv-loop μ-loop
-same-length-11 c = c .before .loop .inv .3
-
-same-length-12 : tie.Need-same-length-12 Inv-loop μ-loop
-same-length-12 c = c .before .loop .inv .6 .1
-
-returns-3 : tie.Need-returns-3 Inv-loop μ-loop
-returns-3 c =
-    let a = c .before .before .before .before .before .before .before .before .before .before .before .before .args in
-    let l = c .before .loop in
-    let k = simOf (now (a .phases)) (now (a .rules)) (now (a .tables)) (a .n) (length (now (a .work))) in
-    (sym (no-turn k (length (now (a .trace))) (a .t .0) (toBag (now (a .bag))) (l .left) (progressOf (l .trace) (held (l .phase) (l .last)) (l .g)) (omega arith)) ∙ l .inv .7, l .inv .6)
+returns-2 : tie.Need-returns-2 Inv-loop μ-loop
+returns-2 c =
+    let p : tie.At-loop Inv-loop μ-loop = search in
+    let a = start-of p .args in
+    let l = p .loop in
+    (sym (no-turn (sim p) (length (now (a .trace))) (a .t .0) (toBag (now (a .bag))) (l .left) (progressOf (l .trace) (state p) (l .p)) (omega arith)) ∙ l .inv .from-here, l .inv .beyond)
 
 pub advance-on-spec : {M : Type 1} → statement M
 advance-on-spec =
     tie.close
-    (tie.spec
-    Inv-loop
-    μ-loop
-    next-end-requires
-    add-left
-    loop-holds
-    next-moment-requires
-    attempt-requires
-    finish-requires
-    same-length
-    same-length-2
-    same-length-3
-    same-length-4
-    returns
-    attempt-requires-2
-    same-length-5
-    same-length-6
-    same-length-7
-    same-length-8
-    returns-2
-    sub-left
-    loop-less
-    loop-again
-    same-length-9
-    same-length-10
-    same-length-11
-    same-length-12
-    returns-3)
+    (tie.spec Inv-loop μ-loop next-end-requires (search needs) loop-holds next-moment-requires given-to-requires attempt-requires finish-requires
+    same-work same-keys same-scratch same-trace returns sub-left loop-less loop-again (search needs) (search needs) (search needs) (search needs) returns-2)

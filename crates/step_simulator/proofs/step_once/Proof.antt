@@ -17,9 +17,6 @@ use Prim.Native.Nat.{min}
 use Rattle.step_simulator.proofs.step_once.Statement.{statement}
 use Rattle.step_simulator.proofs.step_once.Tie as tie
 
-front-requires : tie.Need-front-requires
-front-requires c κs = search needs
-
 mark-requires : tie.Need-mark-requires
 mark-requires c κs = search needs
 
@@ -28,27 +25,31 @@ reach-requires c κs = search needs
 
 step-marked-requires : tie.Need-step-marked-requires
 step-marked-requires c κs =
-    let q = c .before .before .before .before .before .before .before .before .before .before .before .before .before .before .before .before .before .before .before .before .pre in
+    let start : tie.Start = search in
+    let q = start .pre in
     (q .0, q .2, omega (arith, q .3), q .4)
-
-same-length : tie.Need-same-length
-same-length c = search needs
-
-same-length-2 : tie.Need-same-length-2
-same-length-2 c = search needs
 
 returns : tie.Need-returns
 returns c =
-    let a = c .before .before .before .before .before .before .before .before .before .before .before .before .before .before .before .before .before .before .before .before .before .before .before .before .before .args in
-    let q = c .before .before .before .before .before .before .before .before .before .before .before .before .before .before .before .before .before .before .before .before .before .before .before .before .before .pre in
+    let after-step : tie.After-step-marked = search in
+    let after-reach : tie.After-reach = search in
+    let after-mark : tie.After-mark = search in
+    let start : tie.Start = search in
+    let a = start .args in
+    let q = start .pre in
     let ps = phasesIn (now (a .phases)) in
     let t = now (a .tables) in
-    let es = c .before .before .before .before .before .before .before .before .before .before .before .before .before .before .before .mark .last .1 .1 .1 .1 .1 .0 in
-    let fs = c .before .before .before .before .before .before .before .before .before .before .before .before .reach .last .1 .1 .1 .0 in
-    let s = c .before .before .before .before .step-marked .ensures in
-    rw (← c .before .before .before .before .before .before .before .before .before .before .before .before .before .before .before .before .before .before .before .front .ensures, step-is ps t (rulesIn (now (a .rules))) (a .n) (length (now (a .work))) (a .at .0) (toBag (now (c .before .before .before .before .before .before .before .before .before .before .before .before .before .before .before .before .before .before .before .front .result))) (held (now (a .phase)) (now (a .last))) (now (a .ends)) es fs (q .4) (q .1) (c .before .before .before .before .before .before .before .before .before .before .before .before .before .before .before .mark .ensures) (c .before .before .before .before .before .before .before .before .before .before .before .before .reach .ensures))
-    (s .0, s .1, s .2 ∙ ap (λ n. min n (length (rootKeys ps t es fs))) (q .3) ∙ count-bag (rootRoom (length (now (a .work)))) (rootKeys ps t es fs), s .3 ∙ ap (λ n. sortBy messageLe (map messageOf (take n (rootKeys ps t es fs)))) (q .3))
+    let es = after-mark .mark .last .1 .1 .1 .1 .1 .0 in
+    let fs = after-reach .reach .last .1 .1 .1 .0 in
+    let s = after-step .step-marked .ensures in
+    rw (step-is ps t (rulesIn (now (a .rules))) (a .n) (length (now (a .work))) (a .at .0) (toBag (now (a .given))) (held (now (a .phase)) (now (a .last)))
+    (now (a .ends)) es fs (q .4) (q .1) (after-mark .mark .ensures) (after-reach .reach .ensures)) (
+      s .0,
+      s .1,
+      s .2 ∙ ap (λ n. min n (length (rootKeys ps t es fs))) (q .3) ∙ count-bag (rootRoom (length (now (a .work)))) (rootKeys ps t es fs),
+      s .3 ∙ ap (λ n. sortBy messageLe (map messageOf (take n (rootKeys ps t es fs)))) (q .3),
+    )
 
 pub step-once-spec : {M : Type 1} → statement M
 step-once-spec =
-    tie.close (tie.spec front-requires mark-requires reach-requires step-marked-requires same-length same-length-2 returns)
+    tie.close (tie.spec mark-requires reach-requires step-marked-requires (search needs) (search needs) returns)

@@ -1,0 +1,87 @@
+-- The first pass over an instant: the number that hinders it, the progress after it, and what it leaves in the state and in the scratch. Assumes nothing.
+use mathlib.Core.Path.{_≡_}
+use mathlib.Core.List.{List}
+use mathlib.Core.Bool.{Bool, true, false, _&&_, cond}
+use Prim.Native.Nat.{ℕ, _+_, _-_, _≤_}
+use lib.Dec.{eqb, leb, ltb}
+use lib.ListN.{length}
+use Rattle.definition.specs.Bytes.{Bytes, refused}
+use Rattle.definition.specs.Limits.{maxSteps}
+use Rattle.definition.specs.Model.{Bag}
+use Rattle.definition.specs.Instant.{Instant, done, over, instantTrace}
+use Rattle.definition.specs.Advance.{tried}
+use Rattle.run_state.specs.declared.State.{State}
+use Rattle.instant_steps.specs.Sim.{Ready}
+use Rattle.instant_steps.specs.Verdicts.{Recorded, Left}
+use Rattle.instant_steps.specs.declared.Ran.{Ran}
+use Rattle.instant_steps.specs.declared.Verdict.{Verdict}
+use Rattle.instant_steps.specs.declared.Verdict.the-variants as VV
+use Rattle.instant_attempt.specs.Progress.{progressOf}
+use Rattle.instant_attempt.specs.declared.Progress.{Progress}
+use Rattle.instant_attempt.specs.declared.Ended.{Ended}
+
+-- ---- the answer
+
+abbrev pub numberOf : ℕ → ℕ → Verdict → ℕ
+numberOf room used VV.Jammed = 13
+numberOf room used VV.Over = 14
+numberOf room used VV.Stands = cond (ltb room used) 15 0
+
+-- "13 something still due there after 1,024 steps; then 14 a step's root bag over 4,096 messages; then 15 records pass the end of
+-- the lent trace", of which `room` bytes are left; 0 where nothing hinders the instant.
+unfoldable pub hindranceOf : ℕ → Ran → ℕ
+hindranceOf room ran = numberOf room (ran .used) (ran .verdict)
+
+-- The progress with an instant of so many steps, its records of so many bytes. "A moment without a step is no instant and is not counted."
+unfoldable pub afterOf : ℕ → Progress → ℕ → ℕ → Progress
+afterOf now p steps size =
+    cond (eqb steps 0) p
+    (record { opening = record { 0 = now + 1 }; instants = p .instants + 1; steps = p .steps + steps; used = p .used + size })
+
+-- Where the instant ends, by its first pass.
+unfoldable pub endedBy : ℕ → ℕ → Progress → ℕ → Ran → Ended
+endedBy room now p due ran =
+    cond (eqb (hindranceOf room ran) 0) (record { number = 0; progress = afterOf now p (ran .steps) (ran .used); due = ran .due })
+    (record { number = hindranceOf room ran; progress = p; due = due })
+
+-- A number leaves the instant undone.
+pub record Hindered (now : ℕ) (p : Progress) (due : ℕ) (st₀ : State) (trace : Bytes) (i : Instant State) (r : Ended) : Type 0 where
+  pub same : refused (r .number) ≡ tried (length trace) now (progressOf trace st₀ p) i
+  pub progress : r .progress ≡ p
+  pub still-due : r .due ≡ due
+
+-- The instant stands: its bags and the state that it leaves, room for its records, and the progress q with it.
+pub record Stands (now : ℕ) (p : Progress) (room : ℕ) (i : Instant State) (q : Progress) : Type 0 where
+  pub bags : List Bag
+  pub end : State
+  pub same : i ≡ done bags end
+  pub fit : over bags ≡ false
+  pub few : length bags ≤ maxSteps
+  pub within : p .used + length (instantTrace now bags) ≤ room
+  pub progress : q ≡ afterOf now p (length bags) (length (instantTrace now bags))
+
+pub record Ends (now : ℕ) (p : Progress) (due : ℕ) (st₀ : State) (trace : Bytes) (i : Instant State) (r : Ended) : Type 0 where
+  pub hindered : (r .number ≡ 0 → ⊥) → Hindered now p due st₀ trace i r
+  pub stands : r .number ≡ 0 → Stands now p (length trace) i (r .progress)
+
+-- ---- the state and the scratch
+
+-- The instant stands, and its records fit into a scratch of so many bytes.
+abbrev pub inScratch : Progress → ℕ → Ended → Bool
+inScratch p size r = eqb (r .number) 0 && leb (r .progress .used - p .used) size
+
+-- The state is the instant's, and its records are in the scratch.
+pub record Kept (phases tables : List ℕ) (n now : ℕ) (st : State) (ends scratch₀ scratch : List ℕ) (i : Instant State) (r : Ended) : Type 0 where
+  pub left : Left i st
+  pub recorded : Recorded now 0 scratch₀ scratch i
+  pub ready : Ready phases tables n st ends (r .due)
+
+-- The state is the one before the instant.
+pub record Back (phases tables : List ℕ) (n : ℕ) (st₀ st : State) (ends : List ℕ) (due : ℕ) : Type 0 where
+  pub state : st ≡ st₀
+  pub ready : Ready phases tables n st ends due
+
+-- What a pass leaves, by whether its records are in the scratch.
+pub record Leaves (phases tables : List ℕ) (n now : ℕ) (p : Progress) (due : ℕ) (st₀ st : State) (ends scratch₀ scratch : List ℕ) (i : Instant State) (r : Ended) : Type 0 where
+  pub kept : inScratch p (length scratch) r ≡ true → Kept phases tables n now st ends scratch₀ scratch i r
+  pub back : inScratch p (length scratch) r ≡ false → Back phases tables n st₀ st ends due
