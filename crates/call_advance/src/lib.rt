@@ -1,17 +1,12 @@
 // The call advance, whole: the check of the model, the checks of run, time and bag, and the instants.
 ghost use mathlib.Core.Path.{_≡_};
 ghost use lib.ListN.{length};
-ghost use Rattle.definition.specs.Bytes.{ok};
-ghost use Rattle.definition.specs.Model.{atomics};
-ghost use Rattle.definition.specs.Limits.{maxGiven};
 ghost use Rattle.definition.specs.Routes.{routes};
-ghost use Rattle.definition.specs.Pinned.Decoder.{accepted};
-ghost use Rattle.instant_steps.specs.Sim.{Lent};
-ghost use Prim.Native.Nat.{_*_, _≤_};
-ghost use Rattle.definition.specs.Engine.{advanceChecks, advance};
+ghost use Prim.Native.Nat.{_≤_};
+ghost use Rattle.definition.specs.Engine.{advance};
 ghost use Rattle.model_file.specs.Checked.{modelOf};
-ghost use Rattle.spec_step.specs.TablesOf.{TablesOf};
 ghost use Rattle.call_advance.specs.Answers.{advancedOf};
+ghost use Rattle.call_advance.specs.LetIn.{ModelOpened, LetIn, Roomy};
 use clock::Moment;
 use limits::MAX_COMPONENTS;
 use limits::MAX_MOMENT;
@@ -77,9 +72,7 @@ fn advance_let_in(
     work: &mut [u32],
     keys: &mut [u32],
 ) -> Advanced
-    requires { ⌜ (ok (modelOf (now file) n) ≡ accepted (now file)) × TablesOf (modelOf (now file) n) (now tables) × (advanceChecks (modelOf (now file) n) (now run) (t .0) (now bag) ≡ ok tt)
-        × (count ≡ length (atomics (modelOf (now file) n .components)))
-        × Lent (length (now work)) (length (now keys)) × (maxGiven * length (routes (modelOf (now file) n)) ≤ length (now work)) ⌝ }
+    requires { ⌜ LetIn (now file) n (now tables) (now run) count (t .0) (now bag) × Roomy (now file) n (length (now work)) (length (now keys)) ⌝ }
     ensures { λ r. ⌜ advancedOf r (now (run .exit)) (now (trace .exit)) ≡ advance (now (file .entry)) (now (run .entry)) (t .0) (now (bag .entry)) (now (trace .entry)) ⌝ }
 {
     let opening = run_saved::opening_of(run);
@@ -121,9 +114,7 @@ fn advance_few(
     bag: &[u8],
     trace: &mut [u8],
 ) -> Advanced
-    requires { ⌜ (ok (modelOf (now file) n) ≡ accepted (now file)) × TablesOf (modelOf (now file) n) (now tables) × (advanceChecks (modelOf (now file) n) (now run) (t .0) (now bag) ≡ ok tt)
-        × (count ≡ length (atomics (modelOf (now file) n .components)))
-        × (length (routes (modelOf (now file) n)) ≤ 64) ⌝ }
+    requires { ⌜ LetIn (now file) n (now tables) (now run) count (t .0) (now bag) × (length (routes (modelOf (now file) n)) ≤ 64) ⌝ }
     ensures { λ r. ⌜ advancedOf r (now (run .exit)) (now (trace .exit)) ≡ advance (now (file .entry)) (now (run .entry)) (t .0) (now (bag .entry)) (now (trace .entry)) ⌝ }
 {
     let mut work = [0u32; FEW_IN];
@@ -152,8 +143,7 @@ fn advance_many(
     bag: &[u8],
     trace: &mut [u8],
 ) -> Advanced
-    requires { ⌜ (ok (modelOf (now file) n) ≡ accepted (now file)) × TablesOf (modelOf (now file) n) (now tables) × (advanceChecks (modelOf (now file) n) (now run) (t .0) (now bag) ≡ ok tt)
-        × (count ≡ length (atomics (modelOf (now file) n .components))) ⌝ }
+    requires { ⌜ LetIn (now file) n (now tables) (now run) count (t .0) (now bag) ⌝ }
     ensures { λ r. ⌜ advancedOf r (now (run .exit)) (now (trace .exit)) ≡ advance (now (file .entry)) (now (run .entry)) (t .0) (now (bag .entry)) (now (trace .entry)) ⌝ }
 {
     let mut work = [0u32; MOST_IN];
@@ -183,7 +173,7 @@ fn advance_accepted(
     bag: &[u8],
     trace: &mut [u8],
 ) -> Advanced
-    requires { ⌜ (ok (modelOf (now file) n) ≡ accepted (now file)) × TablesOf (modelOf (now file) n) (now tables) × (length (routes (modelOf (now file) n)) ≡ «route_count») ⌝ }
+    requires { ⌜ ModelOpened (now file) n (now tables) «route_count» ⌝ }
     ensures { λ r. ⌜ advancedOf r (now (run .exit)) (now (trace .exit)) ≡ advance (now (file .entry)) (now (run .entry)) t (now (bag .entry)) (now (trace .entry)) ⌝ }
 {
     let components = model_file::components_of(file, n);

@@ -1,10 +1,10 @@
 -- Models that stand on an edge of document 01: a confluent transition that tells both orders and their elapsed times apart, a rule
 -- without an upper end, an instant of exactly 1,024 steps, and one that jams and overruns at once. Assumes nothing.
 use Prim.Native.Nat.{ℕ, suc}
-use mathlib.Core.List.{List, [], _∷_, _++_, map}
+use mathlib.Core.List.{[], _∷_, _++_, map}
 use Rattle.definition.specs.Lists.{upFrom}
 use Rattle.definition.specs.Limits.{neverField}
-use Rattle.definition.specs.Model.{Component, Phase, Rule, Model, noComponent}
+use Rattle.definition.specs.Model.{Rule, Model, noComponent}
 use Rattle.definition.proofs.Models.{message, atomicIn, silent, saying, onValue, link}
 
 -- as `onValue`, at an elapsed time from low to high

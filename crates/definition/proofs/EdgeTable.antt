@@ -1,16 +1,15 @@
 -- Rows that tell near misses of the definitions apart, computed like the worked table on the engine's definitions and on the flat
 -- machine with the flat form. Assumes nothing.
 use mathlib.Core.Path.{_≡_, refl}
-use Prim.Native.Nat.{ℕ}
 use mathlib.Core.List.{List, [], _∷_, _++_, map}
 use mathlib.Core.Bool.{false}
 use Rattle.definition.specs.Limits.{neverField}
 use Rattle.definition.specs.File.{modelBytes}
 use Rattle.definition.specs.Devs.{finite, never, sameTime}
 use Rattle.definition.specs.Flatten.{flat}
-use Rattle.definition.specs.Calls.{Call, startCall, readingCall, startAnswer, advanceAnswer, readingAnswer, engine, flatMachine}
+use Rattle.definition.specs.Calls.{startCall, readingCall, startAnswer, advanceAnswer, readingAnswer, engine, flatMachine}
 use Rattle.definition.proofs.EdgeModels.{onValueAt, colliding, waiting, restlessHeard, counting}
-use Rattle.definition.proofs.Table.{Row, zeros, saved, traced, advanceTo, actual, expected, tabled}
+use Rattle.definition.proofs.Table.{Row, zeros, saved, advanceTo, actual, expected, tabled}
 
 -- A start, and one advance with a bag.
 unfoldable pub edges : List Row

@@ -1,7 +1,6 @@
 -- The two-phase cue source byte by byte: its file in both directions, and the start, run, trace and reading of [A] as literal bytes, on
 -- the engine's definitions and on the flat machine. Bytes past what is written are 9 before and after. Assumes nothing.
 use mathlib.Core.Path.{_≡_, refl}
-use Prim.Native.Nat.{ℕ}
 use mathlib.Core.List.{List, [], _∷_, _++_}
 use lib.ListN.{replicate}
 use Rattle.definition.specs.Bytes.{Bytes, ok}
@@ -10,7 +9,7 @@ use Rattle.definition.specs.Pinned.Decoder.{decode, checkModel}
 use Rattle.definition.specs.Calls.{Call, startCall, readingCall, Answer, startAnswer, advanceAnswer, readingAnswer, runCalls, engine, flatMachine}
 use Rattle.definition.proofs.Models.{cueSource}
 use Rattle.definition.proofs.Table.{advanceTo, single, tabled}
-use Rattle.definition.proofs.Literals.{b2, b3, b4, b5, z, endless, root, literals}
+use Rattle.definition.proofs.Literals.{b2, b3, b4, b5, z, literals}
 
 unfoldable pub cueFile : Bytes
 cueFile =

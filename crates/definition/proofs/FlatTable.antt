@@ -2,7 +2,6 @@
 -- couplings that lead nowhere, a component without children, two ways to one end, and ports whose input and output go different ways. Its
 -- records have different numbers in all their fields, so that the layouts are pinned in both directions. Assumes nothing.
 use mathlib.Core.Path.{_≡_, refl}
-use Prim.Native.Nat.{ℕ}
 use mathlib.Core.List.{[], _∷_, _++_}
 use lib.ListN.{replicate}
 use Rattle.definition.specs.Bytes.{Bytes, ok}
@@ -13,9 +12,9 @@ use Rattle.definition.specs.Pinned.Decoder.{decode}
 use Rattle.definition.specs.Engine.{start}
 use Rattle.definition.specs.Flatten.{flatten}
 use Rattle.definition.specs.FlatMachine.{flatStart}
-use Rattle.definition.proofs.Models.{message, coupledIn, atomicIn, silent, onValue, link}
+use Rattle.definition.proofs.Models.{message, coupledIn, atomicIn, silent, link}
 use Rattle.definition.proofs.Table.{tabled}
-use Rattle.definition.proofs.Literals.{b2, b3, b4, b5, z, endless, still, root, literals}
+use Rattle.definition.proofs.Literals.{b2, b3, b4, b5, z, endless, still, literals}
 
 -- ---- parts of both files
 

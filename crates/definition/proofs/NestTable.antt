@@ -1,12 +1,10 @@
 -- A nest of three levels with repeated couplings, confluent and zero-stay steps, computed on the engine's definitions, on the engine
 -- with the flat form, and on the flat machine. Assumes nothing.
 use mathlib.Core.Path.{_≡_, refl}
-use Prim.Native.Nat.{ℕ}
-use mathlib.Core.List.{List, [], _∷_, _++_}
-use Rattle.definition.specs.Bytes.{Bytes}
+use mathlib.Core.List.{[], _∷_, _++_}
 use Rattle.definition.specs.File.{modelBytes}
 use Rattle.definition.specs.Flatten.{flat}
-use Rattle.definition.specs.Calls.{Call, startCall, readingCall, Answer, startAnswer, advanceAnswer, readingAnswer, runCalls, engine, flatMachine}
+use Rattle.definition.specs.Calls.{startCall, readingCall, startAnswer, advanceAnswer, readingAnswer, runCalls, engine, flatMachine}
 use Rattle.definition.proofs.Models.{nest}
 use Rattle.definition.proofs.Table.{Row, zeros, saved, traced, advanceTo, expected, tabled}
 

@@ -9,7 +9,7 @@ use Rattle.definition.specs.Engine.{start}
 use Rattle.definition.specs.FlatMachine.{flatStart}
 use Rattle.definition.specs.Calls.{Call, readingCall, Answer, advanceAnswer, readingAnswer, Machine, called, engine, flatMachine}
 use Rattle.definition.proofs.Table.{advanceTo, tabled}
-use Rattle.definition.proofs.Literals.{b2, b3, b4, b5, z, endless, still, root, literals}
+use Rattle.definition.proofs.Literals.{b2, b3, b4, b5, z, still, root, literals}
 use Rattle.definition.proofs.FileTable.{cueFile}
 
 -- One atomic: phase 0 never, phase 1 with advance 5.

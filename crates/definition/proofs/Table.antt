@@ -9,7 +9,7 @@ use Rattle.definition.specs.Bytes.{Bytes, bytesOf}
 use Rattle.definition.specs.Model.{Coupling, Model}
 use Rattle.definition.specs.File.{modelBytes}
 use Rattle.definition.specs.Flatten.{flat}
-use Rattle.definition.specs.Calls.{Call, startCall, advanceCall, readingCall, Answer, startAnswer, advanceAnswer, readingAnswer, Machine, runCalls, engine, flatMachine}
+use Rattle.definition.specs.Calls.{Call, startCall, advanceCall, Answer, startAnswer, advanceAnswer, Machine, runCalls, engine, flatMachine}
 use Rattle.definition.proofs.Computing.{computing}
 use Rattle.definition.proofs.Models.{message, coupledIn, atomicIn, silent, saying, saying2, onValue, link, cueSource, restless, nest}
 

@@ -2,15 +2,15 @@
 -- own. Assumes nothing.
 use mathlib.Core.Path.{_≡_, refl}
 use Prim.Native.Nat.{ℕ}
-use mathlib.Core.List.{List, [], _∷_, _++_, map}
+use mathlib.Core.List.{List, [], _∷_, _++_}
 use mathlib.Core.Bool.{true, false}
 use lib.ListN.{replicate}
 use Rattle.definition.specs.Bytes.{Bytes, numberOf}
 use Rattle.definition.specs.Model.{Bag}
 use Rattle.definition.specs.SavedRun.{Entry, noEntry}
-use Rattle.definition.specs.Instant.{Instant, done, jammed, over, instantTrace}
-use Rattle.definition.specs.Advance.{Progress, tried}
-use Rattle.definition.specs.FlatMachine.{Stage, recorded, verdictOn}
+use Rattle.definition.specs.Instant.{done, over, instantTrace}
+use Rattle.definition.specs.Advance.{tried}
+use Rattle.definition.specs.FlatMachine.{recorded, verdictOn}
 use Rattle.definition.proofs.Models.{message, cueSource}
 use Rattle.definition.proofs.Table.{single, tabled}
 use Rattle.definition.proofs.Literals.{b2, b3, z, literals}

@@ -60,7 +60,8 @@ pub record Stands (now : ℕ) (p : Progress) (room : ℕ) (i : Instant State) (q
   pub within : p .used + length (instantTrace now bags) ≤ room
   pub progress : q ≡ afterOf now p (length bags) (length (instantTrace now bags))
 
-pub record Ends (now : ℕ) (p : Progress) (due : ℕ) (st₀ : State) (trace : Bytes) (i : Instant State) (r : Ended) : Type 0 where
+-- Where the instant ends: undone by a number, or standing.
+pub record Decided (now : ℕ) (p : Progress) (due : ℕ) (st₀ : State) (trace : Bytes) (i : Instant State) (r : Ended) : Type 0 where
   pub hindered : (r .number ≡ 0 → ⊥) → Hindered now p due st₀ trace i r
   pub stands : r .number ≡ 0 → Stands now p (length trace) i (r .progress)
 

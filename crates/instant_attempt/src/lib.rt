@@ -8,7 +8,7 @@ ghost use Rattle.model_records.specs.Values.{phasesIn};
 ghost use Rattle.spec_step.specs.Carried.{Carried};
 ghost use Rattle.instant_steps.specs.Sim.{instantOf, Fit, Ready, Steppable};
 ghost use Rattle.instant_attempt.specs.Progress.{Room, Counted, Tried};
-ghost use Rattle.instant_attempt.specs.Pass.{hindranceOf, afterOf, endedBy, Ends, Leaves};
+ghost use Rattle.instant_attempt.specs.Pass.{hindranceOf, afterOf, endedBy, Decided, Leaves};
 use clock::Moment;
 use instant_steps::Ran;
 use instant_steps::Verdict;
@@ -141,7 +141,7 @@ fn first_pass(
 ) -> Ended
     requires { ⌜ Steppable (now phases) (now tables) n (at .0) (held (now phase) (now last)) (now ends) due (length (now work)) (length (now keys))
         × Room p (length (now trace)) ⌝ }
-    ensures { λ r. ⌜ Ends (at .0) p due (held (now (phase .entry)) (now (last .entry))) (now (trace .entry))
+    ensures { λ r. ⌜ Decided (at .0) p due (held (now (phase .entry)) (now (last .entry))) (now (trace .entry))
         (instantOf (now (phases .entry)) (now (rules .entry)) (now (tables .entry)) n (length (now (work .entry)))
         (at .0) (now (given .entry)) (held (now (phase .entry)) (now (last .entry)))) r
         × Leaves (now (phases .entry)) (now (tables .entry)) n (at .0) p due (held (now (phase .entry)) (now (last .entry))) (held (now (phase .exit)) (now (last .exit)))

@@ -13,7 +13,7 @@ use Rattle.definition.specs.Lists.{concat, all, isEmpty, sortBy}
 use Rattle.definition.specs.Bytes.{Bytes}
 use Rattle.definition.specs.Limits.{maxSteps, maxRootBag}
 use Rattle.definition.specs.Model.{Bag, messageLe}
-use Rattle.definition.specs.Step.{Stepped, Simulator}
+use Rattle.definition.specs.Step.{Simulator}
 use Rattle.definition.specs.Instant.{Instant, done, jammed, stepped, isDue, goesOn, stepsAt, instant, over, traceBytes, recordsFrom, instantTrace}
 use Rattle.definition.specs.Engine.{toBag}
 use Rattle.law_base.proofs.Tests.{clash}
@@ -82,10 +82,6 @@ pub record Sofar {S : Type 0} (whole rest : Instant S) (now from : ℕ) (out₀ 
 pub sofar-none : {S : Type 0} (i : Instant S) (now from : ℕ) (out : Bytes) → Sofar i i now from out out 0 from false
 unfolding after over all instantTrace recordsFrom traceBytes concat
 sofar-none i now from out = record { bags = []; count = refl; split = refl; overs = refl; sized = λ h. omega arith; put = λ h l. refl }
-
--- What the code has of a step: the state, how many messages it put out, and their keys.
-abbrev pub Gives : {S : Type 0} → Stepped S → S → ℕ → List ℕ → Type 0
-Gives r s count keys = (s ≡ r .state) × (count ≡ length (r .out)) × (map messageOf (take count keys) ≡ sortBy messageLe (r .out))
 
 -- The keys of a bag stand in the buffer.
 pub keys-hold : (count : ℕ) (ks : List ℕ) (x : Bag) → count ≡ length x → map messageOf (take count ks) ≡ sortBy messageLe x → count ≤ length ks

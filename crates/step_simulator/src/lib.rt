@@ -10,15 +10,14 @@ ghost use Rattle.definition.specs.Lists.{sortBy};
 ghost use Rattle.definition.specs.Model.{messageLe};
 ghost use Rattle.definition.specs.Limits.{maxComponents};
 ghost use Rattle.definition.specs.Engine.{toBag, dueNumber};
-ghost use Rattle.clock.specs.Times.{latest};
 ghost use Rattle.model_records.specs.Values.{phasesIn, rulesIn};
 ghost use Rattle.run_state.specs.Held.{held};
 ghost use Rattle.law_base.specs.Keys.{messageOf};
-ghost use Rattle.spec_step.specs.TableStep.{isUp, dueAtPosition, keysInto, rootKeys, rootRoom, changedBy, changedFrom};
+ghost use Rattle.spec_step.specs.TableStep.{isUp, dueAtPosition, keysInto, rootKeys, changedBy, changedFrom};
 ghost use Rattle.spec_step.specs.Tables.{numbersAt};
 ghost use Rattle.spec_step.specs.Ranges.{InRange};
 ghost use Rattle.spec_step.specs.Carried.{Carried};
-ghost use Rattle.step_simulator.specs.Simulator.{tableStep};
+ghost use Rattle.step_simulator.specs.Simulator.{tableStep, CanStep, HasStepped};
 use clock::Moment;
 use limits::MAX_COMPONENTS;
 use little_endian::size16;
@@ -194,12 +193,10 @@ pub fn step_once(
     work: &mut [u32],
     keys: &mut [u32],
 ) -> usize
-    requires { ⌜ (n ≤ maxComponents) × (at .0 < latest) × InRange (now tables) × (length (now keys) ≡ rootRoom (length (now work)))
-        × Carried (phasesIn (now phases)) (now tables) n (held (now phase) (now last)) (now ends) ⌝ }
-    ensures { λ r. ⌜ (held (now (phase .exit)) (now (last .exit)) ≡ tableStep (now (phases .entry)) (now (rules .entry)) (now (tables .entry)) n (length (now (work .entry))) (at .0) (toBag (now (given .entry))) (held (now (phase .entry)) (now (last .entry))) .state)
-        × Carried (phasesIn (now (phases .entry))) (now (tables .entry)) n (held (now (phase .exit)) (now (last .exit))) (now (ends .exit))
-        × (r ≡ length (tableStep (now (phases .entry)) (now (rules .entry)) (now (tables .entry)) n (length (now (work .entry))) (at .0) (toBag (now (given .entry))) (held (now (phase .entry)) (now (last .entry))) .out))
-        × (map messageOf (take r (now (keys .exit))) ≡ sortBy messageLe (tableStep (now (phases .entry)) (now (rules .entry)) (now (tables .entry)) n (length (now (work .entry))) (at .0) (toBag (now (given .entry))) (held (now (phase .entry)) (now (last .entry))) .out)) ⌝ }
+    requires { ⌜ CanStep (now phases) (now tables) n (at .0) (held (now phase) (now last)) (now ends) (length (now work)) (length (now keys)) ⌝ }
+    ensures { λ r. ⌜ HasStepped (now (phases .entry)) (now (tables .entry)) n (held (now (phase .exit)) (now (last .exit))) (now (ends .exit)) (now (keys .exit)) r
+        (tableStep (now (phases .entry)) (now (rules .entry)) (now (tables .entry)) n (length (now (work .entry)))
+        (at .0) (toBag (now (given .entry))) (held (now (phase .entry)) (now (last .entry)))) ⌝ }
 {
     let mut due = [0u32; MAX_COMPONENTS];
     let mut flags = [0u32; MAX_COMPONENTS];

@@ -7,13 +7,10 @@ use Rattle.accept_routes.proofs.check.Statement.{statement}
 use Rattle.accept_routes.proofs.check.Tie as tie
 
 check-linked-requires : tie.Need-check-linked-requires
-check-linked-requires c κs =
-    (zeros-made, length-replicate {A = ℕ} (maxCouplings + 1) 0)
+check-linked-requires c κs = (zeros-made, length-replicate {A = ℕ} (maxCouplings + 1) 0)
 
 returns : tie.Need-returns
-returns c =
-    c .check-linked .ensures .0
+returns c = c .check-linked .ensures .0
 
 pub check-spec : {M : Type 1} → statement M
-check-spec =
-    tie.close (tie.spec check-linked-requires returns)
+check-spec = tie.close (tie.spec check-linked-requires returns)

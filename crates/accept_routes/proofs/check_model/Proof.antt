@@ -16,5 +16,4 @@ returns c =
     c .refusal .ensures ∙ number-of (now (start .args .file)) (c .before .check .result) ∙ ap numberOf (c .before .check .ensures)
 
 pub check-model-spec : {M : Type 1} → statement M
-check-model-spec =
-    tie.close (tie.spec (λ c κs. search needs) (λ c κs. search needs) returns)
+check-model-spec = tie.close (tie.spec (λ c κs. search needs) (λ c κs. search needs) returns)

@@ -9,8 +9,7 @@ returns c =
     rw (← after-is-atomic .is-atomic .ensures, then1 .if1 .taken, ← c .before .size .ensures) (c .four-ways .ensures)
 
 returns-2 : tie.Need-returns-2
-returns-2 c =
-    rw (← c .before .is-atomic .ensures, c .if1 .left)
+returns-2 c = rw (← c .before .is-atomic .ensures, c .if1 .left)
 
 pub own-ways-spec : {M : Type 1} → statement M
 own-ways-spec =

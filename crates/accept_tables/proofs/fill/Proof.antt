@@ -23,5 +23,4 @@ returns c =
     (after-components-of .components-of .ensures) (after-rules-of .rules-of .ensures) (after-couplings-of .couplings-of .ensures) (c .fill-tables .ensures)
 
 pub fill-spec : {M : Type 1} → statement M
-fill-spec =
-    tie.close (tie.spec (λ c κs. search needs) (λ c κs. search needs) (λ c κs. search needs) fill-tables-requires returns)
+fill-spec = tie.close (tie.spec (λ c κs. search needs) (λ c κs. search needs) (λ c κs. search needs) fill-tables-requires returns)

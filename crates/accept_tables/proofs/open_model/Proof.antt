@@ -1,8 +1,6 @@
 -- A refused file has no tables; those of an accepted one are filled from where its check left them.
 use borrow.Author.Needs.{needs}
-use Prim.Native.Nat.{ℕ}
 use mathlib.Core.Path.{ap, sym, subst, _∙_}
-use mathlib.Core.List.{List}
 use Rattle.model_file.specs.Checked.{checkedAs}
 use Rattle.model_file.specs.declared.Checked.{Checked}
 use Rattle.accept_routes.specs.Routed.{LinkedBy}
@@ -31,5 +29,4 @@ returns-2 c =
     (r .ensures .0, r .ensures .1, subst (λ (k : Checked). Opened (start .args .file .now) k (c .fill .last .1 .1 .1 .0)) (sym (after-checked .checked .given .1)) (c .fill .ensures))
 
 pub open-model-spec : {M : Type 1} → statement M
-open-model-spec =
-    tie.close (tie.spec (λ c κs. search needs) (λ c. search needs) (λ c. search needs) returns fill-requires returns-2)
+open-model-spec = tie.close (tie.spec (λ c κs. search needs) (λ c. search needs) (λ c. search needs) returns fill-requires returns-2)

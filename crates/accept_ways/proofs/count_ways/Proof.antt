@@ -46,5 +46,4 @@ returns c =
     subst (Counted cs ks) (sym e) (ways-counted cs ks (p .3) (now (a .targets)) (now (a .tables)) (p .4) (p .0) (now (a .ways)) (p .2))
 
 pub count-ways-spec : {M : Type 1} → statement M
-count-ways-spec =
-    tie.close (tie.spec (λ c κs. search needs) (λ c κs. search needs) ways-down-requires ways-up-requires returns)
+count-ways-spec = tie.close (tie.spec (λ c κs. search needs) (λ c κs. search needs) ways-down-requires ways-up-requires returns)

@@ -9,5 +9,4 @@ unfolding isOutput
 returns c = rw (c .size .ensures)
 
 pub is-output-spec : {M : Type 1} → statement M
-is-output-spec =
-    tie.close (tie.spec (λ c κs. search needs) returns)
+is-output-spec = tie.close (tie.spec (λ c κs. search needs) returns)

@@ -18,8 +18,7 @@ abbrev μ-loop : tie.MeasureT-loop
 μ-loop tables targets n ways₀ j₀ ways j = j
 
 loop-holds : tie.Need-loop-holds Inv-loop μ-loop
-loop-holds c =
-    (omega arith, refl)
+loop-holds c = (omega arith, refl)
 
 take-down-requires : tie.Need-take-down-requires Inv-loop μ-loop
 take-down-requires c κs =

@@ -47,5 +47,4 @@ returns c =
     sym (up-none (sourceIn (now (a .tables))) (λ j. getD (now (a .targets)) j 0) (a .n) (l .j) (l .ways) (omega arith)) ∙ l .inv .2
 
 pub ways-up-spec : {M : Type 1} → statement M
-ways-up-spec =
-    tie.close (tie.spec Inv-loop μ-loop loop-holds take-up-requires (λ c. search needs) (λ c. search needs) loop-again returns)
+ways-up-spec = tie.close (tie.spec Inv-loop μ-loop loop-holds take-up-requires (λ c. search needs) (λ c. search needs) loop-again returns)

@@ -13,17 +13,33 @@ use Rattle.call_advance.proofs.Whole.{checked-room, call-parts}
 use Rattle.call_advance.proofs.advance_let_in.Statement.{statement}
 use Rattle.call_advance.proofs.advance_let_in.Tie as tie
 
+-- ---- once the run is loaded
+
+abbrev start-of : tie.After-load → tie.Start
+start-of f = search
+
+abbrev known : tie.After-load → tie.After-shared-slice-known
+known f = search
+
+abbrev known-bag : tie.After-load → tie.After-shared-slice-known2
+known-bag f = search
+
+abbrev opened : tie.After-load → tie.After-opening-of
+opened f = search
+
 abbrev file : tie.After-load → Bytes
-file f = f .before .before .before .before .before .before .before .before .before .before .before .before .args .file .now
+file f = start-of f .args .file .now
 
 abbrev counts : tie.After-load → Counts
-counts f = f .before .before .before .before .before .before .before .before .before .before .before .before .args .n
+counts f = start-of f .args .n
 
 bytes : (f : tie.After-load) (i : ℕ) → getD (file f) i 0 < 256
-bytes f i = f .before .before .before .before .before .before .before .before .before .before .before .shared-slice-known .given i .fits
+bytes f i = known f .shared-slice-known .given i .fits
 
 told : (f : tie.After-load) → ok (modelOf (file f) (counts f)) ≡ accepted (file f)
-told f = f .before .before .before .before .before .before .before .before .before .before .before .before .pre .0
+told f = start-of f .pre .0 .model
+
+-- ---- the needs
 
 opening-of-requires : tie.Need-opening-of-requires
 opening-of-requires c κs = search needs
@@ -37,53 +53,27 @@ phases-of-requires c κs = search needs
 rules-of-requires : tie.Need-rules-of-requires
 rules-of-requires c κs = search needs
 
-cast-advance-from : tie.Need-cast-advance-from
-cast-advance-from c = search needs
-
-slice-aggregate-advance-from : tie.Need-slice-aggregate-advance-from
-slice-aggregate-advance-from c = search needs
-
 advance-from-requires : tie.Need-advance-from-requires
 advance-from-requires c κs =
-    let f = c .before .before .before .before .before .before .before .before .before in
-    let given = f .before .before .before .before .before .before .before .before .before .before .before .before in
-    let r = checked-room (file f) (counts f) (bytes f) (told f) (given .args .run .now) (given .args .t .0) (given .args .bag .now) (given .args .count) (given .pre .2) (given .pre .3) _ (given .pre .1) in
-    record { lent = given .pre .4; moment = r .0; fit = r .1; run-fits = r .2 }
-
-same-length : tie.Need-same-length
-same-length c = search needs
-
-same-length-2 : tie.Need-same-length-2
-same-length-2 c = search needs
-
-same-length-3 : tie.Need-same-length-3
-same-length-3 c = search needs
-
-same-length-4 : tie.Need-same-length-4
-same-length-4 c = search needs
+    let f : tie.After-load = search in
+    let a = start-of f .args in
+    let q = start-of f .pre .0 in
+    let r = checked-room (file f) (counts f) (bytes f) (told f) (a .run .now) (a .t .0) (a .bag .now) (a .count) (q .checks) (q .counted) _ (q .tabled) in
+    record { lent = start-of f .pre .1 .lent; moment = r .0; fit = r .1; run-fits = r .2 }
 
 returns : tie.Need-returns
 returns c =
-    let f = c .before .before .before .before .before .before .before .before .before .before .before .before .before .before .before .before .before .before .before in
-    let given = f .before .before .before .before .before .before .before .before .before .before .before .before in
-    c .before .before .before .before .before .before .before .before .before .advance-from .ensures
-    ∙ call-parts (file f) (counts f) (bytes f) (told f) (given .args .run .now) (given .args .t .0) (given .args .bag .now) (given .args .trace .now) (λ i. f .before .before .before .before .before .before .before .before .before .shared-slice-known2 .given i .fits) (given .pre .2)
-    (given .args .count) (given .pre .3) _ (f .load .ensures .0) (f .load .ensures .1) (f .load .ensures .2) _ (given .pre .1) (length (now (given .args .work))) (given .pre .5)
-    _ _ _ (c .before .before .before .before .before .before .before .before .before .before .before .before .before .before .before .before .before .before .phases-of .ensures) (c .before .before .before .before .before .before .before .before .before .before .before .before .before .before .before .before .before .rules-of .ensures) (f .before .before .before .before .opening-of .ensures)
+    let done : tie.After-advance-from = search in let rules : tie.After-rules-of = search in let phases : tie.After-phases-of = search in
+    let f : tie.After-load = search in
+    let a = start-of f .args in
+    let q = start-of f .pre .0 in
+    done .advance-from .ensures
+    ∙ call-parts (file f) (counts f) (bytes f) (told f) (a .run .now) (a .t .0) (a .bag .now) (a .trace .now) (λ i. known-bag f .shared-slice-known2 .given i .fits) (q .checks)
+    (a .count) (q .counted) _ (f .load .ensures .0) (f .load .ensures .1) (f .load .ensures .2) _ (q .tabled) (length (now (a .work))) (start-of f .pre .1 .room)
+    _ _ _ (phases .phases-of .ensures) (rules .rules-of .ensures) (opened f .opening-of .ensures)
 
 pub advance-let-in-spec : {M : Type 1} → statement M
 advance-let-in-spec =
     tie.close
-    (tie.spec
-    opening-of-requires
-    load-requires
-    phases-of-requires
-    rules-of-requires
-    cast-advance-from
-    slice-aggregate-advance-from
-    advance-from-requires
-    same-length
-    same-length-2
-    same-length-3
-    same-length-4
-    returns)
+    (tie.spec opening-of-requires load-requires phases-of-requires rules-of-requires (search needs) (search needs) advance-from-requires
+    (search needs) (search needs) (search needs) (search needs) returns)

@@ -9,5 +9,4 @@ unfolding bagFits
 returns c = rw (c .ports-fit .ensures)
 
 pub bag-fits-spec : {M : Type 1} → statement M
-bag-fits-spec =
-    tie.close (tie.spec (λ c. search needs) (λ c κs. search needs) returns)
+bag-fits-spec = tie.close (tie.spec (λ c. search needs) (λ c κs. search needs) returns)

@@ -20,8 +20,7 @@ abbrev μ-loop : tie.MeasureT-loop
 μ-loop bag n i₀ i = n - i
 
 loop-holds : tie.Need-loop-holds Inv-loop μ-loop
-loop-holds c =
-    (omega arith, refl, all-start (portAt (c .before .args .bag .now)) _)
+loop-holds c = (omega arith, refl, all-start (portAt (c .before .args .bag .now)) _)
 
 returns : tie.Need-returns Inv-loop μ-loop
 returns c =

@@ -29,8 +29,7 @@ read-accepted-requires c κs =
     (sym (ap (checkedAs file) is) ∙ r .ensures .0, subst (λ (k : Checked). Opened file k (r .last .1 .0)) is (r .ensures .2))
 
 returns-2 : tie.Need-returns-2
-returns-2 c =
-    c .read-accepted .ensures
+returns-2 c = c .read-accepted .ensures
 
 pub read-spec : {M : Type 1} → statement M
 read-spec =

@@ -9,8 +9,7 @@ use Rattle.clock_due.proofs.due_after.Tie as tie
 
 returns : tie.Need-returns
 unfolding dueAfter
-returns c =
-    rw (eq-eqb _ _ (c .if1 .taken))
+returns c = rw (eq-eqb _ _ (c .if1 .taken))
 
 returns-2 : tie.Need-returns-2
 unfolding dueAfter
@@ -19,5 +18,4 @@ returns-2 c =
     rw (ne-eqb _ _ (else1 .if1 .left), ← c .before .wide .ensures) (ap finite (c .plus .ensures))
 
 pub due-after-spec : {M : Type 1} → statement M
-due-after-spec =
-    tie.close (tie.spec returns (λ c κs. search needs) (λ c κs. search needs) returns-2)
+due-after-spec = tie.close (tie.spec returns (λ c κs. search needs) (λ c κs. search needs) returns-2)

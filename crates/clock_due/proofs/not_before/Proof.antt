@@ -6,8 +6,7 @@ use Rattle.clock_due.proofs.not_before.Tie as tie
 
 returns : tie.Need-returns
 unfolding notBefore
-returns c =
-    rw (c .enum-told .given .1)
+returns c = rw (c .enum-told .given .1)
 
 returns-2 : tie.Need-returns-2
 unfolding notBefore
@@ -16,5 +15,4 @@ returns-2 c =
     rw (after-due .due .given .1)
 
 pub not-before-spec : {M : Type 1} → statement M
-not-before-spec =
-    tie.close (tie.spec (λ c. search needs) (λ c. search needs) returns returns-2)
+not-before-spec = tie.close (tie.spec (λ c. search needs) (λ c. search needs) returns returns-2)

@@ -18,8 +18,7 @@ abbrev μ-loop : tie.MeasureT-loop
 μ-loop marks₀ c₀ marks c = maxComponents - c
 
 loop-holds : tie.Need-loop-holds Inv-loop μ-loop
-loop-holds c =
-    (omega arith, refl, refl)
+loop-holds c = (omega arith, refl, refl)
 
 loop-again : tie.Need-loop-again Inv-loop μ-loop
 loop-again c =
@@ -27,8 +26,7 @@ loop-again c =
     let l = at-loop .loop in (omega arith, simp length-set (l .inv .1), rw (c .mark .ensures) (marks-more (l .c) (l .marks) (c .before .loop-test .taken) ∙ l .inv .2))
 
 same-length : tie.Need-same-length Inv-loop μ-loop
-same-length c =
-    c .before .loop .inv .1
+same-length c = c .before .loop .inv .1
 
 returns : tie.Need-returns Inv-loop μ-loop
 returns c =

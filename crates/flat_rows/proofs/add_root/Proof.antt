@@ -26,5 +26,4 @@ returns c =
     (omega (arith, after-put-rows .put-rows .ensures .0, h .count), after-put-rows .put-rows .ensures .1 ∙ ap (λ k. sets (now (a .rows)) 0 (map (rowOf (now (a .tables)) 0) k)) (h .keys))
 
 pub add-root-spec : {M : Type 1} → statement M
-add-root-spec =
-    tie.close (tie.spec (λ c κs. search needs) put-rows-requires (λ c. search needs) (λ c. search needs) returns)
+add-root-spec = tie.close (tie.spec (λ c κs. search needs) put-rows-requires (λ c. search needs) (λ c. search needs) returns)

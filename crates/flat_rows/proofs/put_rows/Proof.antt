@@ -31,8 +31,7 @@ loop-again c =
     let a = start .args in let l = at-loop .loop in (omega arith, simp length-set (l .inv .1), rw (c .row-of .ensures) (put-more (rowOf (now (a .tables)) (a .end)) (now (a .keys)) (a .count) (l .i) (a .at) (l .rows) (in-loop .loop-test .taken) (start .pre .0) ∙ l .inv .2))
 
 same-length : tie.Need-same-length Inv-loop μ-loop
-same-length c =
-    c .before .loop .inv .1
+same-length c = c .before .loop .inv .1
 
 returns : tie.Need-returns Inv-loop μ-loop
 returns c =

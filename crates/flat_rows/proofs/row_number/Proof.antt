@@ -7,8 +7,7 @@ use Rattle.flat_rows.proofs.row_number.Tie as tie
 
 returns : tie.Need-returns
 unfolding rowNumber
-returns c =
-    refl
+returns c = refl
 
 pub row-number-spec : {M : Type 1} → statement M
 row-number-spec =

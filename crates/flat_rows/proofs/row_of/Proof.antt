@@ -7,9 +7,7 @@ use Rattle.flat_rows.proofs.row_of.Tie as tie
 
 returns : tie.Need-returns
 unfolding rowOf nodeComponent nodePort
-returns c =
-    rw (c .row-number .ensures, c .before .rank-of .ensures)
+returns c = rw (c .row-number .ensures, c .before .rank-of .ensures)
 
 pub row-of-spec : {M : Type 1} → statement M
-row-of-spec =
-    tie.close (tie.spec (λ c κs. search needs) (λ c κs. search needs) returns)
+row-of-spec = tie.close (tie.spec (λ c κs. search needs) (λ c κs. search needs) returns)

@@ -22,8 +22,7 @@ abbrev μ-loop : tie.MeasureT-loop
 μ-loop components tables n out₀ i₀ out i = n - i
 
 loop-holds : tie.Need-loop-holds Inv-loop μ-loop
-loop-holds c =
-    (omega arith, refl, refl)
+loop-holds c = (omega arith, refl, refl)
 
 loop-again : tie.Need-loop-again Inv-loop μ-loop
 loop-again c =
@@ -35,8 +34,7 @@ loop-again c =
     let a = start .args in let l = at-loop .loop in (omega arith, after-put-atomic .put-atomic .kept .1 .0 ∙ l .inv .1, rw (after-put-atomic .put-atomic .ensures, after-size2 .size2 .ensures, after-component-at .component-at .ensures, after-size16 .size16 .ensures, after-word-at .word-at .ensures, after-size .size .ensures) (atomics-more (componentsIn (now (a .components))) (now (a .tables)) (a .n) (l .i) (l .out) (in-loop .loop-test .taken) ∙ l .inv .2))
 
 same-length : tie.Need-same-length Inv-loop μ-loop
-same-length c =
-    c .before .loop .inv .1
+same-length c = c .before .loop .inv .1
 
 returns : tie.Need-returns Inv-loop μ-loop
 returns c =

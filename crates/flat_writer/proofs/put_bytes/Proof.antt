@@ -19,8 +19,7 @@ abbrev μ-loop : tie.MeasureT-loop
 μ-loop part out₀ at i₀ out i = length part - i
 
 loop-holds : tie.Need-loop-holds Inv-loop μ-loop
-loop-holds c =
-    let a = c .args in (omega arith, refl, copy-start (now (a .part)) (now (a .out)) (a .at))
+loop-holds c = let a = c .args in (omega arith, refl, copy-start (now (a .part)) (now (a .out)) (a .at))
 
 loop-again : tie.Need-loop-again Inv-loop μ-loop
 loop-again c =
@@ -28,8 +27,7 @@ loop-again c =
     let a = start .args in let l = at-loop .loop in (omega arith, simp length-set (l .inv .1), copy-more (now (a .part)) (length (now (a .part))) (l .i) (a .at) (l .out) (omega arith) (le-refl _) ∙ l .inv .2)
 
 same-length : tie.Need-same-length Inv-loop μ-loop
-same-length c =
-    c .before .loop .inv .1
+same-length c = c .before .loop .inv .1
 
 returns : tie.Need-returns Inv-loop μ-loop
 returns c =

@@ -32,8 +32,7 @@ loop-again c =
     let a = start .args in let l = at-loop .loop in (omega arith, after-put-row .put-row .kept .1 .0 ∙ l .inv .1, rw (after-put-row .put-row .ensures) (rows-more (now (a .rows)) (a .n) (start .pre .0) (l .i) (a .at) (l .out) (in-loop .loop-test .taken) ∙ l .inv .2))
 
 same-length : tie.Need-same-length Inv-loop μ-loop
-same-length c =
-    c .before .loop .inv .1
+same-length c = c .before .loop .inv .1
 
 returns : tie.Need-returns Inv-loop μ-loop
 returns c =

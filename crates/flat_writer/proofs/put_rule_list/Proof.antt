@@ -40,8 +40,7 @@ loop-again c =
     let a = start .args in let l = at-loop .loop in (omega arith, after-put-rule .put-rule .kept .1 .1 .0 ∙ l .inv .1, rw (after-put-rule .put-rule .ensures, after-front .front .ensures, after-rest .rest .ensures) (rules-more (now (a .rules)) (now (a .tables)) (l .i) (a .at) (l .out) (omega (arith, start .pre .0)) ∙ l .inv .2))
 
 same-length : tie.Need-same-length Inv-loop μ-loop
-same-length c =
-    c .before .loop .inv .1
+same-length c = c .before .loop .inv .1
 
 returns : tie.Need-returns Inv-loop μ-loop
 returns c =

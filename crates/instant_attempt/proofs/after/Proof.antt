@@ -14,8 +14,7 @@ returns c =
 returns-2 : tie.Need-returns-2
 unfolding afterOf
 returns-2 c =
-    let start : tie.Start = search in
-    let some : tie.Else1 = search in
+    let start : tie.Start = search in let some : tie.Else1 = search in
     rw (ne-eqb (start .args .steps) 0 (some .if1 .left))
 
 pub after-spec : {M : Type 1} → statement M

@@ -3,10 +3,9 @@
 use borrow.Author.Needs.{needs}
 use native.Mathlib.Omega.{arith}
 use denote.Ref.{now}
-use mathlib.Core.Path.{_≡_, refl, _∙_, sym, ap, subst}
-use mathlib.Core.Bool.{Bool, true, false, _&&_}
-use Prim.Native.Nat.{ℕ, _+_, _-_, _≤_}
-use lib.Dec.{eqb, leb}
+use mathlib.Core.Path.{_≡_, refl, _∙_, ap, subst}
+use mathlib.Core.Bool.{true, false}
+use Prim.Native.Nat.{ℕ, _+_, _-_}
 use lib.ListN.{length, take}
 use lib.Seq.{sets}
 use borrow.Author.Tests.{eq-eqb, ne-eqb, le-leb, lt-leb}
@@ -18,8 +17,9 @@ use Rattle.run_state.specs.Held.{held}
 use Rattle.instant_steps.specs.Sim.{simOf, instantOf}
 use Rattle.instant_steps.specs.Verdicts.{Judged}
 use Rattle.instant_steps.proofs.Sofar.{lent-kept}
-use Rattle.instant_attempt.specs.Pass.{Stands, Kept, Back, inScratch}
-use Rattle.instant_attempt.proofs.Tries.{none-still, recs, used-of, end-of, from-scratch, again, verdict-again, hindered-tried, ends-more, stands-tried}
+use Rattle.instant_attempt.specs.Pass.{Stands, Back, inScratch}
+use Rattle.instant_attempt.proofs.Passes.{none-still}
+use Rattle.instant_attempt.proofs.Tries.{recs, used-of, end-of, from-scratch, again, verdict-again, hindered-tried, stands-tried}
 use Rattle.instant_attempt.proofs.attempt.Statement.{statement}
 use Rattle.instant_attempt.proofs.attempt.Tie as tie
 
@@ -78,12 +78,8 @@ idle c z =
 
 -- Its records are as many bytes as the progress says.
 size-as : (c : tie.Else1)
-    → pass-of c .first-pass .result .progress .used
-    ≡ start-of (pass-of c) .args .p .used + length (recs (start-of (pass-of c) .args .at .0) (start-of (pass-of c) .args .p) (length (now (start-of (pass-of c) .args .trace))) (whole (start-of (pass-of c))) (pass-of c .first-pass .result .progress) (stands c))
-size-as c =
-    let s = start-of (pass-of c) in
-    let a = s .args in
-    used-of (a .at .0) (a .p) (length (now (a .trace))) (whole s) (pass-of c .first-pass .result .progress) (stands c)
+    → pass-of c .first-pass .result .progress .used ≡ start-of (pass-of c) .args .p .used + length (recs (stands c))
+size-as c = used-of (stands c)
 
 sub-size : tie.Need-sub-size
 sub-size c =
@@ -92,28 +88,27 @@ sub-size c =
 
 copy-requires : tie.Need-copy-requires
 copy-requires c κs =
-    let test : tie.Then2 = search in
-    let here : tie.Else1 = search in
+    let test : tie.Then2 = search in let here : tie.Else1 = search in
     (test .if2 .taken, omega (arith, size-as here, stands here .within))
 
 returns-2 : tie.Need-returns-2
 returns-2 c =
-    let copied : tie.After-copy = search in
-    let test : tie.Then2 = search in
-    let here : tie.Else1 = search in
+    let copied : tie.After-copy = search in let test : tie.Then2 = search in let here : tie.Else1 = search in
     let pass = pass-of here in
     let s = start-of pass in
     let a = s .args in
     let r = pass .first-pass in
     let e = r .result in
     let st = stands here in
-    let size : e .progress .used - a .p .used ≡ length (recs (a .at .0) (a .p) (length (now (a .trace))) (whole s) (e .progress) st) = omega (arith, size-as here) in
-    let in-scratch : inScratch (a .p) (length (scratch pass)) e ≡ true = rw (eq-eqb (e .number) 0 (here .if1 .left), le-leb (e .progress .used - a .p .used) (length (scratch pass)) (test .if2 .taken)) in
+    let size : e .progress .used - a .p .used ≡ length (recs st) = omega (arith, size-as here) in
+    let in-scratch : inScratch (a .p) (length (scratch pass)) e ≡ true
+    = rw (eq-eqb (e .number) 0 (here .if1 .left), le-leb (e .progress .used - a .p .used) (length (scratch pass)) (test .if2 .taken)) in
     let k = r .ensures .1 .kept in-scratch in
-    let front = from-scratch (a .at .0) (a .p) (length (now (a .trace))) (whole s) (e .progress) st (now (a .scratch)) (scratch pass) (r .kept .1 .1 .1 .1 .1 .1 .1 .1 .1 .1 .1 .1 .1 .0) (omega (arith, size, test .if2 .taken)) (k .recorded) in
+    let front = from-scratch st (now (a .scratch)) (scratch pass)
+    (r .kept .1 .1 .1 .1 .1 .1 .1 .1 .1 .1 .1 .1 .1 .0) (omega (arith, size, test .if2 .taken)) (k .recorded) in
     let put = copied .copy .ensures ∙ ap (sets (now (a .trace)) (a .p .used)) (ap (λ (m : ℕ). take m (scratch pass)) size ∙ front) in (
-      stands-tried (a .at .0) (a .p) (old s) (new pass) (now (a .trace)) (copied .copy .last .1 .1 .0) (whole s) e st (here .if1 .left) (idle here)
-          (end-of (a .at .0) (a .p) (length (now (a .trace))) (whole s) (e .progress) st (new pass) (k .left)) put,
+      stands-tried (old s) (new pass) (now (a .trace)) (copied .copy .last .1 .1 .0) e st (here .if1 .left) (idle here)
+          (end-of st (new pass) (k .left)) put,
       k .ready,
     )
 
@@ -122,15 +117,22 @@ returns-2 c =
 abbrev here-of : tie.Else2 → tie.Else1
 here-of c = search
 
+abbrev first-of : tie.Else2 → tie.After-first-pass
+first-of c = pass-of (here-of c)
+
+abbrev begun : tie.Else2 → tie.Start
+begun c = start-of (first-of c)
+
 -- The old state is back.
-back : (c : tie.Else2) → Back (now (start-of (pass-of (here-of c)) .args .phases)) (now (start-of (pass-of (here-of c)) .args .tables)) (start-of (pass-of (here-of c)) .args .n) (old (start-of (pass-of (here-of c)))) (new (pass-of (here-of c)))
-    (pass-of (here-of c) .first-pass .last .1 .1 .1 .1 .1 .1 .1 .1 .1 .0) (start-of (pass-of (here-of c)) .args .due)
+back : (c : tie.Else2) → Back (now (begun c .args .phases)) (now (begun c .args .tables)) (begun c .args .n) (old (begun c)) (new (first-of c))
+    (first-of c .first-pass .last .1 .1 .1 .1 .1 .1 .1 .1 .1 .0) (begun c .args .due)
 back c =
     let here = here-of c in
     let pass = pass-of here in
     let a = start-of pass .args in
     let e = pass .first-pass .result in
-    let out : inScratch (a .p) (length (scratch pass)) e ≡ false = rw (eq-eqb (e .number) 0 (here .if1 .left), lt-leb (e .progress .used - a .p .used) (length (scratch pass)) (c .if2 .left)) in
+    let out : inScratch (a .p) (length (scratch pass)) e ≡ false
+    = rw (eq-eqb (e .number) 0 (here .if1 .left), lt-leb (e .progress .used - a .p .used) (length (scratch pass)) (c .if2 .left)) in
     pass .first-pass .ensures .1 .back out
 
 instant-requires : tie.Need-instant-requires
@@ -146,19 +148,17 @@ instant-requires c κs =
         fit = q .fit;
         ready = back test .ready;
       },
-      s .pre .1 .used,
+      omega (arith, s .pre .1 .used),
     )
 
 same-work : tie.Need-same-length-9
 same-work c =
-    let second : tie.After-instant = search in
-    let test : tie.Else2 = search in
+    let second : tie.After-instant = search in let test : tie.Else2 = search in
     second .instant .kept .1 .1 .1 .1 .1 .1 .1 .1 .1 .1 .0 ∙ pass-of (here-of test) .first-pass .kept .1 .1 .1 .1 .1 .1 .1 .1 .1 .1 .1 .0
 
 returns-3 : tie.Need-returns-3
 returns-3 c =
-    let second : tie.After-instant = search in
-    let test : tie.Else2 = search in
+    let second : tie.After-instant = search in let test : tie.Else2 = search in
     let here = here-of test in
     let pass = pass-of here in
     let s = start-of pass in
@@ -169,13 +169,14 @@ returns-3 c =
     let end = held (q .last .1 .1 .1 .1 .1 .1 .0) (q .last .1 .1 .1 .1 .1 .1 .1 .0) in
     let trace = q .last .1 .1 .1 .1 .1 .1 .1 .1 .1 .1 .1 .1 .0 in
     -- it was over the same instant
-    let j = subst (λ (z : State). Judged (a .at .0) (a .p .used) (now (a .trace)) trace end (instantOf (now (a .phases)) (now (a .rules)) (now (a .tables)) (a .n) (length (now (a .work))) (a .at .0) (now (a .given)) z) (q .result)) (back test .state)
-    (subst (λ (m : ℕ). Judged (a .at .0) (a .p .used) (now (a .trace)) trace end (instantOf (now (a .phases)) (now (a .rules)) (now (a .tables)) (a .n) m (a .at .0) (now (a .given)) (new pass)) (q .result))
+    let over : ℕ → State → Instant State = λ m z. instantOf (now (a .phases)) (now (a .rules)) (now (a .tables)) (a .n) m (a .at .0) (now (a .given)) z in
+    let j = subst (λ (z : State). Judged (a .at .0) (a .p .used) (now (a .trace)) trace end (over (length (now (a .work))) z) (q .result)) (back test .state)
+    (subst (λ (m : ℕ). Judged (a .at .0) (a .p .used) (now (a .trace)) trace end (over m (new pass)) (q .result))
     (pass .first-pass .kept .1 .1 .1 .1 .1 .1 .1 .1 .1 .1 .1 .0) (q .ensures .0)) in (
-      stands-tried (a .at .0) (a .p) (old s) end (now (a .trace)) trace (whole s) (record { number = 0; progress = e .progress; due = q .result .due }) st refl (idle here)
-          (end-of (a .at .0) (a .p) (length (now (a .trace))) (whole s) (e .progress) st end (j .left))
-          (again (a .at .0) (a .p) (length (now (a .trace))) (whole s) (e .progress) st (now (a .trace)) trace refl (j .recorded)),
-      q .ensures .1 (verdict-again (a .at .0) (a .p) (length (now (a .trace))) (whole s) (e .progress) st (a .p .used) (q .result) (j .answer)),
+      stands-tried (old s) end (now (a .trace)) trace (record { number = 0; progress = e .progress; due = q .result .due }) st refl (idle here)
+          (end-of st end (j .left))
+          (again st (now (a .trace)) trace refl (j .recorded)),
+      q .ensures .1 (verdict-again st (a .p .used) (q .result) (j .answer)),
     )
 
 pub attempt-spec : {M : Type 1} → statement M

@@ -3,7 +3,8 @@
 use borrow.Author.Needs.{needs}
 use native.Mathlib.Omega.{arith}
 use denote.Ref.{now}
-use Prim.Native.Nat.{_≤_, _+_, _-_}
+use Prim.Native.Nat.{ℕ, _≤_, _+_, _-_}
+use mathlib.Core.List.{List}
 use mathlib.Core.Path.{_≡_, _∙_, refl}
 use native.Mathlib.Nat.{add-zero}
 use lib.ListN.{length, length-set, take}
@@ -12,51 +13,42 @@ use Rattle.law_stores.proofs.Stores.{copy-more, copy-none}
 use Rattle.instant_attempt.proofs.copy.Statement.{statement}
 use Rattle.instant_attempt.proofs.copy.Tie as tie
 
+-- What holds with i bytes copied.
+record Copying (from : List ℕ) (n : ℕ) (to₀ : List ℕ) (at : ℕ) (to : List ℕ) (i : ℕ) : Type 0 where
+  pub most : i ≤ n
+  pub size : length to ≡ length to₀
+  pub rest : sets to (at + i) (slice i n from) ≡ sets to₀ at (take n from)
+
 abbrev Inv-loop : tie.InvT-loop
-Inv-loop from n to₀ at i₀ to i = (i ≤ n) × (length to ≡ length to₀) × (sets to (at + i) (slice i n from) ≡ sets to₀ at (take n from))
+Inv-loop from n to₀ at i₀ to i = Copying from n to₀ at to i
 
 abbrev μ-loop : tie.MeasureT-loop
 μ-loop from n to₀ at i₀ to i = n - i
 
 loop-holds : tie.Need-loop-holds Inv-loop μ-loop
-loop-holds c =
-    (omega arith, refl, rw add-zero)
-
-shared-slice-read-to : tie.Need-shared-slice-read-to Inv-loop μ-loop
-shared-slice-read-to c = search needs
-
-add-to : tie.Need-add-to Inv-loop μ-loop
-add-to c = search needs
-
-slice-write-to : tie.Need-slice-write-to Inv-loop μ-loop
-slice-write-to c = search needs
-
-add-i : tie.Need-add-i Inv-loop μ-loop
-add-i c = search needs
-
-loop-less : tie.Need-loop-less Inv-loop μ-loop
-loop-less c = search needs
+loop-holds c = record { most = omega arith; size = refl; rest = rw add-zero }
 
 loop-again : tie.Need-loop-again Inv-loop μ-loop
 loop-again c =
-    let a = c .before .before .before .args in
-    let l = c .before .before .loop in (
-      omega arith,
-      simp length-set (l .inv .1),
-      copy-more (now (a .from)) (a .n) (l .i) (a .at) (l .to) (c .before .loop-test .taken) (c .before .before .before .pre .0) ∙ l .inv .2,
-    )
-
-same-length : tie.Need-same-length Inv-loop μ-loop
-same-length c =
-    c .before .loop .inv .1
+    let test : tie.In-loop Inv-loop μ-loop = search in let here : tie.At-loop Inv-loop μ-loop = search in
+    let start : tie.Start Inv-loop μ-loop = search in
+    let a = start .args in
+    let l = here .loop in
+    record {
+      most = omega (arith, test .loop-test .taken);
+      size = simp length-set (l .inv .size);
+      rest = copy-more (now (a .from)) (a .n) (l .i) (a .at) (l .to) (test .loop-test .taken) (start .pre .0) ∙ l .inv .rest;
+    }
 
 returns : tie.Need-returns Inv-loop μ-loop
 returns c =
-    let a = c .before .before .args in
-    let l = c .before .loop in
+    let here : tie.At-loop Inv-loop μ-loop = search in let start : tie.Start Inv-loop μ-loop = search in
+    let a = start .args in
+    let l = here .loop in
+    let most : l .i ≤ a .n = l .inv .most in
     let z : l .i ≡ a .n = omega arith in
-    rw (z, copy-none) at (l .inv .2)
+    rw (z, copy-none) at (l .inv .rest)
 
 pub copy-spec : {M : Type 1} → statement M
 copy-spec =
-    tie.close (tie.spec Inv-loop μ-loop loop-holds shared-slice-read-to add-to slice-write-to add-i loop-less loop-again same-length returns)
+    tie.close (tie.spec Inv-loop μ-loop loop-holds (search needs) (search needs) (search needs) (search needs) (search needs) loop-again (search needs) returns)

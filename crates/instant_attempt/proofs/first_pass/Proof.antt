@@ -1,21 +1,21 @@
--- The pass tells where the instant ends (`ends`). Where its records are in the scratch the state is the instant's, and otherwise the old
+-- The pass tells where the instant ends (`decided`). Where its records are in the scratch the state is the instant's, and otherwise the old
 -- one, with its due moments again (`ready-back`).
 use borrow.Author.Needs.{needs}
 use native.Mathlib.Omega.{arith}
 use denote.Ref.{now}
-use mathlib.Core.Path.{_≡_, _∙_, sym, ap, subst}
-use mathlib.Core.Bool.{true}
-use Prim.Native.Nat.{ℕ, _-_}
-use lib.Dec.{eqb, leb}
+use mathlib.Core.Path.{_≡_}
+use Prim.Native.Nat.{_-_}
+use lib.Dec.{eqb}
 use lib.ListN.{length}
 use borrow.Author.Tests.{eqb-true}
 use Rattle.law_base.proofs.Tests.{clash, and-left}
 use Rattle.definition.specs.Instant.{Instant}
 use Rattle.run_state.specs.declared.State.{State}
 use Rattle.run_state.specs.Held.{held}
-use Rattle.instant_steps.specs.Sim.{instantOf, Ready}
-use Rattle.instant_attempt.specs.Pass.{Ends}
-use Rattle.instant_attempt.proofs.Tries.{ends, ends-more, ended-due, verdict-again, ready-back}
+use Rattle.instant_steps.specs.Sim.{instantOf}
+use Rattle.instant_attempt.specs.Pass.{Decided}
+use Rattle.instant_attempt.proofs.Passes.{decided, ended-due}
+use Rattle.instant_attempt.proofs.Tries.{decided-more, verdict-again, ready-back}
 use Rattle.instant_attempt.proofs.first_pass.Statement.{statement}
 use Rattle.instant_attempt.proofs.first_pass.Tie as tie
 
@@ -55,14 +55,14 @@ ended-by-requires c κs =
       used = omega (arith, q .used, start .good .1 .1 .1 .1 .1 .1 .1 .1 .1 .1 .1 .1 .1 .1 .0 .1);
     }
 
-ends-as : (c : tie.After-ended-by)
-    → Ends (start-of (pass-of c) .args .at .0) (start-of (pass-of c) .args .p) (start-of (pass-of c) .args .due) (old (start-of (pass-of c))) (now (start-of (pass-of c) .args .trace))
+decided-as : (c : tie.After-ended-by)
+    → Decided (start-of (pass-of c) .args .at .0) (start-of (pass-of c) .args .p) (start-of (pass-of c) .args .due) (old (start-of (pass-of c))) (now (start-of (pass-of c) .args .trace))
     (whole (start-of (pass-of c))) (c .ended-by .result)
-ends-as c =
+decided-as c =
     let s = start-of (pass-of c) in
     let a = s .args in
     let r = pass-of c .instant in
-    ends (a .at .0) (a .p) (a .due) (old s) (now (a .trace)) (s .pre .1 .used) (whole s) (r .result) (r .ensures .0 .answer) (r .ensures .0 .few)
+    decided (a .at .0) (a .p) (a .due) (old s) (now (a .trace)) (s .pre .1 .used) (whole s) (r .result) (r .ensures .0 .answer) (r .ensures .0 .few)
     (c .ended-by .result) (c .ended-by .ensures)
 
 sub-if1 : tie.Need-sub-if1
@@ -70,7 +70,7 @@ sub-if1 c =
     let e : tie.After-ended-by = search in
     let s = start-of (pass-of e) in
     let a = s .args in
-    ends-more (a .at .0) (a .p) (a .due) (old s) (now (a .trace)) (whole s) (e .ended-by .result) (ends-as e)
+    decided-more (a .at .0) (a .p) (a .due) (old s) (now (a .trace)) (whole s) (e .ended-by .result) (decided-as e)
 
 -- ---- the records are in the scratch
 
@@ -82,9 +82,9 @@ returns c =
     let r = pass-of e .instant in
     let d = e .ended-by .result in
     let zero : d .number ≡ 0 = eqb-true (d .number) 0 (and-left (eqb (d .number) 0) _ (c .if1 .taken)) in
-    let stands = verdict-again (a .at .0) (a .p) (length (now (a .trace))) (whole s) (d .progress) (ends-as e .stands zero) 0 (r .result) (r .ensures .0 .answer) in
+    let stands = verdict-again (decided-as e .stands zero) 0 (r .result) (r .ensures .0 .answer) in
     let due = ended-due (length (now (a .trace)) - a .p .used) (a .at .0) (a .p) (a .due) (r .result) d (e .ended-by .ensures) zero in (
-      ends-as e,
+      decided-as e,
       record {
         kept = λ _. record { left = r .ensures .0 .left; recorded = r .ensures .0 .recorded; ready = rw due (r .ensures .1 stands) };
         back = λ f. absurd (clash (c .if1 .taken) f);
@@ -105,13 +105,12 @@ same-work c =
 
 returns-2 : tie.Need-returns-2
 returns-2 c =
-    let test : tie.Else1 = search in
-    let e : tie.After-ended-by = search in
+    let test : tie.Else1 = search in let e : tie.After-ended-by = search in
     let s = start-of (pass-of e) in
     let a = s .args in
     let b = c .put-back in
     let st = held (b .last .1 .1 .1 .1 .1 .0) (b .last .1 .1 .1 .1 .1 .1 .0) in (
-      ends-as e,
+      decided-as e,
       record {
         kept = λ f. absurd (clash f (test .if1 .left));
         back = λ _. record {

@@ -24,8 +24,7 @@ put-ends-requires c κs =
 
 advance-on-requires : tie.Need-advance-on-requires
 advance-on-requires c κs =
-    let filled : tie.After-put-ends = search in
-    let start : tie.Start = search in
+    let filled : tie.After-put-ends = search in let start : tie.Start = search in
     let q = start .pre in
     record {
       lent = q .lent;
@@ -51,16 +50,13 @@ size-requires c κs = search needs
 
 store-requires : tie.Need-store-requires
 store-requires c κs =
-    let known : tie.After-size = search in
-    let on : tie.After-advance-on = search in
+    let known : tie.After-size = search in let on : tie.After-advance-on = search in
     let q = start-of on .pre in
     rw (known .size .ensures) (q .fit .few, q .run-fits)
 
 returns : tie.Need-returns
 returns c =
-    let stored-run : tie.After-store = search in
-    let known : tie.After-size = search in
-    let on : tie.After-advance-on = search in
+    let stored-run : tie.After-store = search in let known : tie.After-size = search in let on : tie.After-advance-on = search in
     let a = start-of on .args in
     let r = on .advance-on in
     let k = simOf (now (a .phases)) (now (a .rules)) (now (a .tables)) (a .n) (length (now (a .work))) in

@@ -4,12 +4,9 @@
 use borrow.Author.Needs.{needs}
 use native.Mathlib.Omega.{arith}
 use denote.Ref.{now}
-use mathlib.Core.Path.{_≡_, _∙_, refl, sym, ap, subst}
-use mathlib.Core.Bool.{Bool, true, false, cond}
-use Prim.Native.Nat.{ℕ, suc, _≤_, _*_, _+_, _-_}
-use lib.Dec.{ltb}
+use mathlib.Core.Path.{_≡_, _∙_, refl, sym, subst}
+use Prim.Native.Nat.{ℕ, suc, _≤_, _+_, _-_}
 use lib.ListN.{length}
-use borrow.Author.Tests.{ltb-true}
 use Rattle.definition.specs.Bytes.{Bytes}
 use Rattle.definition.specs.Step.{Simulator}
 use Rattle.definition.specs.Engine.{toBag}
@@ -41,8 +38,7 @@ next-end-requires c κs =
 
 loop-holds : tie.Need-loop-holds Inv-loop μ-loop
 loop-holds c =
-    let first : tie.After-next-end Inv-loop μ-loop = search in
-    let start : tie.Start Inv-loop μ-loop = search in
+    let first : tie.After-next-end Inv-loop μ-loop = search in let start : tie.Start Inv-loop μ-loop = search in
     let a = start .args in
     let q = start .pre in
     let o : a .t .0 + 1 ≡ suc (a .t .0) = omega arith in record {
@@ -102,8 +98,7 @@ given-to-requires c κs = search needs
 
 attempt-requires : tie.Need-attempt-requires Inv-loop μ-loop
 attempt-requires c κs =
-    let moment : tie.After-next-moment Inv-loop μ-loop = search in
-    let test : tie.In-loop Inv-loop μ-loop = search in
+    let moment : tie.After-next-moment Inv-loop μ-loop = search in let test : tie.In-loop Inv-loop μ-loop = search in
     let p = loop-of moment in
     let q = start-of p .pre in
     let v = p .loop .inv in
@@ -136,7 +131,8 @@ written c = c .attempt .last .1 .1 .1 .1 .1 .1 .1 .1 .1 .1 .1 .1 .1 .1 .0
 -- It was tried on the words of the start, with what t is given.
 tried : (c : tie.After-attempt Inv-loop μ-loop)
     → Tried (moment-of c .next-moment .result .0) (turn-of c .loop .p) (state (turn-of c)) (changed c) (turn-of c .loop .trace) (written c)
-    (instant (sim (turn-of c)) (moment-of c .next-moment .result .0) (toBag (givenTo (now (start-of (turn-of c) .args .bag)) (moment-of c .next-moment .result .0) (start-of (turn-of c) .args .t .0))) (state (turn-of c)))
+    (instant (sim (turn-of c)) (moment-of c .next-moment .result .0)
+    (toBag (givenTo (now (start-of (turn-of c) .args .bag)) (moment-of c .next-moment .result .0) (start-of (turn-of c) .args .t .0))) (state (turn-of c)))
     (c .attempt .result)
 tried c =
     let p = turn-of c in
@@ -145,7 +141,8 @@ tried c =
     let v = moment-of c .next-moment .result .0 in
     let given = now (given-of c .given-to .result) in
     subst (λ (s : Bytes). Tried v (l .p) (state p) (changed c) (l .trace) (written c) (instant (sim p) v (toBag s) (state p)) (c .attempt .result)) (given-of c .given-to .ensures)
-    (subst (λ (m : ℕ). Tried v (l .p) (state p) (changed c) (l .trace) (written c) (instant (simOf (now (a .phases)) (now (a .rules)) (now (a .tables)) (a .n) m) v (toBag given) (state p)) (c .attempt .result))
+    (subst (λ (m : ℕ). Tried v (l .p) (state p) (changed c) (l .trace) (written c)
+    (instant (simOf (now (a .phases)) (now (a .rules)) (now (a .tables)) (a .n) m) v (toBag given) (state p)) (c .attempt .result))
     (l .inv .words) (c .attempt .ensures .0))
 
 finish-requires : tie.Need-finish-requires Inv-loop μ-loop
@@ -175,8 +172,7 @@ same-trace c =
 
 returns : tie.Need-returns Inv-loop μ-loop
 returns c =
-    let test : tie.Then1 Inv-loop μ-loop = search in
-    let here : tie.After-attempt Inv-loop μ-loop = search in
+    let test : tie.Then1 Inv-loop μ-loop = search in let here : tie.After-attempt Inv-loop μ-loop = search in
     let p = turn-of here in
     let a = start-of p .args in
     let l = p .loop in
@@ -196,8 +192,7 @@ loop-less c =
 
 loop-again : tie.Need-loop-again Inv-loop μ-loop
 loop-again c =
-    let test : tie.Else1 Inv-loop μ-loop = search in
-    let here : tie.After-attempt Inv-loop μ-loop = search in
+    let test : tie.Else1 Inv-loop μ-loop = search in let here : tie.After-attempt Inv-loop μ-loop = search in
     let p = turn-of here in
     let a = start-of p .args in
     let l = p .loop in

@@ -11,17 +11,16 @@ use Rattle.instant_loop.proofs.finish.Tie as tie
 returns : tie.Need-returns
 unfolding finishedOf
 returns c =
-    rw (ne-eqb (c .before .before .args .e .number) 0 (c .if1 .taken))
-
-add-t7 : tie.Need-add-t7
-add-t7 c = search needs
+    let start : tie.Start = search in
+    rw (ne-eqb (start .args .e .number) 0 (c .if1 .taken))
 
 returns-2 : tie.Need-returns-2
 unfolding finishedOf
 returns-2 c =
-    let a = c .before .before .before .before .args in
+    let test : tie.Else1 = search in let start : tie.Start = search in
+    let a = start .args in
     let o : a .t .0 + 1 ≡ suc (a .t .0) = omega arith in
-    rw (eq-eqb (a .e .number) 0 (c .before .before .if1 .left), o)
+    rw (eq-eqb (a .e .number) 0 (test .if1 .left), o)
 
 pub finish-spec : {M : Type 1} → statement M
-finish-spec = tie.close (tie.spec returns add-t7 returns-2)
+finish-spec = tie.close (tie.spec returns (search needs) returns-2)

@@ -7,7 +7,7 @@ use denote.Ref.{now}
 use mathlib.Core.Path.{_≡_, _∙_, refl, sym, ap, subst}
 use mathlib.Core.List.{List}
 use mathlib.Core.Bool.{true, false, not, _||_}
-use Prim.Native.Nat.{ℕ, _≤_, _<_, _*_, _+_, _-_}
+use Prim.Native.Nat.{ℕ, _≤_, _<_, _+_, _-_}
 use lib.Dec.{eqb}
 use lib.ListN.{length}
 use Rattle.definition.specs.Bytes.{Bytes}
@@ -21,8 +21,10 @@ use Rattle.run_state.specs.declared.State.{State}
 use Rattle.run_state.specs.Held.{held}
 use Rattle.instant_records.proofs.Records.{size-most}
 use Rattle.spec_step.specs.TableStep.{rootRoom}
+use Rattle.step_simulator.specs.Simulator.{HasStepped}
 use Rattle.instant_steps.specs.Sim.{simOf, instantOf, givenAt}
-use Rattle.instant_steps.proofs.Sofar.{Gives, Sofar, Stepping, sofar-none, sofar-more, keys-hold, rest-all, rest-stops, rest-jams, rest-more, goes-as, ready-next, not-jams, not-over, judged-jams, judged-over, judged-stands}
+use Rattle.instant_steps.proofs.Sofar.{Sofar, Stepping, sofar-none, sofar-more, keys-hold, goes-as, ready-next}
+use Rattle.instant_steps.proofs.Sofar.{rest-all, rest-stops, rest-jams, rest-more, not-jams, not-over, judged-jams, judged-over, judged-stands}
 use Rattle.instant_steps.proofs.instant.Statement.{statement}
 use Rattle.instant_steps.proofs.instant.Tie as tie
 
@@ -106,7 +108,13 @@ step-once-requires c κs =
     let p : tie.At-loop Inv-loop μ-loop = search in
     let l = p .loop in
     let q = start-of p .pre .0 in
-    (q .fit .few, q .moment, q .fit .in-range, l .inv .rows ∙ q .lent .1 ∙ ap rootRoom (sym (l .inv .words)), l .inv .ready .carried)
+    record {
+      few = q .fit .few;
+      moment = q .moment;
+      in-range = q .fit .in-range;
+      rows = l .inv .rows ∙ q .lent .1 ∙ ap rootRoom (sym (l .inv .words));
+      carried = l .inv .ready .carried;
+    }
 
 -- ---- after the step
 
@@ -123,25 +131,31 @@ part-of c = search
 abbrev changed : tie.After-step-once Inv-loop μ-loop → State
 changed c = held (c .step-once .last .1 .1 .1 .1 .0) (c .step-once .last .1 .1 .1 .1 .1 .0)
 
+abbrev ends-of : tie.After-step-once Inv-loop μ-loop → List ℕ
+ends-of c = c .step-once .last .1 .1 .1 .1 .1 .1 .0
+
 abbrev keys-of : tie.After-step-once Inv-loop μ-loop → List ℕ
 keys-of c = c .step-once .last .1 .1 .1 .1 .1 .1 .1 .1 .1 .1 .0
 
 -- It is the definition's step.
 gives : (c : tie.After-step-once Inv-loop μ-loop)
-    → Gives (sim (turn-of c) .step (start-of (turn-of c) .args .at .0) (given (turn-of c)) (state (turn-of c))) (changed c) (c .step-once .result) (keys-of c)
+    → HasStepped (now (start-of (turn-of c) .args .phases)) (now (start-of (turn-of c) .args .tables)) (start-of (turn-of c) .args .n) (changed c) (ends-of c) (keys-of c)
+    (c .step-once .result) (sim (turn-of c) .step (start-of (turn-of c) .args .at .0) (given (turn-of c)) (state (turn-of c)))
 gives c =
     let p = turn-of c in
     let a = start-of p .args in
-    let e = c .step-once .ensures in
-    let whole = subst (λ (m : ℕ). Gives (simOf (now (a .phases)) (now (a .rules)) (now (a .tables)) (a .n) m .step (a .at .0) (toBag (now (part-of c .given-at2 .result))) (state p)) (changed c) (c .step-once .result) (keys-of c)) (p .loop .inv .words) (e .0, e .2, e .3) in
-    subst (λ (s : Bytes). Gives (sim p .step (a .at .0) (toBag s) (state p)) (changed c) (c .step-once .result) (keys-of c)) (part-of c .given-at2 .ensures) whole
+    let s = now (part-of c .given-at2 .result) in
+    subst (λ (x : Bytes). HasStepped (now (a .phases)) (now (a .tables)) (a .n) (changed c) (ends-of c) (keys-of c) (c .step-once .result) (sim p .step (a .at .0) (toBag x) (state p)))
+    (part-of c .given-at2 .ensures)
+    (subst (λ (m : ℕ). HasStepped (now (a .phases)) (now (a .tables)) (a .n) (changed c) (ends-of c) (keys-of c) (c .step-once .result)
+    (simOf (now (a .phases)) (now (a .rules)) (now (a .tables)) (a .n) m .step (a .at .0) (toBag s) (state p))) (p .loop .inv .words) (c .step-once .ensures))
 
 -- Its messages have room.
 held-keys : (c : tie.After-step-once Inv-loop μ-loop) → c .step-once .result ≤ length (keys-of c)
 held-keys c =
     let p = turn-of c in
     let x = sim p .step (start-of p .args .at .0) (given p) (state p) .out in
-    keys-hold (c .step-once .result) (keys-of c) x (gives c .1) (gives c .2)
+    keys-hold (c .step-once .result) (keys-of c) x (gives c .size) (gives c .bag)
 
 most : (c : tie.After-step-once Inv-loop μ-loop) → c .step-once .result ≤ 4096
 most c =
@@ -168,8 +182,7 @@ loop-less c =
 
 loop-again : tie.Need-loop-again Inv-loop μ-loop
 loop-again c =
-    let put : tie.After-put-step Inv-loop μ-loop = search in
-    let step : tie.After-step-once Inv-loop μ-loop = search in
+    let put : tie.After-put-step Inv-loop μ-loop = search in let step : tie.After-step-once Inv-loop μ-loop = search in
     let p = turn-of step in
     let start = start-of p in
     let a = start .args in
@@ -183,19 +196,18 @@ loop-again c =
     let g : goesOn k (a .at .0) x (state p) ≡ true = tested goes ∙ test .before .if1 .taken in
     let h : l .k < maxSteps = omega (arith, test .if2 .left, l .inv .few) in
     let e = gives step in
-    let ends = s .last .1 .1 .1 .1 .1 .1 .0 in
     let whole = instantOf (now (a .phases)) (now (a .rules)) (now (a .tables)) (a .n) (length (now (a .work))) (a .at .0) (now (a .given)) (held (now (a .phase)) (now (a .last))) in
     let rest = stepsAt k (maxSteps - (l .k + 1)) (a .at .0) (toBag (givenAt (now (a .given)) (l .k + 1))) (changed step) in
     let sofar = subst (λ (i : Instant State). Sofar whole i (a .at .0) (a .from) (now (a .out)) (l .out) (l .k) (l .used) (l .over))
-    (rest-more k (a .at .0) x (state p) (l .k) (changed step) (now (a .given)) g h (e .0)) (l .inv .sofar) in record {
+    (rest-more k (a .at .0) x (state p) (l .k) (changed step) (now (a .given)) g h (e .state)) (l .inv .sofar) in record {
       few = omega arith;
       words = s .kept .1 .1 .1 .1 .1 .1 .1 .1 .1 .0 ∙ l .inv .words;
       rows = s .kept .1 .1 .1 .1 .1 .1 .1 .1 .1 .1 .0 ∙ l .inv .rows;
       size = u .kept .0 ∙ l .inv .size;
       bound = omega (arith, u .ensures .0, size-most (s .result), most step, l .inv .bound);
-      ready = ready-next (now (a .phases)) (now (a .tables)) (a .n) (changed step) ends (c .next-end .result) (start .pre .0 .fit) (s .ensures .1) (c .next-end .ensures);
+      ready = ready-next (now (a .phases)) (now (a .tables)) (a .n) (changed step) (ends-of step) (c .next-end .result) (start .pre .0 .fit) (e .carried) (c .next-end .ensures);
       sofar = sofar-more whole rest (a .at .0) (a .from) (now (a .out)) (l .out) (u .last .0) (l .k) (l .used) (u .result) (l .over) (k .step (a .at .0) x (state p) .out)
-          (keys-of step) (s .result) (l .inv .size) (e .1) (e .2) (u .ensures .0) (u .ensures .1) sofar;
+          (keys-of step) (s .result) (l .inv .size) (e .size) (e .bag) (u .ensures .0) (u .ensures .1) sofar;
     }
 
 -- ---- after the loop

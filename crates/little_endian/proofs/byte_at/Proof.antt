@@ -20,5 +20,4 @@ returns-2 c =
     sym (number-one (a .at) (now (a .s)) ∙ List·getD-eq-default (now (a .s)) 0 (c .if1 .left))
 
 pub byte-at-spec : {M : Type 1} → statement M
-byte-at-spec =
-    tie.close (tie.spec (λ c. search needs) returns returns-2)
+byte-at-spec = tie.close (tie.spec (λ c. search needs) returns returns-2)

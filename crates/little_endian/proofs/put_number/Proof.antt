@@ -19,8 +19,7 @@ abbrev μ-loop : tie.MeasureT-loop
 μ-loop out₀ at n v k₀ w₀ out k w = n - k
 
 loop-holds : tie.Need-loop-holds Inv-loop μ-loop
-loop-holds c =
-    (omega arith, refl, rw (sub-zero, add-zero))
+loop-holds c = (omega arith, refl, rw (sub-zero, add-zero))
 
 loop-again : tie.Need-loop-again Inv-loop μ-loop
 loop-again c =
@@ -30,8 +29,7 @@ loop-again c =
     (omega arith, simp length-set (l .inv .1), sets-more (a .n) (l .k) (l .w) (l .out) (a .at) (omega arith) ∙ l .inv .2)
 
 same-length : tie.Need-same-length Inv-loop μ-loop
-same-length c =
-    c .before .loop .inv .1
+same-length c = c .before .loop .inv .1
 
 returns : tie.Need-returns Inv-loop μ-loop
 returns c =

@@ -19,5 +19,4 @@ returns-2 c =
     let a = start .args in sym (drop-of-length-le (now (a .s)) {i = a .at} (omega arith))
 
 pub rest-spec : {M : Type 1} → statement M
-rest-spec =
-    tie.close (tie.spec (λ c. search needs) (λ c. search needs) (λ c. search needs) (λ c. search needs) returns returns-2)
+rest-spec = tie.close (tie.spec (λ c. search needs) (λ c. search needs) (λ c. search needs) (λ c. search needs) returns returns-2)

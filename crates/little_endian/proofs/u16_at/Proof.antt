@@ -23,5 +23,4 @@ returns c =
     c .number-of .ensures ∙ ap (numberAt 2 0) (c .before .rest .ensures) ∙ number-drop 2 (a .at) (now (a .s))
 
 pub u16-at-spec : {M : Type 1} → statement M
-u16-at-spec =
-    tie.close (tie.spec (λ c κs. search needs) (λ c κs. search needs) cast-result returns)
+u16-at-spec = tie.close (tie.spec (λ c κs. search needs) (λ c κs. search needs) cast-result returns)

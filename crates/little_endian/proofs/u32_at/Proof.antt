@@ -23,5 +23,4 @@ returns c =
     c .number-of .ensures ∙ ap (numberAt 4 0) (c .before .rest .ensures) ∙ number-drop 4 (a .at) (now (a .s))
 
 pub u32-at-spec : {M : Type 1} → statement M
-u32-at-spec =
-    tie.close (tie.spec (λ c κs. search needs) (λ c κs. search needs) cast-result returns)
+u32-at-spec = tie.close (tie.spec (λ c κs. search needs) (λ c κs. search needs) cast-result returns)

@@ -15,5 +15,4 @@ returns c =
     c .number-of .ensures ∙ ap (numberAt 8 0) (c .before .rest .ensures) ∙ number-drop 8 (a .at) (now (a .s))
 
 pub u64-at-spec : {M : Type 1} → statement M
-u64-at-spec =
-    tie.close (tie.spec (λ c κs. search needs) (λ c κs. search needs) returns)
+u64-at-spec = tie.close (tie.spec (λ c κs. search needs) (λ c κs. search needs) returns)

@@ -36,5 +36,4 @@ returns-2 c =
     rw (f, g) (related-by cs (length cs) (a .source) (a .target) (q .placed .0) (q .sourceThere) (q .targetThere) (c .if1 .left))
 
 pub are-related-spec : {M : Type 1} → statement M
-are-related-spec =
-    tie.close (tie.spec element-copy-out-size (search needs) element-copy-out-size-2 (search needs) returns returns-2)
+are-related-spec = tie.close (tie.spec element-copy-out-size (search needs) element-copy-out-size-2 (search needs) returns returns-2)

@@ -42,5 +42,4 @@ returns-2 c =
     rw (← there .component-count .ensures, ← source .size .ensures, ← target .size2 .ensures, e) (c .are-related .ensures)
 
 pub coupling-fields-spec : {M : Type 1} → statement M
-coupling-fields-spec =
-    tie.close (tie.spec (search needs) (search needs) (search needs) returns are-related-requires returns-2)
+coupling-fields-spec = tie.close (tie.spec (search needs) (search needs) (search needs) returns are-related-requires returns-2)

@@ -18,5 +18,4 @@ returns-2 c =
     rw (ne-eqb _ _ (else1 .if1 .left))
 
 pub kind-fields-spec : {M : Type 1} → statement M
-kind-fields-spec =
-    tie.close (tie.spec returns returns-2)
+kind-fields-spec = tie.close (tie.spec returns returns-2)

@@ -9,5 +9,4 @@ unfolding advanceFits
 returns c = search needs
 
 pub phase-numbers-spec : {M : Type 1} → statement M
-phase-numbers-spec =
-    tie.close (tie.spec returns)
+phase-numbers-spec = tie.close (tie.spec returns)

@@ -26,5 +26,4 @@ returns-2 c =
     sym (breaks _ 4 _ (sym (fits-known (start .pre) (read .component-in .ensures)) ∙ sym (c .before .component-fits .ensures) ∙ c .if1 .left))
 
 pub read-component-spec : {M : Type 1} → statement M
-read-component-spec =
-    tie.close (tie.spec component-in-requires component-fits-requires returns returns-2)
+read-component-spec = tie.close (tie.spec component-in-requires component-fits-requires returns returns-2)

@@ -38,5 +38,4 @@ returns-3 c =
     rw (f, ← after-coupling-in .coupling-in .ensures, ← after-coupling-fields .coupling-fields .ensures, not-false (after-coupling-fields .coupling-fields .result) (else1 .if1 .left)) (sym (keeps _ 8 _ refl))
 
 pub read-coupling-spec : {M : Type 1} → statement M
-read-coupling-spec =
-    tie.close (tie.spec (λ c κs. search needs) (λ c κs. search needs) returns (λ c κs. search needs) returns-2 returns-3)
+read-coupling-spec = tie.close (tie.spec (λ c κs. search needs) (λ c κs. search needs) returns (λ c κs. search needs) returns-2 returns-3)

@@ -34,5 +34,4 @@ returns-3 c =
     rw (← after-phase-in .phase-in .ensures) (sym (keeps _ 6 _ e))
 
 pub read-phase-spec : {M : Type 1} → statement M
-read-phase-spec =
-    tie.close (tie.spec (λ c κs. search needs) (λ c κs. search needs) returns (λ c κs. search needs) returns-2 returns-3)
+read-phase-spec = tie.close (tie.spec (λ c κs. search needs) (λ c κs. search needs) returns (λ c κs. search needs) returns-2 returns-3)

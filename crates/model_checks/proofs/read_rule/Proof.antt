@@ -16,5 +16,4 @@ returns-2 c =
     rw (← after-rule-in .rule-in .ensures) (sym (breaks _ 7 _ (sym (c .before .rule-fields .ensures) ∙ c .if1 .left)))
 
 pub read-rule-spec : {M : Type 1} → statement M
-read-rule-spec =
-    tie.close (tie.spec (λ c κs. search needs) (λ c κs. search needs) returns returns-2)
+read-rule-spec = tie.close (tie.spec (λ c κs. search needs) (λ c κs. search needs) returns returns-2)

@@ -6,9 +6,7 @@ use Rattle.model_file.proofs.components_of.Tie as tie
 
 returns : tie.Need-returns
 unfolding componentsPart
-returns c =
-    c .section-part .ensures
+returns c = c .section-part .ensures
 
 pub components-of-spec : {M : Type 1} → statement M
-components-of-spec =
-    tie.close (tie.spec (λ c κs. search needs) returns)
+components-of-spec = tie.close (tie.spec (λ c κs. search needs) returns)

@@ -11,9 +11,7 @@ use Rattle.model_records.proofs.component_count.Tie as tie
 
 returns : tie.Need-returns
 unfolding componentsIn
-returns c =
-    sym (length-records componentSize toComponent (now (c .args .components)))
+returns c = sym (length-records componentSize toComponent (now (c .args .components)))
 
 pub component-count-spec : {M : Type 1} → statement M
-component-count-spec =
-    tie.close (tie.spec returns)
+component-count-spec = tie.close (tie.spec returns)

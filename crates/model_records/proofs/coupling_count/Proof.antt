@@ -11,9 +11,7 @@ use Rattle.model_records.proofs.coupling_count.Tie as tie
 
 returns : tie.Need-returns
 unfolding couplingsIn
-returns c =
-    sym (length-records couplingSize toCoupling (now (c .args .couplings)))
+returns c = sym (length-records couplingSize toCoupling (now (c .args .couplings)))
 
 pub coupling-count-spec : {M : Type 1} → statement M
-coupling-count-spec =
-    tie.close (tie.spec returns)
+coupling-count-spec = tie.close (tie.spec returns)

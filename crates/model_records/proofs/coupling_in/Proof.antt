@@ -21,5 +21,4 @@ returns c =
     rw (← record-is couplingSize toCoupling (now (start .args .couplings)) (start .args .i) noCoupling (start .pre) (bytes .record-bytes .ensures), field0 .byte-at .ensures, field1 .byte-at2 .ensures, field2 .byte-at3 .ensures, field3 .byte-at4 .ensures)
 
 pub coupling-in-spec : {M : Type 1} → statement M
-coupling-in-spec =
-    tie.close (tie.spec record-bytes-requires (search needs) (search needs) (search needs) (search needs) returns)
+coupling-in-spec = tie.close (tie.spec record-bytes-requires (search needs) (search needs) (search needs) (search needs) returns)

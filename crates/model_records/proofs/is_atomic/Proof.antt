@@ -6,9 +6,7 @@ use Rattle.model_records.proofs.is_atomic.Tie as tie
 
 returns : tie.Need-returns
 unfolding isAtomic
-returns c =
-    rw (← c .before .component-at .ensures)
+returns c = rw (← c .before .component-at .ensures)
 
 pub is-atomic-spec : {M : Type 1} → statement M
-is-atomic-spec =
-    tie.close (tie.spec (λ c κs. search needs) returns)
+is-atomic-spec = tie.close (tie.spec (λ c κs. search needs) returns)

@@ -11,9 +11,7 @@ use Rattle.model_records.proofs.phase_count.Tie as tie
 
 returns : tie.Need-returns
 unfolding phasesIn
-returns c =
-    sym (length-records phaseSize toPhase (now (c .args .phases)))
+returns c = sym (length-records phaseSize toPhase (now (c .args .phases)))
 
 pub phase-count-spec : {M : Type 1} → statement M
-phase-count-spec =
-    tie.close (tie.spec returns)
+phase-count-spec = tie.close (tie.spec returns)

@@ -18,8 +18,7 @@ abbrev μ-loop : tie.MeasureT-loop
 μ-loop components c total₀ i₀ total i = c - i
 
 loop-holds : tie.Need-loop-holds Inv-loop μ-loop
-loop-holds c =
-    (omega arith, omega arith, sym (before-none (componentsIn (now (c .before .args .components)))))
+loop-holds c = (omega arith, omega arith, sym (before-none (componentsIn (now (c .before .args .components)))))
 
 loop-again : tie.Need-loop-again Inv-loop μ-loop
 loop-again c =

@@ -11,9 +11,7 @@ use Rattle.model_records.proofs.rule_count.Tie as tie
 
 returns : tie.Need-returns
 unfolding rulesIn
-returns c =
-    sym (length-records ruleSize toRule (now (c .args .rules)))
+returns c = sym (length-records ruleSize toRule (now (c .args .rules)))
 
 pub rule-count-spec : {M : Type 1} → statement M
-rule-count-spec =
-    tie.close (tie.spec returns)
+rule-count-spec = tie.close (tie.spec returns)

@@ -27,5 +27,4 @@ returns-4 c =
     rw (le-ltb _ _ (counted .if1 .left), le-ltb _ _ (judged .if2 .left), ← count .u16-at .ensures, ← c .before .length-of .ensures .0, le-ltb _ _ (c .if3 .left))
 
 pub head-number-spec : {M : Type 1} → statement M
-head-number-spec =
-    tie.close (tie.spec returns returns-2 (search needs) (search needs) (search needs) returns-3 returns-4)
+head-number-spec = tie.close (tie.spec returns returns-2 (search needs) (search needs) (search needs) returns-3 returns-4)

@@ -13,8 +13,7 @@ mul-result : tie.Need-mul-result
 mul-result c = omega (arith, few (c .size16 .result) (c .before .args .size) (omega arith) (omega arith))
 
 returns : tie.Need-returns
-returns c =
-    (rw (c .size16 .ensures), omega (arith, few (c .size16 .result) (c .before .args .size) (omega arith) (omega arith)))
+returns c = (rw (c .size16 .ensures), omega (arith, few (c .size16 .result) (c .before .args .size) (omega arith) (omega arith)))
 
 pub length-of-spec : {M : Type 1} → statement M
 length-of-spec = tie.close (tie.spec (search needs) mul-result returns)

@@ -6,14 +6,11 @@ use Rattle.model_sections.proofs.limit_refusal.Tie as tie
 
 returns : tie.Need-returns
 unfolding limitRefusal
-returns c =
-    rw (lt-ltb _ _ (c .if1 .taken))
+returns c = rw (lt-ltb _ _ (c .if1 .taken))
 
 returns-2 : tie.Need-returns-2
 unfolding limitRefusal
-returns-2 c =
-    rw (le-ltb _ _ (c .if1 .left))
+returns-2 c = rw (le-ltb _ _ (c .if1 .left))
 
 pub limit-refusal-spec : {M : Type 1} → statement M
-limit-refusal-spec =
-    tie.close (tie.spec returns returns-2)
+limit-refusal-spec = tie.close (tie.spec returns returns-2)

@@ -12,5 +12,4 @@ returns c =
     rw (c .front .ensures, after-rest .rest .ensures, c .before .length-of .ensures .0)
 
 pub section-part-spec : {M : Type 1} → statement M
-section-part-spec =
-    tie.close (tie.spec (λ c κs. search needs) (λ c κs. search needs) (λ c κs. search needs) returns)
+section-part-spec = tie.close (tie.spec (λ c κs. search needs) (λ c κs. search needs) (λ c κs. search needs) returns)

@@ -22,8 +22,7 @@ abbrev μ-loop : tie.MeasureT-loop
 
 loop-holds : tie.Need-loop-holds Inv-loop μ-loop
 unfolding keep upFrom
-loop-holds c =
-    (omega arith, omega arith, refl)
+loop-holds c = (omega arith, omega arith, refl)
 
 add-k : tie.Need-add-k Inv-loop μ-loop
 add-k c =

@@ -17,5 +17,4 @@ returns c =
     ∙ ap (λ (p : Phase). dueAfter (a .e .last .0) (p .advance)) (c .before .phase-at .ensures ∙ ap (λ k. getD (phasesIn (a .phases .now)) (a .first + k) noPhase) (after-size .size .ensures))
 
 pub entry-due-spec : {M : Type 1} → statement M
-entry-due-spec =
-    tie.close (tie.spec (λ c κs. search needs) (λ c. search needs) (λ c κs. search needs) (λ c κs. search needs) returns)
+entry-due-spec = tie.close (tie.spec (λ c κs. search needs) (λ c. search needs) (λ c κs. search needs) (λ c κs. search needs) returns)

@@ -9,5 +9,4 @@ returns c =
     rw (after-is-before .is-before .ensures, c .not-before .ensures)
 
 pub entry-fits-spec : {M : Type 1} → statement M
-entry-fits-spec =
-    tie.close (tie.spec (λ c κs. search needs) (λ c κs. search needs) returns)
+entry-fits-spec = tie.close (tie.spec (λ c κs. search needs) (λ c κs. search needs) returns)

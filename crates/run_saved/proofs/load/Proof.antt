@@ -17,8 +17,7 @@ abbrev μ-loop : tie.MeasureT-loop
 μ-loop run n phase₀ last₀ i₀ phase last i = n - i
 
 loop-holds : tie.Need-loop-holds Inv-loop μ-loop
-loop-holds c =
-    (omega arith, (c .before .pre .1, c .before .pre .2), load-none _ (c .before .args .run .now))
+loop-holds c = (omega arith, (c .before .pre .1, c .before .pre .2), load-none _ (c .before .args .run .now))
 
 loop-again : tie.Need-loop-again Inv-loop μ-loop
 loop-again c =

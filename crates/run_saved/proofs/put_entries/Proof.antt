@@ -19,13 +19,11 @@ abbrev μ-loop : tie.MeasureT-loop
 μ-loop run₀ n phase last i₀ run i = n - i
 
 loop-holds : tie.Need-loop-holds Inv-loop μ-loop
-loop-holds c =
-    (omega arith, refl, refl)
+loop-holds c = (omega arith, refl, refl)
 
 put-entry-requires : tie.Need-put-entry-requires Inv-loop μ-loop
 unfolding runLength
-put-entry-requires c κs =
-    (omega arith, omega arith)
+put-entry-requires c κs = (omega arith, omega arith)
 
 loop-again : tie.Need-loop-again Inv-loop μ-loop
 loop-again c =
@@ -36,8 +34,7 @@ loop-again c =
     (omega arith, after-put-entry .put-entry .kept .0 ∙ l .inv .1, rw (after-put-entry .put-entry .ensures) (rows-put (held (a .phase .now) (a .last .now)) (a .n) (l .i) (l .run) (omega arith)) ∙ l .inv .2)
 
 same-length : tie.Need-same-length Inv-loop μ-loop
-same-length c =
-    c .before .loop .inv .1
+same-length c = c .before .loop .inv .1
 
 returns : tie.Need-returns Inv-loop μ-loop
 returns c =

@@ -7,9 +7,7 @@ use Rattle.run_saved.proofs.run_size.Tie as tie
 
 returns : tie.Need-returns
 unfolding runLength
-returns c =
-    refl
+returns c = refl
 
 pub run-size-spec : {M : Type 1} → statement M
-run-size-spec =
-    tie.close (tie.spec (λ c. search needs) (λ c. search needs) returns)
+run-size-spec = tie.close (tie.spec (λ c. search needs) (λ c. search needs) returns)

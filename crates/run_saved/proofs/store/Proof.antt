@@ -22,5 +22,4 @@ returns c =
     rw (after-put-entries .put-entries .ensures, after-put-number2 .put-number2 .ensures, after-put-number .put-number .ensures) (run-put (a .opening .0) (a .n) (held (a .phase .now) (a .last .now)) (a .run .now) (start .pre .1))
 
 pub store-spec : {M : Type 1} → statement M
-store-spec =
-    tie.close (tie.spec put-number-requires put-number-requires-2 (λ c κs. search needs) (λ c. search needs) returns)
+store-spec = tie.close (tie.spec put-number-requires put-number-requires-2 (λ c κs. search needs) (λ c. search needs) returns)

@@ -1,6 +1,5 @@
 -- The engine's answer and buffers are the definition's outcome, so the trace and the last line are those of the outcome's text.
 use borrow.Author.Needs.{needs}
-use native.Mathlib.Omega.{arith}
 use Rattle.run_text.proofs.Laws.{advanced-text}
 use Rattle.definition.specs.Engine.{advance}
 use Rattle.engine.specs.Answers.{advancedOf}
@@ -9,12 +8,6 @@ use mathlib.Core.List.{[]}
 use mathlib.Core.Path.{_≡_, sym, _∙_, ap}
 use Rattle.run_text.proofs.put_advanced.Statement.{statement}
 use Rattle.run_text.proofs.put_advanced.Tie as tie
-use Rattle.run_text.proofs.put_advanced.Reads as reads
-use Rattle.run_text.proofs.put_advanced.Lts as lts
-use Rattle.engine.proofs.advance.Reads as advance-reads
-use Rattle.little_endian.proofs.front.Reads as front-reads
-use Rattle.run_text.proofs.put_last.Reads as put-last-reads
-use Rattle.run_text.proofs.put_trace.Reads as put-trace-reads
 
 returns : tie.Need-returns
 returns c =

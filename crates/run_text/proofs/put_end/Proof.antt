@@ -1,15 +1,10 @@
 -- Two words and two fields, put one after the other, are the line: the law `end-line`.
 use borrow.Author.Needs.{needs}
-use native.Mathlib.Omega.{arith}
 use Rattle.run_text.proofs.Laws.{end-line}
 use denote.Ref.{now}
-use mathlib.Core.Path.{sym, _∙_, ap}
+use mathlib.Core.Path.{sym, _∙_}
 use Rattle.run_text.proofs.put_end.Statement.{statement}
 use Rattle.run_text.proofs.put_end.Tie as tie
-use Rattle.run_text.proofs.put_end.Reads as reads
-use Rattle.run_text.proofs.put_end.Lts as lts
-use Rattle.run_text.proofs.put_field.Reads as put-field-reads
-use Rattle.run_text.proofs.put_text.Reads as put-text-reads
 
 same-length : tie.Need-same-length
 same-length c =

@@ -1,6 +1,5 @@
 -- The digits, then the byte after them: the law `put-snoc`.
 use borrow.Author.Needs.{needs}
-use native.Mathlib.Omega.{arith}
 use Rattle.run_text.proofs.Laws.{put-snoc}
 use Rattle.run_text.specs.Text.{field, decimalIn, maxDigits}
 use Rattle.run_text.specs.Put.{put1}
@@ -8,10 +7,6 @@ use denote.Ref.{now}
 use mathlib.Core.Path.{sym, _∙_, ap}
 use Rattle.run_text.proofs.put_field.Statement.{statement}
 use Rattle.run_text.proofs.put_field.Tie as tie
-use Rattle.run_text.proofs.put_field.Reads as reads
-use Rattle.run_text.proofs.put_field.Lts as lts
-use Rattle.run_text.proofs.put_byte.Reads as put-byte-reads
-use Rattle.run_text.proofs.put_decimal.Reads as put-decimal-reads
 
 returns : tie.Need-returns
 unfolding field
@@ -22,5 +17,4 @@ returns c =
     ∙ sym (put-snoc (decimalIn maxDigits (a .n)) (a .after) (now (a .out), a .at))
 
 pub put-field-spec : {M : Type 1} → statement M
-put-field-spec =
-    tie.close (tie.spec (λ c κs. search needs) (λ c κs. search needs) (λ c. search needs) returns)
+put-field-spec = tie.close (tie.spec (λ c κs. search needs) (λ c κs. search needs) (λ c. search needs) returns)

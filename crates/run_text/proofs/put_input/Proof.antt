@@ -1,18 +1,10 @@
 -- The first line, then by the input's length the refusal or the run: the laws `input-short` and `input-long`.
 use borrow.Author.Needs.{needs}
-use native.Mathlib.Omega.{arith}
 use Rattle.run_text.proofs.Laws.{input-short, input-long}
 use denote.Ref.{now}
-use mathlib.Core.Path.{_≡_, sym}
+use mathlib.Core.Path.{sym}
 use Rattle.run_text.proofs.put_input.Statement.{statement}
 use Rattle.run_text.proofs.put_input.Tie as tie
-use Rattle.run_text.proofs.put_input.Reads as reads
-use Rattle.run_text.proofs.put_input.Lts as lts
-use Rattle.little_endian.proofs.rest.Reads as rest-reads
-use Rattle.little_endian.proofs.u64_at.Reads as u64-at-reads
-use Rattle.run_text.proofs.put_refused.Reads as put-refused-reads
-use Rattle.run_text.proofs.put_run.Reads as put-run-reads
-use Rattle.run_text.proofs.put_text.Reads as put-text-reads
 
 returns : tie.Need-returns
 returns c =

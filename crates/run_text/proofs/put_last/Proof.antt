@@ -1,16 +1,9 @@
 -- The test on the number chooses the line, as in the definition.
 use borrow.Author.Needs.{needs}
-use native.Mathlib.Omega.{arith}
 use Rattle.run_text.specs.Text.{lastLine}
 use borrow.Author.Tests.{eq-eqb, ne-eqb}
-use mathlib.Core.Path.{sym, _∙_, ap}
 use Rattle.run_text.proofs.put_last.Statement.{statement}
 use Rattle.run_text.proofs.put_last.Tie as tie
-use Rattle.run_text.proofs.put_last.Reads as reads
-use Rattle.run_text.proofs.put_last.Lts as lts
-use Rattle.little_endian.proofs.u64_at.Reads as u64-at-reads
-use Rattle.run_text.proofs.put_end.Reads as put-end-reads
-use Rattle.run_text.proofs.put_refused.Reads as put-refused-reads
 
 same-length : tie.Need-same-length
 same-length c =

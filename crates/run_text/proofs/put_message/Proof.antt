@@ -1,18 +1,10 @@
 -- Four fields, put one after the other, are the line: the law `message-line`.
 use borrow.Author.Needs.{needs}
-use native.Mathlib.Omega.{arith}
 use Rattle.run_text.proofs.Laws.{message-line}
 use denote.Ref.{now}
-use mathlib.Core.Path.{sym, _∙_, ap}
+use mathlib.Core.Path.{sym, _∙_}
 use Rattle.run_text.proofs.put_message.Statement.{statement}
 use Rattle.run_text.proofs.put_message.Tie as tie
-use Rattle.run_text.proofs.put_message.Reads as reads
-use Rattle.run_text.proofs.put_message.Lts as lts
-use Rattle.little_endian.proofs.byte_at.Reads as byte-at-reads
-use Rattle.little_endian.proofs.u16_at.Reads as u16-at-reads
-use Rattle.run_text.proofs.put_field.Reads as put-field-reads
-use Rattle.run_text.proofs.wide.Reads as wide-reads
-use Rattle.run_text.proofs.wide8.Reads as wide8-reads
 
 same-length : tie.Need-same-length
 same-length c =

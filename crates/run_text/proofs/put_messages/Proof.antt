@@ -8,15 +8,10 @@ use Rattle.definition.specs.Limits.{messageSize}
 use denote.Ref.{now}
 use lib.ListN.{length, drop}
 use native.Mathlib.Nat.{sub-zero}
-use mathlib.Core.Path.{_≡_, refl, sym, _∙_, ap}
+use mathlib.Core.Path.{_≡_, refl, sym, _∙_}
 use Prim.Native.Nat.{_-_, _*_, _≤_}
 use Rattle.run_text.proofs.put_messages.Statement.{statement}
 use Rattle.run_text.proofs.put_messages.Tie as tie
-use Rattle.run_text.proofs.put_messages.Reads as reads
-use Rattle.run_text.proofs.put_messages.Lts as lts
-use Rattle.little_endian.proofs.rest.Reads as rest-reads
-use Rattle.little_endian.proofs.size16.Reads as size16-reads
-use Rattle.run_text.proofs.put_message.Reads as put-message-reads
 
 abbrev Inv-loop : tie.InvT-loop
 Inv-loop out₀ at moment step count rows n k₀ to₀ out k to = (length out ≡ length out₀) × (k ≤ n) × (put (messageLines (n - k) moment step (drop (messageSize * k) rows)) (out, to) ≡ put (messageLines count moment step rows) (out₀, at))
@@ -25,8 +20,7 @@ abbrev μ-loop : tie.MeasureT-loop
 μ-loop out₀ at moment step count rows n k₀ to₀ out k to = n - k
 
 loop-holds : tie.Need-loop-holds Inv-loop μ-loop
-loop-holds c =
-    (refl, omega arith, rw (c .size16 .ensures, sub-zero))
+loop-holds c = (refl, omega arith, rw (c .size16 .ensures, sub-zero))
 
 loop-again : tie.Need-loop-again Inv-loop μ-loop
 loop-again c =
@@ -37,8 +31,7 @@ loop-again c =
     (after-put-message .put-message .kept .0 ∙ l .inv .0, omega arith, rw (after-put-message .put-message .ensures, after-rest .rest .ensures) (messages-more (after-size16 .size16 .result) (l .k) (a .moment) (a .step) (now (a .rows)) (l .out, l .to) (omega arith) ∙ l .inv .2))
 
 same-length : tie.Need-same-length Inv-loop μ-loop
-same-length c =
-    c .before .loop .inv .0
+same-length c = c .before .loop .inv .0
 
 returns : tie.Need-returns Inv-loop μ-loop
 returns c =

@@ -1,15 +1,8 @@
 -- The numbers at the record's front are those that its lines are made from.
 use borrow.Author.Needs.{needs}
-use native.Mathlib.Omega.{arith}
 use Rattle.run_text.specs.Text.{recordLines}
 use Rattle.run_text.proofs.put_record.Statement.{statement}
 use Rattle.run_text.proofs.put_record.Tie as tie
-use Rattle.run_text.proofs.put_record.Reads as reads
-use Rattle.run_text.proofs.put_record.Lts as lts
-use Rattle.little_endian.proofs.rest.Reads as rest-reads
-use Rattle.little_endian.proofs.u16_at.Reads as u16-at-reads
-use Rattle.little_endian.proofs.u64_at.Reads as u64-at-reads
-use Rattle.run_text.proofs.put_messages.Reads as put-messages-reads
 
 same-length : tie.Need-same-length
 same-length c =

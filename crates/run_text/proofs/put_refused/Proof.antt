@@ -1,15 +1,10 @@
 -- A word and a field, put one after the other, are the line: the law `refused-line`.
 use borrow.Author.Needs.{needs}
-use native.Mathlib.Omega.{arith}
 use Rattle.run_text.proofs.Laws.{refused-line}
 use denote.Ref.{now}
-use mathlib.Core.Path.{sym, _∙_, ap}
+use mathlib.Core.Path.{sym, _∙_}
 use Rattle.run_text.proofs.put_refused.Statement.{statement}
 use Rattle.run_text.proofs.put_refused.Tie as tie
-use Rattle.run_text.proofs.put_refused.Reads as reads
-use Rattle.run_text.proofs.put_refused.Lts as lts
-use Rattle.run_text.proofs.put_field.Reads as put-field-reads
-use Rattle.run_text.proofs.put_text.Reads as put-text-reads
 
 same-length : tie.Need-same-length
 same-length c =
@@ -23,5 +18,4 @@ returns c =
     rw (after-put-field .put-field .ensures, after-put-text .put-text .ensures) (sym (refused-line (a .refusal) (now (a .out), a .at)))
 
 pub put-refused-spec : {M : Type 1} → statement M
-put-refused-spec =
-    tie.close (tie.spec (λ c. search needs) (λ c κs. search needs) (λ c κs. search needs) same-length returns)
+put-refused-spec = tie.close (tie.spec (λ c. search needs) (λ c κs. search needs) (λ c κs. search needs) same-length returns)

@@ -1,18 +1,12 @@
 -- The engine's answer and buffer are the definition's outcome of start; its number chooses between the refusal and the advance.
 use borrow.Author.Needs.{needs}
-use native.Mathlib.Omega.{arith}
 use Rattle.run_text.proofs.Laws.{started-on, started-off}
 use Rattle.definition.specs.Engine.{start}
 use Rattle.engine.specs.Answers.{wroteOf}
 use denote.Ref.{now}
-use mathlib.Core.Path.{_≡_, sym}
+use mathlib.Core.Path.{_≡_}
 use Rattle.run_text.proofs.put_run.Statement.{statement}
 use Rattle.run_text.proofs.put_run.Tie as tie
-use Rattle.run_text.proofs.put_run.Reads as reads
-use Rattle.run_text.proofs.put_run.Lts as lts
-use Rattle.engine.proofs.start.Reads as start-reads
-use Rattle.run_text.proofs.put_advanced.Reads as put-advanced-reads
-use Rattle.run_text.proofs.put_refused.Reads as put-refused-reads
 
 returns : tie.Need-returns
 returns c =

@@ -5,13 +5,10 @@ use Rattle.run_text.proofs.Laws.{text-more, text-none}
 use Rattle.run_text.specs.Put.{put}
 use denote.Ref.{now}
 use lib.ListN.{length, drop}
-use mathlib.Core.Path.{_≡_, refl, sym, _∙_, ap}
+use mathlib.Core.Path.{_≡_, refl, sym, _∙_}
 use Prim.Native.Nat.{_-_}
 use Rattle.run_text.proofs.put_text.Statement.{statement}
 use Rattle.run_text.proofs.put_text.Tie as tie
-use Rattle.run_text.proofs.put_text.Reads as reads
-use Rattle.run_text.proofs.put_text.Lts as lts
-use Rattle.run_text.proofs.put_byte.Reads as put-byte-reads
 
 abbrev Inv-loop : tie.InvT-loop
 Inv-loop out₀ at text k₀ to₀ out k to = (length out ≡ length out₀) × (put (drop k text) (out, to) ≡ put text (out₀, at))
@@ -20,8 +17,7 @@ abbrev μ-loop : tie.MeasureT-loop
 μ-loop out₀ at text k₀ to₀ out k to = length text - k
 
 loop-holds : tie.Need-loop-holds Inv-loop μ-loop
-loop-holds c =
-    (refl, refl)
+loop-holds c = (refl, refl)
 
 loop-again : tie.Need-loop-again Inv-loop μ-loop
 loop-again c =
@@ -31,8 +27,7 @@ loop-again c =
     (after-put-byte .put-byte .kept .0 ∙ l .inv .0, rw (after-put-byte .put-byte .ensures) (text-more (now (a .text)) (l .k) (l .out, l .to) (omega arith) ∙ l .inv .1))
 
 same-length : tie.Need-same-length Inv-loop μ-loop
-same-length c =
-    c .before .loop .inv .0
+same-length c = c .before .loop .inv .0
 
 returns : tie.Need-returns Inv-loop μ-loop
 returns c =

@@ -6,16 +6,10 @@ use Rattle.run_text.specs.Text.{lines, traceLines}
 use Rattle.run_text.specs.Put.{put}
 use denote.Ref.{now}
 use lib.ListN.{length, drop}
-use mathlib.Core.Path.{_≡_, refl, sym, _∙_, ap}
-use Prim.Native.Nat.{_-_, _*_, _≤_, _+_}
+use mathlib.Core.Path.{_≡_, refl, sym, _∙_}
+use Prim.Native.Nat.{_-_}
 use Rattle.run_text.proofs.put_trace.Statement.{statement}
 use Rattle.run_text.proofs.put_trace.Tie as tie
-use Rattle.run_text.proofs.put_trace.Reads as reads
-use Rattle.run_text.proofs.put_trace.Lts as lts
-use Rattle.little_endian.proofs.rest.Reads as rest-reads
-use Rattle.little_endian.proofs.size16.Reads as size16-reads
-use Rattle.little_endian.proofs.u16_at.Reads as u16-at-reads
-use Rattle.run_text.proofs.put_record.Reads as put-record-reads
 
 abbrev Inv-loop : tie.InvT-loop
 Inv-loop out₀ at trace turns₀ from₀ to₀ out turns from to = (length out ≡ length out₀) × (put (lines turns (drop from trace)) (out, to) ≡ put (traceLines trace) (out₀, at))
@@ -25,8 +19,7 @@ abbrev μ-loop : tie.MeasureT-loop
 
 loop-holds : tie.Need-loop-holds Inv-loop μ-loop
 unfolding traceLines
-loop-holds c =
-    (refl, refl)
+loop-holds c = (refl, refl)
 
 same-length : tie.Need-same-length Inv-loop μ-loop
 same-length c =
@@ -47,8 +40,7 @@ loop-again c =
     (after-put-record .put-record .kept .0 ∙ l .inv .0, rw (c .size16 .ensures, c .before .u16-at .ensures, after-put-record .put-record .ensures, after-rest .rest .ensures) (lines-more (l .turns) (l .from) (now (a .trace)) (l .out, l .to) (omega arith) (omega arith) ∙ l .inv .1))
 
 same-length-2 : tie.Need-same-length-2 Inv-loop μ-loop
-same-length-2 c =
-    c .before .loop .inv .0
+same-length-2 c = c .before .loop .inv .0
 
 returns-2 : tie.Need-returns-2 Inv-loop μ-loop
 returns-2 c =

@@ -1,12 +1,8 @@
 -- The definition's buffers are zeros, as the arrays are.
 use borrow.Author.Needs.{needs}
-use native.Mathlib.Omega.{arith}
 use Rattle.run_text.specs.Text.{runText}
 use Rattle.run_text.proofs.run_text.Statement.{statement}
 use Rattle.run_text.proofs.run_text.Tie as tie
-use Rattle.run_text.proofs.run_text.Reads as reads
-use Rattle.run_text.proofs.run_text.Lts as lts
-use Rattle.run_text.proofs.put_input.Reads as put-input-reads
 
 returns : tie.Need-returns
 unfolding runText
@@ -15,5 +11,4 @@ returns c =
     after-put-input .put-input .ensures
 
 pub run-text-spec : {M : Type 1} → statement M
-run-text-spec =
-    tie.close (tie.spec (λ c. search needs) (λ c. search needs) (λ c κs. search needs) (λ c. search needs) returns)
+run-text-spec = tie.close (tie.spec (λ c. search needs) (λ c. search needs) (λ c κs. search needs) (λ c. search needs) returns)

@@ -11,10 +11,6 @@ use Rattle.run_text.proofs.Fronts.{front-same}
 use Rattle.law_stores.proofs.Fronts.{put-whole}
 use Rattle.run_text.proofs.whole_text.Statement.{statement}
 use Rattle.run_text.proofs.whole_text.Tie as tie
-use Rattle.run_text.proofs.whole_text.Reads as reads
-use Rattle.run_text.proofs.whole_text.Lts as lts
-use Rattle.little_endian.proofs.front.Reads as front-reads
-use Rattle.run_text.proofs.run_text.Reads as run-text-reads
 
 returns : tie.Need-returns
 returns c =
@@ -31,5 +27,4 @@ returns c =
     )
 
 pub whole-text-spec : {M : Type 1} → statement M
-whole-text-spec =
-    tie.close (tie.spec (λ c κs. search needs) (λ c κs. search needs) returns)
+whole-text-spec = tie.close (tie.spec (λ c κs. search needs) (λ c κs. search needs) returns)

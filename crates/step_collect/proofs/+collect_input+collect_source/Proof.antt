@@ -4,12 +4,11 @@ use borrow.Author.Needs.{needs}
 use native.Mathlib.Omega.{arith}
 use Prim.Native.Nat.{_≤_, _+_, _-_, _*_, ℕ, _<_}
 use mathlib.Core.Path.{_≡_, _∙_, refl, sym, ap}
-use mathlib.Core.List.{[]}
 use mathlib.Core.Bool.{true, false}
 use lib.ListN.{length}
 use denote.Ref.{now}
 use borrow.Author.Tests.{lt-ltb, le-ltb, not-true, not-false}
-use Rattle.spec_step.specs.TableStep.{isOpen, pulledInto}
+use Rattle.spec_step.specs.TableStep.{pulledInto}
 use Rattle.spec_step.specs.Tables.{isRootNode, isOutput}
 use Rattle.spec_step.specs.Put.{puts}
 use Rattle.spec_step.specs.Pull.{joined, childOut, sourceIn}
@@ -45,8 +44,7 @@ abbrev μ-collect-source : Measures 6 collect-source-kinds.ps ℕ
 μ-collect-source κs a = 2 * a .1 .1 .1 .1 .1 .0 + 1
 
 abbrev collect-input-at : ℕ → In 6 collect-input-kinds.ps
-collect-input-at t =
-    and 6 collect-input-kinds.ps (is 6 collect-input-kinds.ps μ-collect-input t) collect-input.Pre
+collect-input-at t = and 6 collect-input-kinds.ps (is 6 collect-input-kinds.ps μ-collect-input t) collect-input.Pre
 
 abbrev collect-input-below : ℕ → In 6 collect-input-kinds.ps
 collect-input-below t =
@@ -107,8 +105,7 @@ collect-input-loop-holds t c =
     (omega arith, rw (c .first-link .ensures) (given .1 .firsts (a .x) (given .0)), refl, rw (c .first-link .ensures) (ap (λ l. puts (a .own) l (now (a .buf), a .at)) (input-open (phasesIn (now (a .phases))) (now (a .tables)) (now (a .marks)) (now (a .reached)) (toBag (now (a .given))) (a .depth) (a .x) r (omega arith) (given .3))))
 
 collect-input-source-of-requires : (t : ℕ) → collect-input-lts.Need-source-of-requires (collect-input-calls t) (collect-input-at t) collect-input.Post collect-input-Inv-loop collect-input-μ-loop
-collect-input-source-of-requires t c κs =
-    c .before .loop .inv .1
+collect-input-source-of-requires t c κs = c .before .loop .inv .1
 
 collect-input-sub-collect-source : (t : ℕ) → collect-input-lts.Need-sub-collect-source (collect-input-calls t) (collect-input-at t) collect-input.Post collect-input-Inv-loop collect-input-μ-loop
 collect-input-sub-collect-source t c = search needs
@@ -152,8 +149,7 @@ collect-input-loop-again t c =
     (omega arith, rw (c .next-link .ensures) (start .pre .1 .1 .nexts (l .link) (l .inv .1)), m .kept .1 .1 .1 .1 .1 .1 .1 .1 .0 ∙ l .inv .2, rw (m .ensures, after-source-of .source-of .ensures, c .next-link .ensures) (chain-more f (now (a .tables)) (a .own) (l .left) (l .link) (l .buf, l .next) (in-loop .loop-test .taken) ∙ l .inv .3))
 
 collect-input-same-length : (t : ℕ) → collect-input-lts.Need-same-length (collect-input-calls t) (collect-input-at t) collect-input.Post collect-input-Inv-loop collect-input-μ-loop
-collect-input-same-length t c =
-    c .before .loop .inv .2
+collect-input-same-length t c = c .before .loop .inv .2
 
 collect-input-returns-2 : (t : ℕ) → collect-input-lts.Need-returns-2 (collect-input-calls t) (collect-input-at t) collect-input.Post collect-input-Inv-loop collect-input-μ-loop
 collect-input-returns-2 t c =

@@ -28,8 +28,7 @@ returns c =
     sym (unreached (phasesIn (now (a .phases))) (now (a .tables)) (now (a .marks)) (now (a .reached)) (toBag (now (a .given))) 8 (a .c) 4 0 (now (a .buf), 0) (rw (c .before .mark-at .ensures, after-size16 .size16 .ensures) at (c .if1 .taken)) (omega arith))
 
 loop-holds : tie.Need-loop-holds Inv-loop μ-loop
-loop-holds c =
-    (omega arith, refl, refl)
+loop-holds c = (omega arith, refl, refl)
 
 collect-arriving-requires : tie.Need-collect-arriving-requires Inv-loop μ-loop
 collect-arriving-requires c κs =
@@ -48,12 +47,10 @@ loop-again c =
     (omega arith, m .kept .1 .1 .1 .1 .1 .1 .1 .0 ∙ l .inv .1, rw (m .ensures, after-input-node .input-node .ensures) (ports-more f 4 (l .q) (l .buf, l .next) (omega arith) ∙ l .inv .2))
 
 same-length : tie.Need-same-length Inv-loop μ-loop
-same-length c =
-    c .before .loop .inv .1
+same-length c = c .before .loop .inv .1
 
 returns-2 : tie.Need-returns-2 Inv-loop μ-loop
-returns-2 c =
-    sym (ports-none _ 4 (c .before .loop .q) _ (omega arith)) ∙ c .before .loop .inv .2
+returns-2 c = sym (ports-none _ 4 (c .before .loop .q) _ (omega arith)) ∙ c .before .loop .inv .2
 
 pub collect-bag-spec : {M : Type 1} → statement M
 collect-bag-spec =

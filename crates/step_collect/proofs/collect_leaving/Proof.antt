@@ -33,5 +33,4 @@ returns-2 c =
     after-collect-coupled .collect-coupled .ensures
 
 pub collect-leaving-spec : {M : Type 1} → statement M
-collect-leaving-spec =
-    tie.close (tie.spec (λ c κs. search needs) returns collect-coupled-requires same-length returns-2)
+collect-leaving-spec = tie.close (tie.spec (λ c κs. search needs) returns collect-coupled-requires same-length returns-2)

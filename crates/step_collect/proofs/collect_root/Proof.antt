@@ -21,8 +21,7 @@ abbrev μ-loop : tie.MeasureT-loop
 μ-loop phases tables marks reached buf₀ next₀ q₀ buf next q = 4 - q
 
 loop-holds : tie.Need-loop-holds Inv-loop μ-loop
-loop-holds c =
-    (omega arith, refl, refl)
+loop-holds c = (omega arith, refl, refl)
 
 collect-leaving-requires : tie.Need-collect-leaving-requires Inv-loop μ-loop
 collect-leaving-requires c κs =
@@ -40,12 +39,10 @@ loop-again c =
     (omega arith, m .kept .1 .1 .1 .1 .1 .1 .0 ∙ l .inv .1, rw (m .ensures, after-root-output .root-output .ensures) (ports-more f 4 (l .q) (l .buf, l .next) (omega arith) ∙ l .inv .2))
 
 same-length : tie.Need-same-length Inv-loop μ-loop
-same-length c =
-    c .before .loop .inv .1
+same-length c = c .before .loop .inv .1
 
 returns : tie.Need-returns Inv-loop μ-loop
-returns c =
-    sym (ports-none _ 4 (c .before .loop .q) _ (omega arith)) ∙ c .before .loop .inv .2
+returns c = sym (ports-none _ 4 (c .before .loop .q) _ (omega arith)) ∙ c .before .loop .inv .2
 
 pub collect-root-spec : {M : Type 1} → statement M
 collect-root-spec =

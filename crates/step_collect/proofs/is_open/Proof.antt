@@ -11,5 +11,4 @@ returns c =
     rw (c .may-come .ensures, c .before .word-in .ensures, after-size .size .ensures)
 
 pub is-open-spec : {M : Type 1} → statement M
-is-open-spec =
-    tie.close (tie.spec (λ c κs. search needs) (λ c. search needs) (λ c κs. search needs) (λ c κs. search needs) returns)
+is-open-spec = tie.close (tie.spec (λ c κs. search needs) (λ c. search needs) (λ c κs. search needs) (λ c κs. search needs) returns)

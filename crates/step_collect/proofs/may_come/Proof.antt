@@ -19,5 +19,4 @@ returns-2 c =
     rw (le-ltb _ _ (c .before .if1 .left), c .mark-at2 .ensures, after-size .size .ensures)
 
 pub may-come-spec : {M : Type 1} → statement M
-may-come-spec =
-    tie.close (tie.spec (λ c κs. search needs) (λ c κs. search needs) (λ c κs. search needs) returns returns-2)
+may-come-spec = tie.close (tie.spec (λ c κs. search needs) (λ c κs. search needs) (λ c κs. search needs) returns returns-2)

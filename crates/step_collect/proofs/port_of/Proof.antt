@@ -6,9 +6,7 @@ use Rattle.step_collect.proofs.port_of.Tie as tie
 
 returns : tie.Need-returns
 unfolding nodePort
-returns c =
-    search needs
+returns c = search needs
 
 pub port-of-spec : {M : Type 1} → statement M
-port-of-spec =
-    tie.close (tie.spec (λ c. search needs) returns)
+port-of-spec = tie.close (tie.spec (λ c. search needs) returns)

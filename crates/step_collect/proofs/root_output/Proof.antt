@@ -6,9 +6,7 @@ use Rattle.step_collect.proofs.root_output.Tie as tie
 
 returns : tie.Need-returns
 unfolding outputNode
-returns c =
-    search needs
+returns c = search needs
 
 pub root-output-spec : {M : Type 1} → statement M
-root-output-spec =
-    tie.close (tie.spec (λ c. search needs) returns)
+root-output-spec = tie.close (tie.spec (λ c. search needs) returns)

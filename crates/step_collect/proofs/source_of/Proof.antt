@@ -9,5 +9,4 @@ returns c =
     rw (c .node .ensures, c .before .word-in .ensures, after-size16 .size16 .ensures)
 
 pub source-of-spec : {M : Type 1} → statement M
-source-of-spec =
-    tie.close (tie.spec (λ c κs. search needs) (λ c. search needs) (λ c κs. search needs) (λ c κs. search needs) returns)
+source-of-spec = tie.close (tie.spec (λ c κs. search needs) (λ c. search needs) (λ c κs. search needs) (λ c κs. search needs) returns)

@@ -33,8 +33,7 @@ abbrev end-below-at : ℕ → In 2 end-below-kinds.ps
 end-below-at t = and 2 end-below-kinds.ps (is 2 end-below-kinds.ps μ-end-below t) end-below.Pre
 
 abbrev end-below-below : ℕ → In 2 end-below-kinds.ps
-end-below-below t =
-    and 2 end-below-kinds.ps (falls 2 end-below-kinds.ps _<_ μ-end-below t) end-below.Pre
+end-below-below t = and 2 end-below-kinds.ps (falls 2 end-below-kinds.ps _<_ μ-end-below t) end-below.Pre
 
 abbrev end-below-Inv-loop : end-below-lts.InvT-loop
 end-below-Inv-loop tables ends c least₀ left₀ d₀ least left d =
@@ -75,8 +74,7 @@ end-below-loop-holds t c =
     (omega arith, rw child (q .1 .children (a .c) (q .0)), rw child (q .1 .children-rise (a .c) (q .0)), omega arith, rw child (end-coupled (now (a .tables)) (now (a .ends)) (a .c) (sym (after-is-atomic .is-atomic .ensures) ∙ c .before .if1 .left)))
 
 end-below-is-atomic-requires-2 : (t : ℕ) → end-below-lts.Need-is-atomic-requires-2 (end-below-calls t) (end-below-at t) end-below.Post end-below-Inv-loop end-below-μ-loop
-end-below-is-atomic-requires-2 t c κs =
-    c .before .loop .inv .1
+end-below-is-atomic-requires-2 t c κs = c .before .loop .inv .1
 
 end-below-end-of-requires-2 : (t : ℕ) → end-below-lts.Need-end-of-requires-2 (end-below-calls t) (end-below-at t) end-below.Post end-below-Inv-loop end-below-μ-loop
 end-below-end-of-requires-2 t c κs =

@@ -15,5 +15,4 @@ returns c =
     rw (c .before .size16 .ensures, after-row-in .row-in .ensures)
 
 pub end-of-spec : {M : Type 1} → statement M
-end-of-spec =
-    tie.close (tie.spec (λ c κs. search needs) (λ c κs. search needs) (λ c. search needs) element-copy-out-result returns)
+end-of-spec = tie.close (tie.spec (λ c κs. search needs) (λ c κs. search needs) (λ c. search needs) element-copy-out-result returns)

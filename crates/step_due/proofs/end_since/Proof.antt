@@ -14,5 +14,4 @@ returns c =
     c .due-number .ensures ∙ ap dueNumber (rw (ap (λ k. k .advance) (after-phase-in .phase-in .ensures)) at (c .before .due-after .ensures))
 
 pub end-since-spec : {M : Type 1} → statement M
-end-since-spec =
-    tie.close (tie.spec (λ c κs. search needs) (λ c κs. search needs) (λ c κs. search needs) returns)
+end-since-spec = tie.close (tie.spec (λ c κs. search needs) (λ c κs. search needs) (λ c κs. search needs) returns)

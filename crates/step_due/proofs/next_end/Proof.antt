@@ -6,9 +6,7 @@ use Rattle.step_due.proofs.next_end.Tie as tie
 
 returns : tie.Need-returns
 unfolding nextEnd
-returns c =
-    c .end-below .ensures
+returns c = c .end-below .ensures
 
 pub next-end-spec : {M : Type 1} → statement M
-next-end-spec =
-    tie.close (tie.spec (λ c κs. search needs) returns)
+next-end-spec = tie.close (tie.spec (λ c κs. search needs) returns)

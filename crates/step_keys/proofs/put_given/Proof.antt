@@ -18,8 +18,7 @@ abbrev μ-loop : tie.MeasureT-loop
 μ-loop given q own buf₀ at n next₀ i₀ buf next i = n - i
 
 loop-holds : tie.Need-loop-holds Inv-loop μ-loop
-loop-holds c =
-    (refl, omega arith, refl, refl)
+loop-holds c = (refl, omega arith, refl, refl)
 
 loop-again : tie.Need-loop-again Inv-loop μ-loop
 loop-again c =
@@ -32,8 +31,7 @@ loop-again c =
     (l .inv .0, omega arith, m .kept .1 .1 .1 .0 ∙ l .inv .2, rw (m .ensures, after-u16-at .u16-at .ensures, after-byte-at .byte-at .ensures) (given-more (now (a .given)) (a .q) (a .own) (l .i) (l .buf, l .next) (omega arith) ∙ l .inv .3))
 
 same-length : tie.Need-same-length Inv-loop μ-loop
-same-length c =
-    c .before .loop .inv .2
+same-length c = c .before .loop .inv .2
 
 returns : tie.Need-returns Inv-loop μ-loop
 returns c =

@@ -12,8 +12,7 @@ use Rattle.step_keys.proofs.put_sent.Tie as tie
 
 returns : tie.Need-returns
 unfolding puts sentOn
-returns c =
-    rw (eq-eqb _ _ (c .if1 .taken))
+returns c = rw (eq-eqb _ _ (c .if1 .taken))
 
 returns-2 : tie.Need-returns-2
 unfolding sentOn

@@ -34,8 +34,7 @@ loop-again c =
     (l .inv .0, omega arith, l .inv .2, m .kept .1 .1 .1 .0 ∙ l .inv .3, rw (m .ensures, after-u16-at .u16-at .ensures, after-byte-at .byte-at .ensures) (slot-more (now (a .phase)) (a .q) (a .own) (l .j) (l .buf, l .next) (omega arith) ∙ l .inv .4))
 
 same-length : tie.Need-same-length Inv-loop μ-loop
-same-length c =
-    c .before .loop .inv .3
+same-length c = c .before .loop .inv .3
 
 returns : tie.Need-returns Inv-loop μ-loop
 returns c =

@@ -19,9 +19,7 @@ returns c =
 
 returns-2 : tie.Need-returns-2
 unfolding puts keyOf wantedValue
-returns-2 c =
-    rw (c .if1 .left)
+returns-2 c = rw (c .if1 .left)
 
 pub put-wanted-spec : {M : Type 1} → statement M
-put-wanted-spec =
-    tie.close (tie.spec (λ c. search needs) (λ c. search needs) (λ c κs. search needs) same-length returns returns-2)
+put-wanted-spec = tie.close (tie.spec (λ c. search needs) (λ c. search needs) (λ c κs. search needs) same-length returns returns-2)

@@ -17,5 +17,4 @@ returns-2 c =
     omega (arith, c .before .size .ensures, after-byte-at .byte-at .ensures, length-outputs (now (start .args .phase)))
 
 pub used-slots-spec : {M : Type 1} → statement M
-used-slots-spec =
-    tie.close (tie.spec (λ c κs. search needs) (λ c κs. search needs) returns returns-2)
+used-slots-spec = tie.close (tie.spec (λ c κs. search needs) (λ c κs. search needs) returns returns-2)

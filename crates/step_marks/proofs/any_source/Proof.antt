@@ -26,8 +26,7 @@ loop-holds c =
     (omega arith, rw (c .first-link .ensures) (q .1 .firsts (c .before .args .x) (q .0)), rw (c .first-link .ensures, rows-first))
 
 source-of-requires : tie.Need-source-of-requires Inv-loop μ-loop
-source-of-requires c κs =
-    c .before .loop .inv .1
+source-of-requires c κs = c .before .loop .inv .1
 
 may-come-requires : tie.Need-may-come-requires Inv-loop μ-loop
 may-come-requires c κs =

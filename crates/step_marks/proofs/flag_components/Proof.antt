@@ -19,8 +19,7 @@ abbrev μ-loop : tie.MeasureT-loop
 μ-loop tables marks reached₀ count c₀ reached c = count - c
 
 loop-holds : tie.Need-loop-holds Inv-loop μ-loop
-loop-holds c =
-    (c .word-in .ensures, rw (c .word-in .ensures))
+loop-holds c = (c .word-in .ensures, rw (c .word-in .ensures))
 
 may-reach-requires : tie.Need-may-reach-requires Inv-loop μ-loop
 may-reach-requires c κs =

@@ -9,5 +9,4 @@ returns c =
     rw (after-mark-atomics .mark-atomics .ensures) at (c .mark-parents .ensures)
 
 pub mark-spec : {M : Type 1} → statement M
-mark-spec =
-    tie.close (tie.spec (λ c κs. search needs) (λ c κs. search needs) returns)
+mark-spec = tie.close (tie.spec (λ c κs. search needs) (λ c κs. search needs) returns)

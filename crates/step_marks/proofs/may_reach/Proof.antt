@@ -20,8 +20,7 @@ abbrev μ-loop : tie.MeasureT-loop
 μ-loop tables marks reached c q₀ q = 4 - q
 
 loop-holds : tie.Need-loop-holds Inv-loop μ-loop
-loop-holds c =
-    (omega arith, refl)
+loop-holds c = (omega arith, refl)
 
 any-source-requires : tie.Need-any-source-requires Inv-loop μ-loop
 any-source-requires c κs =

@@ -10,5 +10,4 @@ returns c =
     rw (after-put-mark .put-mark .ensures, after-flag .flag .ensures, given-flag) at (c .flag-components .ensures)
 
 pub reach-spec : {M : Type 1} → statement M
-reach-spec =
-    tie.close (tie.spec (λ c κs. search needs) (λ c κs. search needs) (λ c κs. search needs) returns)
+reach-spec = tie.close (tie.spec (λ c κs. search needs) (λ c κs. search needs) (λ c κs. search needs) returns)

@@ -40,5 +40,4 @@ returns-3 c =
     none-past (now (a .rules)) (a .component) (a .phase) (a .elapsed .0) (map messageOf (now (a .bag))) (a .i) (a .end) (omega arith) (ap h (sym (after-rule-at .rule-at .ensures)) ∙ sym (c .before .rule-holds .ensures) ∙ c .if2 .left)
 
 pub decided-past-spec : {M : Type 1} → statement M
-decided-past-spec =
-    tie.close (tie.spec returns (λ c κs. search needs) (λ c κs. search needs) returns-2 returns-3)
+decided-past-spec = tie.close (tie.spec returns (λ c κs. search needs) (λ c κs. search needs) returns-2 returns-3)

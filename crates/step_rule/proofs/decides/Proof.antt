@@ -26,5 +26,4 @@ returns-2 c =
     c .rule-holds .ensures ∙ ap (holds (a .component) (a .phase) (a .elapsed .0) (map messageOf (now (a .bag)))) (c .before .rule-at .ensures)
 
 pub decides-spec : {M : Type 1} → statement M
-decides-spec =
-    tie.close (tie.spec (λ c κs. search needs) returns (λ c κs. search needs) (λ c κs. search needs) returns-2)
+decides-spec = tie.close (tie.spec (λ c κs. search needs) returns (λ c κs. search needs) (λ c κs. search needs) returns-2)

@@ -23,8 +23,7 @@ abbrev μ-loop : tie.MeasureT-loop
 μ-loop rules first end component phase elapsed bag stop head i₀ at₀ i at = end - i
 
 loop-holds : tie.Need-loop-holds Inv-loop μ-loop
-loop-holds c =
-    (refl, refl)
+loop-holds c = (refl, refl)
 
 loop-again : tie.Need-loop-again Inv-loop μ-loop
 unfolding decidingIn

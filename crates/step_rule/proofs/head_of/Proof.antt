@@ -7,14 +7,11 @@ use Rattle.step_rule.proofs.head_of.Tie as tie
 
 returns : tie.Need-returns
 unfolding headOf
-returns c =
-    rw (lt-ltb _ _ (c .before .if1 .taken), c .wide8 .ensures)
+returns c = rw (lt-ltb _ _ (c .before .if1 .taken), c .wide8 .ensures)
 
 returns-2 : tie.Need-returns-2
 unfolding headOf
-returns-2 c =
-    rw (le-ltb _ _ (c .if1 .left))
+returns-2 c = rw (le-ltb _ _ (c .if1 .left))
 
 pub head-of-spec : {M : Type 1} → statement M
-head-of-spec =
-    tie.close (tie.spec (λ c κs. search needs) (λ c. search needs) (λ c. search needs) returns returns-2)
+head-of-spec = tie.close (tie.spec (λ c κs. search needs) (λ c. search needs) (λ c. search needs) returns returns-2)

@@ -13,8 +13,7 @@ returns c =
 
 returns-2 : tie.Need-returns-2
 unfolding holds
-returns-2 c =
-    rw (sym (c .before .within-elapsed .ensures), c .if1 .left)
+returns-2 c = rw (sym (c .before .within-elapsed .ensures), c .if1 .left)
 
 pub rule-holds-spec : {M : Type 1} → statement M
 rule-holds-spec =

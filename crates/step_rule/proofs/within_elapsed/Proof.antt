@@ -6,9 +6,7 @@ use Rattle.step_rule.proofs.within_elapsed.Tie as tie
 
 returns : tie.Need-returns
 unfolding withinElapsed
-returns c =
-    cc
+returns c = cc
 
 pub within-elapsed-spec : {M : Type 1} → statement M
-within-elapsed-spec =
-    tie.close (tie.spec (λ c κs. search needs) (λ c κs. search needs) returns)
+within-elapsed-spec = tie.close (tie.spec (λ c κs. search needs) (λ c κs. search needs) returns)

@@ -25,54 +25,46 @@ Inv-loop phases rules tables marks reached given n phase₀ last₀ ends₀ at w
 abbrev μ-loop : tie.MeasureT-loop
 μ-loop phases rules tables marks reached given n phase₀ last₀ ends₀ at work₀ i₀ phase last ends work i = n - i
 
-whole-requires : tie.Need-whole-requires Inv-loop μ-loop
-whole-requires c κs = search needs
-
 loop-holds : tie.Need-loop-holds Inv-loop μ-loop
 loop-holds c =
-    (omega arith, refl, c .whole .ensures, c .before .before .before .before .before .before .pre .2, rw sub-zero)
-
-cast-row-in : tie.Need-cast-row-in Inv-loop μ-loop
-cast-row-in c = search needs
-
-row-in-requires : tie.Need-row-in-requires Inv-loop μ-loop
-row-in-requires c κs = search needs
+    let start : tie.Start Inv-loop μ-loop = search in
+    (omega arith, refl, c .whole .ensures, start .pre .2, rw sub-zero)
 
 change-one-requires : tie.Need-change-one-requires Inv-loop μ-loop
 change-one-requires c κs =
-    let l = c .before .before .before .before .before .before .loop in
-    let r = c .before .before .before .before .before .before .before .before .before .before .before .before .before .pre .1 in
-    (omega arith, rw (c .before .before .before .before .row-in .ensures) (r .numbers (l .i) (omega arith)), r, c .before .before .before .before .row-in .ensures, l .inv .3 (l .i) (omega arith))
-
-add-i : tie.Need-add-i Inv-loop μ-loop
-add-i c = search needs
-
-loop-less : tie.Need-loop-less Inv-loop μ-loop
-loop-less c = search needs
+    let start : tie.Start Inv-loop μ-loop = search in let after-row-in : tie.After-row-in Inv-loop μ-loop = search in
+    let at-loop : tie.At-loop Inv-loop μ-loop = search in
+    let l = at-loop .loop in
+    let r = start .pre .1 in
+    (omega arith, rw (after-row-in .row-in .ensures) (r .numbers (l .i) (omega arith)), r, after-row-in .row-in .ensures, l .inv .3 (l .i) (omega arith))
 
 loop-again : tie.Need-loop-again Inv-loop μ-loop
 loop-again c =
-    let a = c .before .before .before .before .before .before .before .before .before .before .before .before .before .before .before .before .args in
-    let l = c .before .before .before .before .before .before .before .before .before .loop in
-    let m = c .before .before .change-one in
+    let start : tie.Start Inv-loop μ-loop = search in let after-change-one : tie.After-change-one Inv-loop μ-loop = search in
+    let after-row-in : tie.After-row-in Inv-loop μ-loop = search in let in-loop : tie.In-loop Inv-loop μ-loop = search in
+    let at-loop : tie.At-loop Inv-loop μ-loop = search in
+    let a = start .args in
+    let l = at-loop .loop in
+    let m = after-change-one .change-one in
     let ps = phasesIn (now (a .phases)) in
     let t = now (a .tables) in
     let rs = rulesIn (now (a .rules)) in
     let st = held (l .phase) (l .last) in
     let more = changed-more ps t rs (now (a .marks)) (now (a .reached)) (length (now (a .work))) (a .at .0) (toBag (now (a .given))) (a .n) (l .i) st (omega arith) in
-    let carried = carried-changed ps t rs (a .at .0) (a .n) st (held (m .last .1 .1 .1 .1 .1 .1 .0) (m .last .1 .1 .1 .1 .1 .1 .1 .0)) (l .ends) (l .i) _ _ _ (omega (arith, l .inv .2, c .before .before .before .before .before .before .before .before .before .before .before .before .before .before .before .before .pre .0, c .before .before .before .before .before .before .before .before .loop-test .taken)) (m .ensures .0) (l .inv .3) in
-    (omega arith, m .kept .1 .1 .1 .1 .1 .1 .1 .1 .1 .1 .1 .1 .0 ∙ l .inv .1, rw (m .ensures .1) (simp length-set (l .inv .2)), rw (m .ensures .1) carried, rw (m .ensures .0, c .before .before .before .before .before .before .before .row-in .ensures, l .inv .1) more ∙ l .inv .4)
+    let carried = carried-changed ps t rs (a .at .0) (a .n) st (held (m .last .1 .1 .1 .1 .1 .1 .0) (m .last .1 .1 .1 .1 .1 .1 .1 .0)) (l .ends) (l .i) _ _ _ (omega (arith, l .inv .2, start .pre .0, in-loop .loop-test .taken)) (m .ensures .0) (l .inv .3) in
+    (omega arith, m .kept .1 .1 .1 .1 .1 .1 .1 .1 .1 .1 .1 .1 .0 ∙ l .inv .1, rw (m .ensures .1) (simp length-set (l .inv .2)), rw (m .ensures .1) carried, rw (m .ensures .0, after-row-in .row-in .ensures, l .inv .1) more ∙ l .inv .4)
 
 same-length : tie.Need-same-length Inv-loop μ-loop
-same-length c =
-    c .before .loop .inv .1
+same-length c = c .before .loop .inv .1
 
 returns : tie.Need-returns Inv-loop μ-loop
 returns c =
-    let a = c .before .before .before .before .before .before .before .before .args in
+    let start : tie.Start Inv-loop μ-loop = search in
+    let a = start .args in
     let l = c .before .loop in
     (changed-none (phasesIn (now (a .phases))) (now (a .tables)) (rulesIn (now (a .rules))) (now (a .marks)) (now (a .reached)) (length (now (a .work))) (a .at .0) (toBag (now (a .given))) (a .n) (l .i) (held (l .phase) (l .last)) (omega arith) ∙ l .inv .4, l .inv .3)
 
 pub change-all-spec : {M : Type 1} → statement M
 change-all-spec =
-    tie.close (tie.spec Inv-loop μ-loop whole-requires loop-holds cast-row-in row-in-requires change-one-requires add-i loop-less loop-again same-length returns)
+    tie.close (tie.spec Inv-loop μ-loop (λ c κs. search needs) loop-holds (λ c. search needs) (λ c κs. search needs) change-one-requires
+    (λ c. search needs) (λ c. search needs) loop-again same-length returns)

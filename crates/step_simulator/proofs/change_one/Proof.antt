@@ -19,75 +19,65 @@ use Rattle.step_simulator.proofs.change_one.Tie as tie
 
 is-still-requires : tie.Need-is-still-requires
 is-still-requires c κs =
-    c .before .before .before .before .pre .1
+    let start : tie.Start = search in
+    start .pre .1
 
 returns : tie.Need-returns
 unfolding isUp
 returns c =
-    let a = c .before .before .before .before .before .before .args in
+    let start : tie.Start = search in
+    let a = start .args in
     let h = sym (c .before .is-still .ensures) ∙ c .if1 .taken in
     let keys = keysInto (phasesIn (now (a .phases))) (now (a .tables)) (now (a .marks)) (now (a .reached)) (toBag (now (a .given))) (a .c) in
     let none : length (take (length (now (a .work))) keys) ≡ 0 = omega (arith, length-take (length (now (a .work))) keys, keys-unreached (phasesIn (now (a .phases))) (now (a .tables)) (now (a .marks)) (now (a .reached)) (toBag (now (a .given))) (a .c) (and-right (eqb (getD (now (a .marks)) (a .c) 0) 0) _ h)) in
-    (rw (and-left (eqb (getD (now (a .marks)) (a .c) 0) 0) _ h) (still-case (phasesIn (now (a .phases))) (now (a .tables)) (rulesIn (now (a .rules))) (a .at .0) (held (now (a .phase)) (now (a .last))) (a .i) (a .c) (take (length (now (a .work))) keys) none), sym (set-getD (now (a .ends)) (a .i) 0) ∙ ap (set (now (a .ends)) (a .i)) (c .before .before .before .before .before .before .pre .4))
+    (rw (and-left (eqb (getD (now (a .marks)) (a .c) 0) 0) _ h) (still-case (phasesIn (now (a .phases))) (now (a .tables)) (rulesIn (now (a .rules))) (a .at .0) (held (now (a .phase)) (now (a .last))) (a .i) (a .c) (take (length (now (a .work))) keys) none), sym (set-getD (now (a .ends)) (a .i) 0) ∙ ap (set (now (a .ends)) (a .i)) (start .pre .4))
 
 collect-bag-requires : tie.Need-collect-bag-requires
 collect-bag-requires c κs =
-    (c .before .before .before .before .before .before .before .pre .1, c .before .before .before .before .before .before .before .pre .2)
-
-size16-requires : tie.Need-size16-requires
-size16-requires c κs = search needs
-
-mark-at-requires : tie.Need-mark-at-requires
-mark-at-requires c κs = search needs
+    let start : tie.Start = search in
+    (start .pre .1, start .pre .2)
 
 slice-reshare-prefix-bag : tie.Need-slice-reshare-prefix-bag
 slice-reshare-prefix-bag c =
-    let a = c .before .before .before .before .before .before .before .before .before .before .before .before .args in
-    let m = c .before .before .before .before .collect-bag in
+    let start : tie.Start = search in let after-collect-bag : tie.After-collect-bag = search in
+    let a = start .args in
+    let m = after-collect-bag .collect-bag in
     let f = into-held (phasesIn (now (a .phases))) (now (a .tables)) (now (a .marks)) (now (a .reached)) (toBag (now (a .given))) (a .c) (now (a .work)) (m .last .1 .1 .1 .1 .1 .1 .0) (m .result) (m .ensures) in
     omega (arith, f .position, f .size)
 
 slice-aggregate-bag : tie.Need-slice-aggregate-bag
 slice-aggregate-bag c =
-    let a = c .before .before .before .before .before .before .before .before .before .before .before .before .before .args in
-    let m = c .before .before .before .before .before .collect-bag in
+    let start : tie.Start = search in let after-collect-bag : tie.After-collect-bag = search in
+    let a = start .args in
+    let m = after-collect-bag .collect-bag in
     let f = into-held (phasesIn (now (a .phases))) (now (a .tables)) (now (a .marks)) (now (a .reached)) (toBag (now (a .given))) (a .c) (now (a .work)) (m .last .1 .1 .1 .1 .1 .1 .0) (m .result) (m .ensures) in
     sym (length-take-le (m .result) (m .last .1 .1 .1 .1 .1 .1 .0) (omega (arith, f .position, f .size)))
 
 transition-requires : tie.Need-transition-requires
 transition-requires c κs =
-    (c .before .before .before .before .before .before .before .before .before .before .before .before .before .before .before .pre .0, c .before .before .before .before .before .before .before .before .before .before .before .before .before .before .before .pre .1)
+    let start : tie.Start = search in
+    (start .pre .0, start .pre .1)
 
 put-end-requires : tie.Need-put-end-requires
-put-end-requires c κs = (c .before .before .before .before .before .before .before .before .before .before .before .before .before .before .before .before .before .before .pre .0, c .before .before .before .before .before .before .before .before .before .before .before .before .before .before .before .before .before .before .pre .1)
-
-same-length : tie.Need-same-length
-same-length c = search needs
+put-end-requires c κs =
+    let start : tie.Start = search in
+    (start .pre .0, start .pre .1)
 
 returns-2 : tie.Need-returns-2
 unfolding isUp
 returns-2 c =
-    let a = c .before .before .before .before .before .before .before .before .before .before .before .before .before .before .before .before .before .before .before .args in
-    let m = c .before .before .before .before .before .before .before .before .before .before .before .collect-bag in
+    let start : tie.Start = search in let after-transition : tie.After-transition = search in let after-mark-at : tie.After-mark-at = search in
+    let after-size16 : tie.After-size16 = search in let after-collect-bag : tie.After-collect-bag = search in
+    let a = start .args in
+    let m = after-collect-bag .collect-bag in
     let f = into-held (phasesIn (now (a .phases))) (now (a .tables)) (now (a .marks)) (now (a .reached)) (toBag (now (a .given))) (a .c) (now (a .work)) (m .last .1 .1 .1 .1 .1 .1 .0) (m .result) (m .ensures) in
-    let r = c .before .before .before .transition in
+    let r = after-transition .transition in
     let st = held (r .last .1 .1 .1 .0) (r .last .1 .1 .1 .1 .0) in (
-      rw (c .before .before .before .before .before .before .before .mark-at .ensures, c .before .before .before .before .before .before .before .before .size16 .ensures, f .held) at (r .ensures .0),
-      c .put-end .ensures ∙ ap (λ u. set (now (a .ends)) (a .i) (dueNumber u)) (due-named (phasesIn (now (a .phases))) (now (a .tables)) st (a .i) (a .c) (r .result) (c .before .before .before .before .before .before .before .before .before .before .before .before .before .before .before .before .before .before .before .pre .3) (r .ensures .1)),
+      rw (after-mark-at .mark-at .ensures, after-size16 .size16 .ensures, f .held) at (r .ensures .0),
+      c .put-end .ensures ∙ ap (λ u. set (now (a .ends)) (a .i) (dueNumber u)) (due-named (phasesIn (now (a .phases))) (now (a .tables)) st (a .i) (a .c) (r .result) (start .pre .3) (r .ensures .1)),
     )
 
 pub change-one-spec : {M : Type 1} → statement M
 change-one-spec =
-    tie.close
-    (tie.spec
-    is-still-requires
-    returns
-    collect-bag-requires
-    size16-requires
-    mark-at-requires
-    slice-reshare-prefix-bag
-    slice-aggregate-bag
-    transition-requires
-    put-end-requires
-    same-length
-    returns-2)
+    tie.close (tie.spec is-still-requires returns collect-bag-requires (λ c κs. search needs) (λ c κs. search needs) slice-reshare-prefix-bag
+    slice-aggregate-bag transition-requires put-end-requires (λ c. search needs) returns-2)

@@ -13,30 +13,34 @@ use Rattle.step_simulator.proofs.root_bag.Tie as tie
 
 collect-root-requires : tie.Need-collect-root-requires
 collect-root-requires c κs =
-    c .before .before .before .before .pre .0
+    let start : tie.Start = search in
+    start .pre .0
 
 sort-requires : tie.Need-sort-requires
 sort-requires c κs =
-    let a = c .before .before .before .before .before .before .before .before .before .args in
-    let m = c .before .before .before .before .collect-root in
+    let start : tie.Start = search in let after-collect-root : tie.After-collect-root = search in
+    let a = start .args in
+    let m = after-collect-root .collect-root in
     let f = root-held (phasesIn (now (a .phases))) (now (a .tables)) (now (a .marks)) (now (a .reached)) (now (a .keys)) (m .last .1 .1 .1 .1 .0) (m .result) (m .ensures) in
     (omega (arith, f .position, f .size), omega (arith, f .position, f .size))
 
 same-length : tie.Need-same-length
 same-length c =
-    c .before .before .before .before .sort .kept .0 ∙ c .before .before .before .before .before .before .before .before .before .collect-root .kept .1 .1 .1 .1 .0
+    let after-sort : tie.After-sort = search in let after-collect-root : tie.After-collect-root = search in
+    after-sort .sort .kept .0 ∙ after-collect-root .collect-root .kept .1 .1 .1 .1 .0
 
 same-length-2 : tie.Need-same-length-2
 same-length-2 c =
-    c .before .before .before .before .sort .kept .1 .1 .0
+    let after-sort : tie.After-sort = search in
+    after-sort .sort .kept .1 .1 .0
 
 returns : tie.Need-returns
 returns c =
-    let a = c .before .before .before .before .before .before .before .before .before .before .before .before .before .before .args in
-    let m = c .before .before .before .before .before .before .before .before .before .collect-root in
+    let start : tie.Start = search in let after-sort : tie.After-sort = search in let after-collect-root : tie.After-collect-root = search in
+    let a = start .args in
+    let m = after-collect-root .collect-root in
     let f = root-held (phasesIn (now (a .phases))) (now (a .tables)) (now (a .marks)) (now (a .reached)) (now (a .keys)) (m .last .1 .1 .1 .1 .0) (m .result) (m .ensures) in
-    (f .position, sorted-front (m .result) (m .last .1 .1 .1 .1 .0) _ (omega (arith, f .position, f .size)) (c .before .before .before .before .sort .ensures) ∙ ap (λ l. sortBy messageLe (map messageOf l)) (f .held))
+    (f .position, sorted-front (m .result) (m .last .1 .1 .1 .1 .0) _ (omega (arith, f .position, f .size)) (after-sort .sort .ensures) ∙ ap (λ l. sortBy messageLe (map messageOf l)) (f .held))
 
 pub root-bag-spec : {M : Type 1} → statement M
-root-bag-spec =
-    tie.close (tie.spec collect-root-requires sort-requires same-length same-length-2 returns)
+root-bag-spec = tie.close (tie.spec collect-root-requires sort-requires same-length same-length-2 returns)

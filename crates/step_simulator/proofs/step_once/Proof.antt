@@ -27,13 +27,11 @@ step-marked-requires : tie.Need-step-marked-requires
 step-marked-requires c κs =
     let start : tie.Start = search in
     let q = start .pre in
-    (q .0, q .2, omega (arith, q .3), q .4)
+    (q .few, q .in-range, omega (arith, q .rows), q .carried)
 
 returns : tie.Need-returns
 returns c =
-    let after-step : tie.After-step-marked = search in
-    let after-reach : tie.After-reach = search in
-    let after-mark : tie.After-mark = search in
+    let after-step : tie.After-step-marked = search in let after-reach : tie.After-reach = search in let after-mark : tie.After-mark = search in
     let start : tie.Start = search in
     let a = start .args in
     let q = start .pre in
@@ -43,13 +41,13 @@ returns c =
     let fs = after-reach .reach .last .1 .1 .1 .0 in
     let s = after-step .step-marked .ensures in
     rw (step-is ps t (rulesIn (now (a .rules))) (a .n) (length (now (a .work))) (a .at .0) (toBag (now (a .given))) (held (now (a .phase)) (now (a .last)))
-    (now (a .ends)) es fs (q .4) (q .1) (after-mark .mark .ensures) (after-reach .reach .ensures)) (
-      s .0,
-      s .1,
-      s .2 ∙ ap (λ n. min n (length (rootKeys ps t es fs))) (q .3) ∙ count-bag (rootRoom (length (now (a .work)))) (rootKeys ps t es fs),
-      s .3 ∙ ap (λ n. sortBy messageLe (map messageOf (take n (rootKeys ps t es fs)))) (q .3),
-    )
+    (now (a .ends)) es fs (q .carried) (q .moment) (after-mark .mark .ensures) (after-reach .reach .ensures))
+    (record {
+      state = s .0;
+      carried = s .1;
+      size = s .2 ∙ ap (λ n. min n (length (rootKeys ps t es fs))) (q .rows) ∙ count-bag (rootRoom (length (now (a .work)))) (rootKeys ps t es fs);
+      bag = s .3 ∙ ap (λ n. sortBy messageLe (map messageOf (take n (rootKeys ps t es fs)))) (q .rows);
+    })
 
 pub step-once-spec : {M : Type 1} → statement M
-step-once-spec =
-    tie.close (tie.spec mark-requires reach-requires step-marked-requires (search needs) (search needs) returns)
+step-once-spec = tie.close (tie.spec mark-requires reach-requires step-marked-requires (search needs) (search needs) returns)

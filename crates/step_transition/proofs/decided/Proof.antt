@@ -11,5 +11,4 @@ returns c =
     rw (c .before .deciding .ensures, after-row-in2 .row-in2 .ensures, after-row-in .row-in .ensures) at (c .led-to .ensures)
 
 pub decided-spec : {M : Type 1} → statement M
-decided-spec =
-    tie.close (tie.spec (λ c κs. search needs) (λ c κs. search needs) (λ c κs. search needs) (λ c κs. search needs) returns)
+decided-spec = tie.close (tie.spec (λ c κs. search needs) (λ c κs. search needs) (λ c κs. search needs) (λ c κs. search needs) returns)

@@ -7,8 +7,7 @@ use Rattle.step_transition.proofs.led_to.Tie as tie
 
 returns : tie.Need-returns
 unfolding ledTo
-returns c =
-    rw (c .enum-told .given .1)
+returns c = rw (c .enum-told .given .1)
 
 returns-2 : tie.Need-returns-2
 unfolding ledTo
@@ -17,5 +16,4 @@ returns-2 c =
     rw (after-found .found .given .1) (ap (λ k. k .next) (rw (c .before .size16 .ensures) at (c .rule-at .ensures)))
 
 pub led-to-spec : {M : Type 1} → statement M
-led-to-spec =
-    tie.close (tie.spec (λ c. search needs) (λ c. search needs) returns (λ c κs. search needs) (λ c κs. search needs) returns-2)
+led-to-spec = tie.close (tie.spec (λ c. search needs) (λ c. search needs) returns (λ c κs. search needs) (λ c κs. search needs) returns-2)

@@ -12,5 +12,4 @@ returns c =
     c .field-of .ensures ∙ ap (fieldOf (start .args .which)) (c .before .component-at .ensures)
 
 pub field-at-spec : {M : Type 1} → statement M
-field-at-spec =
-    tie.close (tie.spec (λ c κs. search needs) (λ c κs. search needs) returns)
+field-at-spec = tie.close (tie.spec (λ c κs. search needs) (λ c κs. search needs) returns)

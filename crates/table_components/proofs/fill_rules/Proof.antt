@@ -16,5 +16,4 @@ returns c =
     after-put-rule-ends .put-rule-ends .ensures ∙ ap (ruleEnds (rulesIn (now (start .args .rules))) (length (rulesIn (now (start .args .rules)))) 0) (after-put-rule-starts .put-rule-starts .ensures)
 
 pub fill-rules-spec : {M : Type 1} → statement M
-fill-rules-spec =
-    tie.close (tie.spec (λ c κs. search needs) (λ c κs. search needs) (λ c. search needs) returns)
+fill-rules-spec = tie.close (tie.spec (λ c κs. search needs) (λ c κs. search needs) (λ c. search needs) returns)

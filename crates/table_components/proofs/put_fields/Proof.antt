@@ -20,8 +20,7 @@ abbrev μ-loop : tie.MeasureT-loop
 μ-loop components which at t₀ n c₀ t c = n - c
 
 loop-holds : tie.Need-loop-holds Inv-loop μ-loop
-loop-holds c =
-    (omega arith, refl, rw sub-zero)
+loop-holds c = (omega arith, refl, rw sub-zero)
 
 loop-again : tie.Need-loop-again Inv-loop μ-loop
 loop-again c =
@@ -34,8 +33,7 @@ loop-again c =
     (omega arith, simp length-set (l .inv .1), rw v (column-more (a .at) f (after-component-count .component-count .result) (l .c) (l .t) (omega arith)) ∙ l .inv .2)
 
 same-length : tie.Need-same-length Inv-loop μ-loop
-same-length c =
-    c .before .loop .inv .1
+same-length c = c .before .loop .inv .1
 
 returns : tie.Need-returns Inv-loop μ-loop
 returns c =

@@ -19,8 +19,7 @@ abbrev μ-loop : tie.MeasureT-loop
 μ-loop components t₀ n i₀ c₀ t i c = n - c
 
 loop-holds : tie.Need-loop-holds Inv-loop μ-loop
-loop-holds c =
-    (omega arith, omega arith, refl, rw sub-zero)
+loop-holds c = (omega arith, omega arith, refl, rw sub-zero)
 
 loop-again : tie.Need-loop-again Inv-loop μ-loop
 loop-again c =
@@ -34,8 +33,7 @@ loop-again c =
     (omega arith, omega (arith, ap (λ st. st .1) e, number-most cs n (l .c) (l .t, l .i)), after-put-number .put-number .kept .1 .1 .1 .0 ∙ l .inv .2, ap (numbered cs (n - (l .c + 1)) (l .c + 1)) e ∙ numbered-more cs n (l .c) (l .t, l .i) (omega arith) ∙ l .inv .3)
 
 same-length : tie.Need-same-length Inv-loop μ-loop
-same-length c =
-    c .before .loop .inv .2
+same-length c = c .before .loop .inv .2
 
 returns : tie.Need-returns Inv-loop μ-loop
 returns c =

@@ -22,8 +22,7 @@ abbrev μ-loop : tie.MeasureT-loop
 μ-loop rules t₀ n i₀ t i = n - i
 
 loop-holds : tie.Need-loop-holds Inv-loop μ-loop
-loop-holds c =
-    (omega arith, refl, rw sub-zero)
+loop-holds c = (omega arith, refl, rw sub-zero)
 
 loop-again : tie.Need-loop-again Inv-loop μ-loop
 loop-again c =
@@ -39,8 +38,7 @@ loop-again c =
     (omega arith, after-put-in .put-in .kept .0 ∙ l .inv .1, ap (ruleEnds rs (n - (l .i + 1)) (l .i + 1)) e ∙ ends-more rs n (l .i) (l .t) (omega arith) ∙ l .inv .2)
 
 same-length : tie.Need-same-length Inv-loop μ-loop
-same-length c =
-    c .before .loop .inv .1
+same-length c = c .before .loop .inv .1
 
 returns : tie.Need-returns Inv-loop μ-loop
 returns c =

@@ -21,8 +21,7 @@ abbrev μ-loop : tie.MeasureT-loop
 μ-loop rules t₀ i₀ t i = i
 
 loop-holds : tie.Need-loop-holds Inv-loop μ-loop
-loop-holds c =
-    (omega arith, refl, rw (c .rule-word .ensures))
+loop-holds c = (omega arith, refl, rw (c .rule-word .ensures))
 
 loop-again : tie.Need-loop-again Inv-loop μ-loop
 loop-again c =
@@ -37,8 +36,7 @@ loop-again c =
     (omega arith, after-put-in .put-in .kept .0 ∙ l .inv .1, ap (ruleStarts rs (l .i - 1)) e ∙ starts-more rs (l .i) (l .t) (omega arith) ∙ l .inv .2)
 
 same-length : tie.Need-same-length Inv-loop μ-loop
-same-length c =
-    c .before .loop .inv .1
+same-length c = c .before .loop .inv .1
 
 returns : tie.Need-returns Inv-loop μ-loop
 returns c =

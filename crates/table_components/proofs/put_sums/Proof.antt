@@ -38,8 +38,7 @@ loop-again c =
     (omega arith, omega arith, omega (arith, fields-more (a .which) cs (l .c) s), simp length-set (l .inv .3), rw (l .inv .2) (column-more (a .at) f (after-component-count .component-count .result) (l .c) (l .t) (omega arith)) ∙ l .inv .4)
 
 same-length : tie.Need-same-length Inv-loop μ-loop
-same-length c =
-    c .before .loop .inv .3
+same-length c = c .before .loop .inv .3
 
 returns : tie.Need-returns Inv-loop μ-loop
 returns c =

@@ -25,5 +25,4 @@ returns c =
     rw (c .byte-at .ensures, c .before .size16 .ensures) (sym (ap (λ k. k .component) e ∙ rw (number-row 1 0 18 (a .i) (now (a .rules)) (omega arith), add-zero)))
 
 pub rule-name-spec : {M : Type 1} → statement M
-rule-name-spec =
-    tie.close (tie.spec (λ c κs. search needs) (λ c. search needs) (λ c κs. search needs) returns)
+rule-name-spec = tie.close (tie.spec (λ c κs. search needs) (λ c. search needs) (λ c κs. search needs) returns)

@@ -6,8 +6,7 @@ use Rattle.table_couplings.proofs.input_node.Tie as tie
 
 returns : tie.Need-returns
 unfolding inputNode
-returns c =
-    rw (c .word2 .ensures, c .before .word .ensures)
+returns c = rw (c .word2 .ensures, c .before .word .ensures)
 
 pub input-node-spec : {M : Type 1} → statement M
 input-node-spec =

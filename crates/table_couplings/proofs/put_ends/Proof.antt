@@ -24,8 +24,7 @@ abbrev μ-loop : tie.MeasureT-loop
 μ-loop components couplings targets₀ t₀ n i₀ targets t i = n - i
 
 loop-holds : tie.Need-loop-holds Inv-loop μ-loop
-loop-holds c =
-    (omega arith, refl, λ j p q. absurd (omega arith), rw sub-zero)
+loop-holds c = (omega arith, refl, λ j p q. absurd (omega arith), rw sub-zero)
 
 loop-again : tie.Need-loop-again Inv-loop μ-loop
 loop-again c =

@@ -23,8 +23,7 @@ abbrev μ-loop : tie.MeasureT-loop
 μ-loop targets n t₀ j₀ t j = j
 
 loop-holds : tie.Need-loop-holds Inv-loop μ-loop
-loop-holds c =
-    (omega arith, within-none liveAt (liveAt + portNodes * maxComponents) _, refl)
+loop-holds c = (omega arith, within-none liveAt (liveAt + portNodes * maxComponents) _, refl)
 
 spread-link-requires : tie.Need-spread-link-requires Inv-loop μ-loop
 spread-link-requires c κs =

@@ -8,8 +8,7 @@ use Rattle.table_words.proofs.link.Statement.{statement}
 use Rattle.table_words.proofs.link.Tie as tie
 
 slice-write-t-2 : tie.Need-slice-write-t-2
-slice-write-t-2 c =
-    simp length-set (omega arith)
+slice-write-t-2 c = simp length-set (omega arith)
 
 returns : tie.Need-returns
 unfolding linkAt
@@ -19,8 +18,7 @@ returns c =
 
 returns-2 : tie.Need-returns-2
 unfolding linkAt
-returns-2 c =
-    rw (le-ltb _ _ (c .if1 .left))
+returns-2 c = rw (le-ltb _ _ (c .if1 .left))
 
 pub link-spec : {M : Type 1} → statement M
 link-spec =

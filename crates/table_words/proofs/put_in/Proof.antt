@@ -7,14 +7,11 @@ use Rattle.table_words.proofs.put_in.Tie as tie
 
 returns : tie.Need-returns
 unfolding putIn
-returns c =
-    rw (lt-ltb _ _ (c .if1 .taken))
+returns c = rw (lt-ltb _ _ (c .if1 .taken))
 
 returns-2 : tie.Need-returns-2
 unfolding putIn
-returns-2 c =
-    rw (le-ltb _ _ (c .if1 .left))
+returns-2 c = rw (le-ltb _ _ (c .if1 .left))
 
 pub put-in-spec : {M : Type 1} → statement M
-put-in-spec =
-    tie.close (tie.spec (λ c. search needs) (λ c. search needs) (λ c. search needs) (λ c. search needs) returns returns-2)
+put-in-spec = tie.close (tie.spec (λ c. search needs) (λ c. search needs) (λ c. search needs) (λ c. search needs) returns returns-2)

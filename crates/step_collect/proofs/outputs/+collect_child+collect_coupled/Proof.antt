@@ -4,12 +4,10 @@ use borrow.Author.Needs.{needs}
 use native.Mathlib.Omega.{arith}
 use Prim.Native.Nat.{_≤_, _+_, _-_, _*_, ℕ, _<_}
 use mathlib.Core.Path.{_≡_, _∙_, refl, sym, ap}
-use mathlib.Core.List.{[]}
-use mathlib.Core.Bool.{true, false}
 use lib.ListN.{length}
 use denote.Ref.{now}
 use borrow.Author.Tests.{not-true, not-false}
-use Rattle.spec_step.specs.TableStep.{isOpen, pulledBelow}
+use Rattle.spec_step.specs.TableStep.{pulledBelow}
 use Rattle.spec_step.specs.Put.{puts}
 use Rattle.spec_step.specs.Pull.{joined, childOut, coupledOut}
 use Rattle.model_records.specs.Values.{phasesIn}
@@ -40,8 +38,7 @@ abbrev μ-collect-coupled : Measures 5 collect-coupled-kinds.ps ℕ
 μ-collect-coupled κs a = 2 * a .1 .1 .1 .1 .0
 
 abbrev collect-child-at : ℕ → In 5 collect-child-kinds.ps
-collect-child-at t =
-    and 5 collect-child-kinds.ps (is 5 collect-child-kinds.ps μ-collect-child t) collect-child.Pre
+collect-child-at t = and 5 collect-child-kinds.ps (is 5 collect-child-kinds.ps μ-collect-child t) collect-child.Pre
 
 abbrev collect-child-below : ℕ → In 5 collect-child-kinds.ps
 collect-child-below t =
@@ -137,8 +134,7 @@ collect-coupled-μ-loop phases tables marks reached depth own x buf₀ at next�
 
 collect-coupled-returns : (t : ℕ) → collect-coupled-lts.Need-returns (collect-coupled-calls t) (collect-coupled-at t) collect-coupled.Post collect-coupled-Inv-loop collect-coupled-μ-loop
 unfolding coupledOut puts
-collect-coupled-returns t c =
-    rw (c .if1 .taken)
+collect-coupled-returns t c = rw (c .if1 .taken)
 
 collect-coupled-first-link-requires : (t : ℕ) → collect-coupled-lts.Need-first-link-requires (collect-coupled-calls t) (collect-coupled-at t) collect-coupled.Post collect-coupled-Inv-loop collect-coupled-μ-loop
 collect-coupled-first-link-requires t c κs = search needs
@@ -151,8 +147,7 @@ collect-coupled-loop-holds t c =
     (omega arith, rw (c .first-link .ensures) (given .1 .firsts (a .x) (given .0)), refl, rw (c .first-link .ensures) (ap (λ l. puts (a .own) l (now (a .buf), a .at)) (coupled-open (phasesIn (now (a .phases))) (now (a .tables)) (now (a .marks)) (now (a .reached)) (a .depth) (a .x) (omega arith) (given .2))))
 
 collect-coupled-source-of-requires : (t : ℕ) → collect-coupled-lts.Need-source-of-requires (collect-coupled-calls t) (collect-coupled-at t) collect-coupled.Post collect-coupled-Inv-loop collect-coupled-μ-loop
-collect-coupled-source-of-requires t c κs =
-    c .before .loop .inv .1
+collect-coupled-source-of-requires t c κs = c .before .loop .inv .1
 
 collect-coupled-sub-collect-child : (t : ℕ) → collect-coupled-lts.Need-sub-collect-child (collect-coupled-calls t) (collect-coupled-at t) collect-coupled.Post collect-coupled-Inv-loop collect-coupled-μ-loop
 collect-coupled-sub-collect-child t c = search needs
@@ -196,8 +191,7 @@ collect-coupled-loop-again t c =
     (omega arith, rw (c .next-link .ensures) (start .pre .1 .1 .nexts (l .link) (l .inv .1)), m .kept .1 .1 .1 .1 .1 .1 .1 .0 ∙ l .inv .2, rw (m .ensures, after-source-of .source-of .ensures, c .next-link .ensures) (chain-more f (now (a .tables)) (a .own) (l .left) (l .link) (l .buf, l .next) (in-loop .loop-test .taken) ∙ l .inv .3))
 
 collect-coupled-same-length : (t : ℕ) → collect-coupled-lts.Need-same-length (collect-coupled-calls t) (collect-coupled-at t) collect-coupled.Post collect-coupled-Inv-loop collect-coupled-μ-loop
-collect-coupled-same-length t c =
-    c .before .loop .inv .2
+collect-coupled-same-length t c = c .before .loop .inv .2
 
 collect-coupled-returns-2 : (t : ℕ) → collect-coupled-lts.Need-returns-2 (collect-coupled-calls t) (collect-coupled-at t) collect-coupled.Post collect-coupled-Inv-loop collect-coupled-μ-loop
 collect-coupled-returns-2 t c =
