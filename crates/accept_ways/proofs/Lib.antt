@@ -1,2 +1,3 @@
+-- Laws of ways counted on words.
 pub mod Loops
 pub mod Words

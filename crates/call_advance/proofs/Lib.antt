@@ -1,3 +1,4 @@
+-- The call advance, from its checks to its instants.
 pub mod Checks
 pub mod OnTables
 pub mod Whole

@@ -1,13 +1,15 @@
+-- The worked table: rows of calls computed on the definitions.
 pub mod Computing
+pub mod Models
+pub mod Table
+pub mod NestTable
 pub mod EdgeModels
 pub mod EdgeTable
-pub mod FileTable
-pub mod FlatTable
+-- literal bytes, refusals, runs, rules and flat forms: rows that fail where a definition's detail is changed
 pub mod Literals
-pub mod Models
-pub mod NestTable
+pub mod FileTable
 pub mod RefusalTable
-pub mod RuleTable
 pub mod RunTable
-pub mod Table
+pub mod RuleTable
+pub mod FlatTable
 pub mod TraceTable

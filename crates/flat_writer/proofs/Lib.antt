@@ -1,3 +1,3 @@
-pub mod FlatBy
 pub mod Pieces
 pub mod Sections
+pub mod FlatBy

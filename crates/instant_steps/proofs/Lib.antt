@@ -1,2 +1,2 @@
-pub mod Sofar
 pub mod Steps
+pub mod Sofar

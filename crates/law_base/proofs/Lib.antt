@@ -1,7 +1,8 @@
+-- General laws of tests, lists, sums, orders and bags, of checks in a row, and of a call's loop.
+pub mod Tests
+pub mod Sums
+pub mod Sorting
 pub mod Bags
 pub mod Lists
 pub mod Results
-pub mod Sorting
-pub mod Sums
-pub mod Tests
 pub mod Turns

@@ -1,12 +1,13 @@
-pub mod Answers
+-- Laws of the model file and the saved run: what the decoder checked, reading and writing.
 pub mod Codec
 pub mod Layouts
-pub mod PhaseRange
-pub mod Reading
-pub mod Refusals
 pub mod Rows
-pub mod RunBack
-pub mod Sections
 pub mod Spellings
 pub mod WellFormed
+pub mod Sections
+pub mod Reading
 pub mod Writing
+pub mod Refusals
+pub mod RunBack
+pub mod Answers
+pub mod PhaseRange

@@ -1,10 +1,11 @@
-pub mod Bags
+-- Laws of the table of refusals: each row is given on its condition and never otherwise, and the models without a row are the sound ones.
+pub mod Tests
+pub mod Sections
 pub mod Components
-pub mod Couplings
-pub mod Deciding
-pub mod Judged
 pub mod Phases
 pub mod Rules
+pub mod Couplings
+pub mod Judged
 pub mod Runs
-pub mod Sections
-pub mod Tests
+pub mod Bags
+pub mod Deciding

@@ -1,8 +1,9 @@
+-- Laws of ways and routes, in the order of the argument.
 pub mod Counts
 pub mod Nests
-pub mod Passes
+pub mod Routed
 pub mod Placed
 pub mod PortNodes
-pub mod Routed
 pub mod Steps
+pub mod Passes
 pub mod Total

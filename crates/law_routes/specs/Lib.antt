@@ -1,3 +1,3 @@
 pub mod Nodes
-pub mod Taken
 pub mod Ways
+pub mod Taken

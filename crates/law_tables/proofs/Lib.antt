@@ -1,3 +1,4 @@
-pub mod Calls
-pub mod Tables
+-- An advance on a model's tables is the definition's advance.
 pub mod Until
+pub mod Tables
+pub mod Calls

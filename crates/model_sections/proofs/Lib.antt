@@ -1,3 +1,3 @@
-pub mod Bounds
-pub mod Forms
 pub mod Reading
+pub mod Forms
+pub mod Bounds

@@ -1,4 +1,4 @@
 pub mod Entries
 pub mod Fitting
-pub mod Starting
 pub mod Storing
+pub mod Starting

@@ -1,4 +1,4 @@
-pub mod Fits
-pub mod Fronts
 pub mod Laws
 pub mod Worked
+pub mod Fits
+pub mod Fronts

@@ -1,3 +1,4 @@
-pub mod Printed
-pub mod Put
+-- What the printing program writes.
 pub mod Text
+pub mod Put
+pub mod Printed

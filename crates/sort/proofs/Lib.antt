@@ -1,3 +1,3 @@
-pub mod Keys
 pub mod Least
 pub mod Merging
+pub mod Keys

@@ -1,8 +1,9 @@
-pub mod Carried
+-- The account of a step that pulls, as the code's contracts cite it.
 pub mod Pull
 pub mod Put
-pub mod Ranges
+pub mod Tables
 pub mod TableStep
 pub mod Tabled
-pub mod Tables
+pub mod Ranges
+pub mod Carried
 pub mod TablesOf

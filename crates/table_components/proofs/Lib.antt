@@ -1,1 +1,2 @@
+-- Laws of the tables by component and by rule.
 pub mod Loops

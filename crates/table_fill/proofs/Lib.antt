@@ -1,10 +1,11 @@
-pub mod Allowed
-pub mod Holding
-pub mod Kin
+-- Why the filled tables are a model's.
+pub mod Rows
+pub mod Ranges
 pub mod Links
 pub mod Live
-pub mod Ranged
-pub mod Ranges
-pub mod Rows
+pub mod Kin
+pub mod Holding
 pub mod Sources
 pub mod Tables
+pub mod Allowed
+pub mod Ranged

@@ -1,4 +1,5 @@
-pub mod Chains
-pub mod Columns
+-- Laws of writes.
 pub mod Loops
+pub mod Columns
+pub mod Chains
 pub mod Words

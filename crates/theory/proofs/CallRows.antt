@@ -1,5 +1,5 @@
 -- Each row of the table for a call gives its number and changes no lent byte, and each number above 0 comes from its row. The numbers of a
--- model file are those of `Judged` (crate refusal_laws). Assumes nothing.
+-- model file are those of `Judged` (crate law_refusals). Assumes nothing.
 use mathlib.Core.Path.{_≡_, refl, sym, ap, subst}
 use Prim.Native.Nat.{ℕ, _≤_, _<_}
 use mathlib.Core.Bool.{Bool, true, false}

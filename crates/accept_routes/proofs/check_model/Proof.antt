@@ -1,4 +1,4 @@
--- `route_count::check_model` meets its contract. The number of the check's answer is the number of acceptance (number-of). Assumes
+-- `accept_routes::check_model` meets its contract. The number of the check's answer is the number of acceptance (number-of). Assumes
 -- nothing.
 use borrow.Author.Needs.{needs}
 use denote.Ref.{now}

@@ -1,4 +1,4 @@
--- `route_count::own_ways` meets its contract. The definition's two cases, by the component's kind. Assumes nothing.
+-- `accept_routes::own_ways` meets its contract. The definition's two cases, by the component's kind. Assumes nothing.
 use borrow.Author.Needs.{needs}
 use Rattle.accept_routes.proofs.own_ways.Statement.{statement}
 use Rattle.accept_routes.proofs.own_ways.Tie as tie

@@ -1,4 +1,4 @@
--- `route_count::route_total` meets its contract. Invariant: the total so far and what the components from c on add make, capped, the
+-- `accept_routes::route_total` meets its contract. Invariant: the total so far and what the components from c on add make, capped, the
 -- table's number of routes (over-more, over-end). Assumes nothing.
 use borrow.Author.Needs.{needs}
 use native.Mathlib.Omega.{arith}

@@ -1,4 +1,4 @@
--- `model::components_of` meets its contract. The definition's own line, by what `section_part` gives. Assumes nothing.
+-- `model_file::components_of` meets its contract. The definition's own line, by what `section_part` gives. Assumes nothing.
 use borrow.Author.Needs.{needs}
 use Rattle.model_file.specs.Checked.{componentsPart}
 use Rattle.model_file.proofs.components_of.Statement.{statement}

@@ -1,4 +1,4 @@
--- `model::couplings_of` meets its contract. The definition's own line, by what `section_part` gives. Assumes nothing.
+-- `model_file::couplings_of` meets its contract. The definition's own line, by what `section_part` gives. Assumes nothing.
 use borrow.Author.Needs.{needs}
 use Rattle.model_file.specs.Checked.{couplingsPart}
 use Rattle.model_file.proofs.couplings_of.Statement.{statement}

@@ -1,4 +1,4 @@
--- `model::decode_model` meets its contract. After each section the definition has left to do what the code has left (read-1 to read-4, by
+-- `model_file::decode_model` meets its contract. After each section the definition has left to do what the code has left (read-1 to read-4, by
 -- section-on); a refusal ends both with the same number (section-off). What the components' section has learnt is what the others ask for
 -- (known). The records are those of the four parts. Assumes nothing.
 use borrow.Author.Needs.{needs}

@@ -1,4 +1,4 @@
--- `model::phases_of` meets its contract. The definition's own line, by what `section_part` gives. Assumes nothing.
+-- `model_file::phases_of` meets its contract. The definition's own line, by what `section_part` gives. Assumes nothing.
 use borrow.Author.Needs.{needs}
 use Rattle.model_file.specs.Checked.{phasesPart}
 use Rattle.model_file.proofs.phases_of.Statement.{statement}

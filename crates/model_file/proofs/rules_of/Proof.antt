@@ -1,4 +1,4 @@
--- `model::rules_of` meets its contract. The definition's own line, by what `section_part` gives. Assumes nothing.
+-- `model_file::rules_of` meets its contract. The definition's own line, by what `section_part` gives. Assumes nothing.
 use borrow.Author.Needs.{needs}
 use Rattle.model_file.specs.Checked.{rulesPart}
 use Rattle.model_file.proofs.rules_of.Statement.{statement}
