@@ -27,16 +27,14 @@ returns-2 c =
 returns-3 : tie.Need-returns-3
 unfolding fitsBehind
 returns-3 c =
-    let start : tie.Start = search in let other : tie.Else1 = search in let parent : tie.After-size = search in let earlier : tie.Else2 = search in
-    let depth : tie.After-size2 = search in
+    let start : tie.Start = search in let other : tie.Else1 = search in let parent : tie.After-size = search in let earlier : tie.Else2 = search in let depth : tie.After-size2 = search in
     let e : (eqb (getD (now (start .args .phase-counts)) (parent .size .result) 0) 0 && ltb (depth .size2 .result) 8) ≡ false = not-true _ (c .if3 .taken) in
     rw (ne-eqb _ _ (other .if1 .left), ← parent .size .ensures, lt-ltb _ _ (earlier .if2 .left), ← depth .size2 .ensures, e) (simp and-false)
 
 returns-4 : tie.Need-returns-4
 unfolding fitsBehind
 returns-4 c =
-    let start : tie.Start = search in let other : tie.Else1 = search in let parent : tie.After-size = search in let earlier : tie.Else2 = search in
-    let depth : tie.After-size2 = search in
+    let start : tie.Start = search in let other : tie.Else1 = search in let parent : tie.After-size = search in let earlier : tie.Else2 = search in let depth : tie.After-size2 = search in
     let e : (eqb (getD (now (start .args .phase-counts)) (parent .size .result) 0) 0 && ltb (depth .size2 .result) 8) ≡ true = not-false _ (c .before .if3 .left) in
     let k = componentOf (start .args .component) in
     let f : fitsBehind k (start .args .i) (now (start .args .phase-counts)) (now (start .args .depths)) ≡ kindFields k = rw (ne-eqb _ _ (other .if1 .left), ← parent .size .ensures, lt-ltb _ _ (earlier .if2 .left), ← depth .size2 .ensures, e) (simp and-true) in

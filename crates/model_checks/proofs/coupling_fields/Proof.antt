@@ -13,8 +13,7 @@ use Rattle.model_checks.proofs.coupling_fields.Tie as tie
 returns : tie.Need-returns
 unfolding couplingFields
 returns c =
-    let start : tie.Start = search in let there : tie.After-component-count = search in let source : tie.After-size = search in
-    let target : tie.After-size2 = search in
+    let start : tie.Start = search in let there : tie.After-component-count = search in let source : tie.After-size = search in let target : tie.After-size2 = search in
     let n = there .component-count .result in
     let k = start .args .coupling in
     let e : (((ltb (source .size .result) n && ltb (target .size2 .result) n) && ltb (k .«source_port») 4) && ltb (k .«target_port») 4) ≡ false = not-true _ (c .if1 .taken) in
@@ -22,8 +21,7 @@ returns c =
 
 are-related-requires : tie.Need-are-related-requires
 are-related-requires c κs =
-    let start : tie.Start = search in let there : tie.After-component-count = search in let source : tie.After-size = search in
-    let target : tie.After-size2 = search in
+    let start : tie.Start = search in let there : tie.After-component-count = search in let source : tie.After-size = search in let target : tie.After-size2 = search in
     let n = there .component-count .result in
     let s = source .size .result in
     let t = target .size2 .result in
@@ -34,8 +32,7 @@ are-related-requires c κs =
 returns-2 : tie.Need-returns-2
 unfolding couplingFields
 returns-2 c =
-    let start : tie.Start = search in let there : tie.After-component-count = search in let source : tie.After-size = search in
-    let target : tie.After-size2 = search in
+    let start : tie.Start = search in let there : tie.After-component-count = search in let source : tie.After-size = search in let target : tie.After-size2 = search in
     let n = there .component-count .result in
     let k = start .args .coupling in
     let e : (((ltb (source .size .result) n && ltb (target .size2 .result) n) && ltb (k .«source_port») 4) && ltb (k .«target_port») 4) ≡ true = not-false _ (c .before .if1 .left) in

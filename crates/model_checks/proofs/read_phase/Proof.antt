@@ -26,8 +26,7 @@ returns-2 c =
 
 returns-3 : tie.Need-returns-3
 returns-3 c =
-    let start : tie.Start = search in let else1 : tie.Else1 = search in let after-phase-numbers : tie.After-phase-numbers = search in
-    let after-phase-in : tie.After-phase-in = search in
+    let start : tie.Start = search in let else1 : tie.Else1 = search in let after-phase-numbers : tie.After-phase-numbers = search in let after-phase-in : tie.After-phase-in = search in
     let m = after-phase-numbers .phase-numbers .result in
     let n = c .before .slots-fit .result in
     let e : phaseFields (start .args .bound) (phaseOf (after-phase-in .phase-in .result)) ≡ true = phase-keeps _ _ (sym (after-phase-numbers .phase-numbers .ensures) ∙ not-false m (else1 .if1 .left)) (sym (c .before .slots-fit .ensures) ∙ not-false n (c .if2 .left)) in
