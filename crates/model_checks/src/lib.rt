@@ -159,7 +159,8 @@ pub fn keep_component(
     depths: &mut [u8; MAX_COMPONENTS],
 )
     requires { ⌜ Keepable (componentOf component) i (now parents) (now «phase_counts») (now depths) ⌝ }
-    ensures { λ _. ⌜ Keeps (componentOf component) i (now (parents .entry)) (now («phase_counts» .entry)) (now (depths .entry)) (now (parents .exit)) (now («phase_counts» .exit)) (now (depths .exit)) ⌝ }
+    ensures { λ _. ⌜ Keeps (componentOf component) i (now (parents .entry)) (now («phase_counts» .entry)) (now (depths .entry))
+        (now (parents .exit)) (now («phase_counts» .exit)) (now (depths .exit)) ⌝ }
 {
     parents[i] = component.parent;
     phase_counts[i] = component.phases;

@@ -133,7 +133,8 @@ pub fn read_components(
     phase_counts: &mut [u8; MAX_COMPONENTS],
 ) -> SectionRead
     requires { ⌜ (length (now parents) ≡ maxComponents) × (length (now «phase_counts») ≡ maxComponents) ⌝ }
-    ensures { λ r. ⌜ (sectionRead componentSize toComponent (now (file .entry)) r ≡ componentSection (now (file .entry))) × Learnt (now (file .entry)) r (now (parents .exit)) (now («phase_counts» .exit)) ⌝ }
+    ensures { λ r. ⌜ (sectionRead componentSize toComponent (now (file .entry)) r ≡ componentSection (now (file .entry)))
+        × Learnt (now (file .entry)) r (now (parents .exit)) (now («phase_counts» .exit)) ⌝ }
 {
     let announced = u16_at(file, 0);
     let count = size16(announced);

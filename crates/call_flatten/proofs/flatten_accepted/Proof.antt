@@ -42,10 +42,8 @@ own f =
     let after-components-of : tie.After-components-of = search in
     f .small .ensures ∙ f .before .atomic-count .ensures ∙ ap (λ (s : Bytes). length (atomics (componentsIn s))) (after-components-of .components-of .ensures)
 
-own-tables : (f : tie.After-small) → TablesOf (modelOf (file f) (counts f)) (f .before .before .before .before .before .before .before .before .before .args .tables .now)
-own-tables f =
-    let start : tie.Start = search in
-    start .pre .1
+own-tables : (f : tie.After-small) → let start : tie.Start = search in TablesOf (modelOf (file f) (counts f)) (start .args .tables .now)
+own-tables f = let start : tie.Start = search in start .pre .1
 
 small-requires : tie.Need-small-requires
 small-requires c κs =
