@@ -18,7 +18,7 @@ use Rattle.table_couplings.specs.Links.{Begun}
 use Rattle.accept_routes.specs.Routed.{Linked}
 use Rattle.spec_step.specs.TablesOf.{TablesOf}
 use Rattle.table_fill.specs.Filled.{filled}
-use Rattle.table_fill.proofs.Rows.{atomics-few}
+use Rattle.model_records.proofs.Counting.{atomics-most}
 use Rattle.table_fill.proofs.Ranged.{tables-of}
 
 module _ (file : Bytes) (n : Counts) (bytes : (i : ℕ) → getD file i 0 < 256) (told : ok (modelOf file n) ≡ accepted file) where
@@ -31,7 +31,7 @@ module _ (file : Bytes) (n : Counts) (bytes : (i : ℕ) → getD file i 0 < 256)
   few-records = (fine .sound .components .few, fine .sound .rules .few, fine .sound .couplings .few)
 
   pub few-atomics : length (atomics (modelOf file n .components)) ≤ maxComponents
-  few-atomics = omega (arith, atomics-few (modelOf file n .components), fine .sound .components .few)
+  few-atomics = omega (arith, atomics-most (modelOf file n .components), fine .sound .components .few)
 
   -- the tables, by what the code has: the parts, and what was filled from them
   pub tables-filled : (cs rs ks : Bytes) (t : List ℕ) → cs ≡ componentsPart file n → rs ≡ rulesPart file n → ks ≡ couplingsPart file n

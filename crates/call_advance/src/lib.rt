@@ -190,7 +190,7 @@ fn advance_accepted(
     if !call_bag::bag_fits(bag) {
         return refused(12);
     }
-    let count = run_saved::atomic_count(components);
+    let count = model_records::atomic_count(components);
     if route_count <= FEW_ROUTES {
         advance_few(file, n, tables, run, count, Moment(t), bag, trace)
     } else {

@@ -52,7 +52,7 @@ fn flatten_accepted(
     let components = model_file::components_of(file, n);
     let phases = model_file::phases_of(file, n);
     let rules = model_file::rules_of(file, n);
-    let atomics = small(run_saved::atomic_count(components));
+    let atomics = small(model_records::atomic_count(components));
     let count = flat_rows::flat_rows(tables, atomics, rows, scratch);
     let size = flat_writer::flat_size(phases, rules, atomics, count);
     if out.len() < size {

@@ -85,7 +85,7 @@ fn read_accepted(
     if !run_saved::fits(components, model_file::phases_of(file, n), run) {
         return refused(10);
     }
-    let count = run_saved::atomic_count(components);
+    let count = model_records::atomic_count(components);
     if count as u64 <= position {
         return refused(16);
     }

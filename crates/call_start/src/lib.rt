@@ -32,7 +32,7 @@ fn start_run(components: &[u8], run: &mut [u8]) -> Written
     requires { ⌜ length (componentsIn (now components)) ≤ maxComponents ⌝ }
     ensures { λ r. ⌜ wroteOf r (now (run .exit)) ≡ wrote (now (run .entry)) (ok (runBytes (startRun (bare (now (components .entry)) [])))) ⌝ }
 {
-    let n = run_saved::atomic_count(components);
+    let n = model_records::atomic_count(components);
     let size = run_size(n);
     if run.len() < size {
         return Written {

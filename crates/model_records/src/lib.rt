@@ -1,10 +1,11 @@
 // The records of a model, read from the slice that holds a section's records. A reader `.._in` asks that there is such a record; past the
 // slice's end a reader `.._at` has zeros, so that it asks nothing.
 ghost use mathlib.Core.Path.{_≡_};
+ghost use mathlib.Core.Bool.{cond};
 ghost use Prim.Native.Nat.{_/_, _<_};
 ghost use lib.ListN.{length, getD};
 ghost use Rattle.definition.specs.Limits.{phaseSize};
-ghost use Rattle.definition.specs.Model.{noPhase, noRule, noCoupling, componentAt, isAtomic, isChild, phasesBefore};
+ghost use Rattle.definition.specs.Model.{noPhase, noRule, noCoupling, componentAt, isAtomic, isChild, atomics, phasesBefore};
 ghost use Rattle.definition.specs.Records.{messageAt};
 ghost use Rattle.law_bytes.specs.Parts.{row};
 ghost use Rattle.model_records.specs.Values.{componentOf, messageOf, phaseOf, ruleOf, couplingOf, componentsIn, phasesIn, rulesIn, couplingsIn};
@@ -254,6 +255,27 @@ pub fn is_child(components: &[u8], c: usize, d: usize) -> bool
 {
     let component = component_at(components, d);
     !(d == 0) & (little_endian::size(component.parent) == c)
+}
+
+// 1 for true, 0 for false.
+pub fn one_if(b: bool) -> usize
+    ensures { λ r. ⌜ r ≡ cond b 1 0 ⌝ }
+{
+    if b { 1 } else { 0 }
+}
+
+// How many of the components are atomic.
+pub fn atomic_count(components: &[u8]) -> usize
+    ensures { λ r. ⌜ r ≡ length (atomics (componentsIn (now (components .entry)))) ⌝ }
+{
+    let n = component_count(components);
+    let mut k: usize = 0;
+    let mut c: usize = 0;
+    while c < n {
+        k = k + one_if(is_atomic(components, c));
+        c = c + 1;
+    }
+    k
 }
 
 // ---- phases

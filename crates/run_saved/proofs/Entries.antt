@@ -18,38 +18,10 @@ use Rattle.law_bytes.proofs.Rows.{number-row}
 use Rattle.law_model.proofs.Sections.{all-numbers}
 use Rattle.run_state.specs.declared.State.{State}
 use Rattle.run_state.specs.Held.{entriesOf, changedAt}
+use Rattle.model_records.proofs.Counting.{up-more}
 use Rattle.run_saved.specs.Runs.{entryAt}
 
--- ---- lists, one more at the end
-
-pub up-more : (k n : ℕ) → upFrom k (n + 1) ≡ upFrom k n ++ ((k + n) ∷ [])
-unfolding upFrom
-up-more k zero = let e : k ≡ k + 0 = omega arith in rw (← e)
-up-more k (suc n) =
-    let e : suc k + n ≡ k + suc n = omega arith in
-    let f : suc n + 1 ≡ suc (n + 1) = omega arith in
-    rw f (ap (λ l. k ∷ l) (up-more (suc k) n ∙ rw e))
-
-keep-append : (p : ℕ → Bool) (x y : List ℕ) → keep p (x ++ y) ≡ keep p x ++ keep p y
-unfolding keep
-keep-append p [] y = refl
-keep-append p (a ∷ x) y = go (p a) (keep-append p x y)
-  where
-    go : (b : Bool) → keep p (x ++ y) ≡ keep p x ++ keep p y → cond b (a ∷ keep p (x ++ y)) (keep p (x ++ y)) ≡ cond b (a ∷ keep p x) (keep p x) ++ keep p y
-    go true e = ap (λ l. a ∷ l) e
-    go false e = e
-
-pub keep-more : (p : ℕ → Bool) (n : ℕ) → keep p (upFrom 0 (n + 1)) ≡ keep p (upFrom 0 n) ++ cond (p n) (n ∷ []) []
-unfolding keep
-keep-more p n = let e : 0 + n ≡ n = omega arith in ap (keep p) (up-more 0 n) ∙ keep-append p (upFrom 0 n) ((0 + n) ∷ []) ∙ rw e
-
--- How many are kept.
-pub kept-more : (p : ℕ → Bool) (n : ℕ) → length (keep p (upFrom 0 n)) + cond (p n) 1 0 ≡ length (keep p (upFrom 0 (n + 1)))
-kept-more p n = sym (ap length (keep-more p n) ∙ length-append (keep p (upFrom 0 n)) (cond (p n) (n ∷ []) []) ∙ ap (λ k. length (keep p (upFrom 0 n)) + k) (go (p n)))
-  where
-    go : (b : Bool) → length (cond b (n ∷ []) []) ≡ cond b 1 0
-    go true = refl
-    go false = refl
+-- ---- entries, one more at the end
 
 rows-more : (size n : ℕ) (s : Bytes) → chunks (n + 1) size s ≡ chunks n size s ++ (row size n s ∷ [])
 unfolding chunks row
@@ -121,7 +93,3 @@ pub load-more : (s : Bytes) (st : State) (i p t : ℕ) → Wide st → i < maxCo
     → entriesOf i st ≡ toRun i s .entries → entriesOf (i + 1) (changedAt st i p t) ≡ toRun (i + 1) s .entries
 load-more s st i p t h l e f =
     entries-with st i p t h l ∙ ap₂ (λ (x : List Entry) (r : Entry). x ++ (r ∷ [])) f e ∙ sym (run-more s i)
-
-pub one-most : (b : Bool) → cond b 1 0 ≤ 1
-one-most true = omega arith
-one-most false = omega arith

@@ -158,8 +158,3 @@ pub fits-said : (components phases s : Bytes) (n : ℕ) → n ≡ length (atomic
     ≡ runFits (bare components phases) s
 unfolding runFits runLength atomicCount entriesFitIn bare modelIn runOf toRun
 fits-said components phases s n e = rw e
-
--- There are no more atomics than components.
-pub atomics-most : (cs : List Component) → length (atomics cs) ≤ length cs
-unfolding atomics
-atomics-most cs = omega (arith, length-keep (isAtomic cs) (upFrom 0 (length cs)), length-up 0 (length cs))

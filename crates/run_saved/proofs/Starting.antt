@@ -12,7 +12,8 @@ use Rattle.definition.specs.SavedRun.{Entry}
 use Rattle.run_state.specs.declared.State.{State}
 use Rattle.run_state.specs.Held.{entriesOf, changedAt}
 use Rattle.run_saved.specs.Runs.{startEntries}
-use Rattle.run_saved.proofs.Entries.{Wide, keep-more, entries-kept, entries-with}
+use Rattle.run_saved.proofs.Entries.{Wide, entries-kept, entries-with}
+use Rattle.model_records.proofs.Counting.{keep-more}
 
 -- The first entry of component c, were it atomic.
 abbrev started : List Component → ℕ → Entry

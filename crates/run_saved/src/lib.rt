@@ -42,25 +42,6 @@ pub struct Entry {
     pub last: Moment,
 }
 
-fn one_if(b: bool) -> usize
-    ensures { λ r. ⌜ r ≡ cond b 1 0 ⌝ }
-{
-    if b { 1 } else { 0 }
-}
-
-pub fn atomic_count(components: &[u8]) -> usize
-    ensures { λ r. ⌜ r ≡ length (atomics (componentsIn (now (components .entry)))) ⌝ }
-{
-    let n = component_count(components);
-    let mut k: usize = 0;
-    let mut c: usize = 0;
-    while c < n {
-        k = k + one_if(model_records::is_atomic(components, c));
-        c = c + 1;
-    }
-    k
-}
-
 // ---- reading
 
 pub fn opening_of(run: &[u8]) -> Moment
@@ -138,7 +119,7 @@ fn entries_fit(components: &[u8], phases: &[u8], run: &[u8]) -> bool
         if atomic & !fit {
             return false;
         }
-        k = k + one_if(atomic);
+        k = k + model_records::one_if(atomic);
         first = first + little_endian::size(own.phases);
         c = c + 1;
     }
@@ -150,7 +131,7 @@ pub fn fits(components: &[u8], phases: &[u8], run: &[u8]) -> bool
     requires { ⌜ length (componentsIn (now components)) ≤ maxComponents ⌝ }
     ensures { λ r. ⌜ r ≡ runFits (bare (now (components .entry)) (now (phases .entry))) (now (run .entry)) ⌝ }
 {
-    let n = atomic_count(components);
+    let n = model_records::atomic_count(components);
     let opening = opening_of(run);
     let long = HEAD_SIZE + ENTRY_SIZE * n <= run.len();
     let counted = little_endian::size16(little_endian::u16_at(run, 8)) == n;
@@ -220,7 +201,7 @@ pub fn start_state(
     while c < n {
         let own = component_at(components, c);
         run_state::put_at(phase, last, k, own.initial, Moment(0));
-        k = k + one_if(own.kind == 1);
+        k = k + model_records::one_if(own.kind == 1);
         c = c + 1;
     }
 }

@@ -6,7 +6,7 @@ use mathlib.Core.List.{List}
 use mathlib.Core.Bool.{true}
 use lib.ListN.{getD}
 use Rattle.definition.specs.Limits.{maxComponents, maxCouplings}
-use Rattle.spec_step.specs.Tables.{portNodes, numbersAt, positionsAt, parentsAt, childAt, siblingAt, firstAt, nextAt, sourceAt, countAt, atomicAt}
+use Rattle.spec_step.specs.Tables.{portNodes, numbersAt, positionsAt, parentsAt, childAt, siblingAt, firstAt, nextAt, sourceAt, countAt, atomicsIn, atomicAt}
 
 -- How many nodes there may be.
 abbrev pub maxNodes : ℕ
@@ -32,6 +32,7 @@ pub record InRange (t : List ℕ) : Type 0 where
   pub nexts : (j : ℕ) → j ≤ maxCouplings → getD t (nextAt + j) 0 ≤ maxCouplings
   pub sources : (j : ℕ) → j ≤ maxCouplings → getD t (sourceAt + j) 0 < maxNodes
   pub count : getD t countAt 0 ≤ maxComponents
+  pub atomics : atomicsIn t ≤ maxComponents
 
 -- The positions of the atomics are those of n atomics.
 abbrev pub Seated : ℕ → List ℕ → Type 0

@@ -77,8 +77,15 @@ sourceAt = nextAt + (maxCouplings + 1)
 abbrev pub countAt : ℕ
 countAt = sourceAt + (maxCouplings + 1)
 
+-- one number: how many atomics there are
+abbrev pub atomicsAt : ℕ
+atomicsAt = countAt + 1
+
 abbrev pub tableSize : ℕ
-tableSize = countAt + 1
+tableSize = atomicsAt + 1
+
+abbrev pub atomicsIn : List ℕ → ℕ
+atomicsIn t = getD t atomicsAt 0
 
 -- ---- chains of links
 

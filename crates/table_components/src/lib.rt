@@ -4,6 +4,7 @@ ghost use Prim.Native.Nat.{_+_, _-_, _≤_, _<_};
 ghost use mathlib.Core.Bool.{cond};
 ghost use lib.ListN.{length};
 ghost use Rattle.definition.specs.Limits.{maxComponents, maxRules};
+ghost use Rattle.definition.specs.Model.{atomics};
 ghost use Rattle.model_records.specs.Values.{componentOf, componentsIn, rulesIn};
 ghost use Rattle.spec_step.specs.Tables.{tableSize};
 ghost use Rattle.table_words.specs.Writes.{column};
@@ -89,6 +90,14 @@ pub fn count_word(components: &[u8]) -> u16
     ensures { λ r. ⌜ r ≡ length (componentsIn (now (components .entry))) ⌝ }
 {
     model_records::component_count(components) as u16
+}
+
+// How many of them are atomic, as a word.
+pub fn atomics_word(components: &[u8]) -> u16
+    requires { ⌜ length (componentsIn (now components)) ≤ maxComponents ⌝ }
+    ensures { λ r. ⌜ r ≡ length (atomics (componentsIn (now (components .entry)))) ⌝ }
+{
+    model_records::atomic_count(components) as u16
 }
 
 // Component c at position i, where it is an atomic; the next position.

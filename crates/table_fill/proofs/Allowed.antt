@@ -16,7 +16,7 @@ pub record Allowed (m x v : ℕ) : Type 0 where
   pub firsts : firstAt ≤ x → x < liveAt → v ≤ maxCouplings
   pub nexts : nextAt ≤ x → x < sourceAt → v ≤ maxCouplings
   pub sources : sourceAt ≤ x → x < countAt → v < maxNodes
-  pub count : x ≡ countAt → v ≤ maxComponents
+  pub counts : countAt ≤ x → v ≤ maxComponents
 
 module _ (m : ℕ) where
   pub none : (x : ℕ) → Allowed m x 0
@@ -29,7 +29,7 @@ module _ (m : ℕ) where
     firsts = λ a b. omega arith;
     nexts = λ a b. omega arith;
     sources = λ a b. omega arith;
-    count = λ e. omega arith;
+    counts = λ e. omega arith;
   }
 
   -- a component or a position, by component or by position
@@ -43,7 +43,7 @@ module _ (m : ℕ) where
     firsts = λ a c. absurd (omega arith);
     nexts = λ a c. absurd (omega arith);
     sources = λ a c. absurd (omega arith);
-    count = λ e. absurd (omega arith);
+    counts = λ e. absurd (omega arith);
   }
 
   -- a place of which nothing is asked
@@ -57,7 +57,7 @@ module _ (m : ℕ) where
     firsts = λ a b. absurd (omega (arith, c (omega arith)));
     nexts = λ a b. absurd (omega arith);
     sources = λ a b. absurd (omega arith);
-    count = λ e. absurd (omega arith);
+    counts = λ e. absurd (omega arith);
   }
 
   -- a link, first or next
@@ -71,7 +71,7 @@ module _ (m : ℕ) where
     firsts = λ a c. b;
     nexts = λ a c. b;
     sources = λ a c. absurd (omega arith);
-    count = λ e. absurd (omega arith);
+    counts = λ e. absurd (omega arith);
   }
 
   -- a child or a sibling, above its row
@@ -85,7 +85,7 @@ module _ (m : ℕ) where
     firsts = λ a d. absurd (omega arith);
     nexts = λ a d. absurd (omega arith);
     sources = λ a d. absurd (omega arith);
-    count = λ q. absurd (omega arith);
+    counts = λ q. absurd (omega arith);
   }
 
   pub begin : (x v : ℕ) → sourceAt ≤ x → x < countAt → v < maxNodes → Allowed m x v
@@ -98,11 +98,12 @@ module _ (m : ℕ) where
     firsts = λ a d. absurd (omega arith);
     nexts = λ a d. absurd (omega arith);
     sources = λ a d. b;
-    count = λ q. absurd (omega arith);
+    counts = λ q. absurd (omega arith);
   }
 
-  pub total : (v : ℕ) → v ≤ maxComponents → Allowed m countAt v
-  total v b = record {
+  -- a number of components
+  pub total : (x v : ℕ) → countAt ≤ x → v ≤ maxComponents → Allowed m x v
+  total x v l b = record {
     numbers = λ a. absurd (omega arith);
     kinds = λ a d. absurd (omega arith);
     parents = λ a d. absurd (omega arith);
@@ -111,5 +112,5 @@ module _ (m : ℕ) where
     firsts = λ a d. absurd (omega arith);
     nexts = λ a d. absurd (omega arith);
     sources = λ a d. absurd (omega arith);
-    count = λ q. b;
+    counts = λ q. b;
   }

@@ -6,14 +6,14 @@ use mathlib.Core.List.{List, map}
 use mathlib.Core.Bool.{not}
 use mathlib.Core.Logic.{inl, inr}
 use native.Mathlib.Omega.{arith}
-use lib.ListN.{length, getD, set}
-use lib.Seq.{getD-set-same}
+use lib.ListN.{length, getD, set, length-set}
+use lib.Seq.{getD-set-same, getD-set-other}
 use lib.Dec.{eqb}
 use Rattle.definition.specs.Limits.{maxComponents, maxCouplings}
 use Rattle.definition.specs.Lists.{keep}
-use Rattle.definition.specs.Model.{Component, Rule, Coupling, noCoupling, children}
+use Rattle.definition.specs.Model.{Component, Rule, Coupling, noCoupling, atomics, children}
 use Rattle.law_routes.specs.Nodes.{portNodes, sourceNumber, targetNumber}
-use Rattle.spec_step.specs.Tables.{numbersAt, rulesFromAt, rulesToAt, childAt, siblingAt, firstAt, liveAt, nextAt, sourceAt, countAt, tableSize, chainRows, childRows}
+use Rattle.spec_step.specs.Tables.{numbersAt, rulesFromAt, rulesToAt, childAt, siblingAt, firstAt, liveAt, nextAt, sourceAt, countAt, atomicsAt, tableSize, atomicsIn, chainRows, childRows}
 use Rattle.spec_step.specs.Tabled.{isLive}
 use Rattle.table_words.specs.Writes.{column, linked}
 use Rattle.table_words.proofs.Columns.{Within, within-both, within-set, column-within}
@@ -61,8 +61,11 @@ module _ (cs : List Component) (rs : List Rule) (ks : List Coupling) (few : leng
   abbrev pub down : List ℕ
   down = spreadDown src tgt (length ks) 1 up
 
+  abbrev counted : List ℕ
+  counted = set down countAt (length cs)
+
   abbrev pub t5 : List ℕ
-  t5 = set down countAt (length cs)
+  t5 = set counted atomicsAt (length (atomics cs))
 
   pub is-filled : filled cs rs ks ≡ t5
   unfolding filled byCoupling byLink
@@ -111,8 +114,10 @@ module _ (cs : List Component) (rs : List Rule) (ks : List Coupling) (few : leng
   wd : Within liveAt (liveAt + nodes) up down
   wd = down-within src tgt (length ks) 1 up
 
-  w5 : Within countAt (countAt + 1) down t5
-  w5 = within-set down countAt (length cs) (omega arith) (omega arith)
+  w5 : Within countAt tableSize down t5
+  w5 =
+      within-both {a = countAt} {b = tableSize} {c = countAt} {d = tableSize} (omega arith) (omega arith) (omega arith) (omega arith)
+      (within-set down countAt (length cs) (omega arith) (omega arith)) (within-set counted atomicsAt (length (atomics cs)) (omega arith) (omega arith))
 
   pub l1 : length t1 ≡ tableSize
   l1 = w1 .long ∙ l0
@@ -180,7 +185,10 @@ module _ (cs : List Component) (rs : List Rule) (ks : List Coupling) (few : leng
   -- ---- counts, children, rows
 
   pub count-holds : getD t5 countAt 0 ≡ length cs
-  count-holds = getD-set-same down countAt (length cs) 0 (omega (arith, ld))
+  count-holds = getD-set-other counted atomicsAt countAt (length (atomics cs)) 0 (λ e. omega arith) ∙ getD-set-same down countAt (length cs) 0 (omega (arith, ld))
+
+  pub atomics-hold : atomicsIn t5 ≡ length (atomics cs)
+  atomics-hold = getD-set-same counted atomicsAt (length (atomics cs)) 0 (omega (arith, ld, length-set down countAt (length cs)))
 
   pub children-hold : 0 < length cs → (c : ℕ) → c < length cs → childRows t5 c ≡ children cs c
   unfolding childRows byParent

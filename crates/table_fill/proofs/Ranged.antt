@@ -17,10 +17,11 @@ use Rattle.law_nest.proofs.Places.{place-below}
 use Rattle.law_nest.proofs.Components.{atomic-once}
 use Rattle.law_routes.specs.Nodes.{portNodes}
 use Rattle.law_routes.proofs.Placed.{parents}
-use Rattle.spec_step.specs.Tables.{numbersAt, positionsAt, kindsAt, ordersAt, phasesAt, parentsAt, rulesFromAt, rulesToAt, childAt, siblingAt, firstAt, liveAt, nextAt, sourceAt, countAt, atomicAt}
+use Rattle.spec_step.specs.Tables.{numbersAt, positionsAt, kindsAt, ordersAt, phasesAt, parentsAt, rulesFromAt, rulesToAt, childAt, siblingAt, firstAt, liveAt, nextAt, sourceAt, countAt, atomicsAt, atomicAt}
 use Rattle.spec_step.specs.Ranges.{maxNodes, InRange, Seated}
 use Rattle.spec_step.specs.Tabled.{Tabled, isLive}
 use Rattle.spec_step.specs.TablesOf.{TablesOf}
+use Rattle.model_records.proofs.Counting.{atomics-most}
 use Rattle.table_words.specs.Writes.{column, putIn, linked}
 use Rattle.table_words.proofs.Words as W
 use Rattle.table_components.specs.declared.Field.the-variants.{Kind, Parent, Order, Phases, Atomic}
@@ -32,7 +33,6 @@ use Rattle.table_couplings.proofs.Nodes.{src-in}
 use Rattle.table_couplings.specs.Links.{zeros, begun, linkEnd, sourceFlag, spread, spreadUp, spreadDown, byLink, byCoupling}
 use Rattle.table_fill.specs.Filled.{filled}
 use Rattle.table_fill.proofs.Allowed.{Allowed, none, small, free, linking, kin, begin, total}
-use Rattle.table_fill.proofs.Rows.{atomics-few}
 use Rattle.table_fill.proofs.Holding as H
 use Rattle.table_fill.proofs.Tables.{tables-hold}
 
@@ -179,7 +179,8 @@ module _ (cs : List Component) (few : length cs ≤ maxComponents) where
     firsts = λ x l. w (firstAt + x) .firsts (omega arith) (omega arith);
     nexts = λ j l. w (nextAt + j) .nexts (omega arith) (omega arith);
     sources = λ j l. w (sourceAt + j) .sources (omega arith) (omega arith);
-    count = w countAt .count refl;
+    count = w countAt .counts (omega arith);
+    atomics = w atomicsAt .counts (omega arith);
   }
 
 -- ---- the filled tables of a sound model
@@ -203,11 +204,14 @@ module _ (m : Model) (w : WellFormed m) where
       let w0 : Words cs few t0 = words-sources cs few src tgt (length ks) most begins zeros (λ x. subst (Allowed (length cs) x) (sym (zeros-at x)) (none (length cs) x)) in
       let w2 : Words cs few t2 = words-rules cs few (m .rules) t1 (words-columns cs few parent-small t0 w0) in
       let w3 : Words cs few t3 = words-kin cs few above t2 (λ x a b. H.zero2 cs (m .rules) ks few most x a (omega arith)) w2 in
-      W.words-set (Allowed (length cs)) (none (length cs)) (byCoupling cs ks t3) countAt (length cs)
-      (words-live cs few src tgt (length ks) most begins (linked firstAt maxNodes nextAt tgt (length ks) t3)
-      (words-chains cs few src tgt (length ks) most begins t3 (λ x a b. H.zero3 cs (m .rules) ks few most x a (omega arith)) w3))
-      (total (length cs) (length cs) few)
+      let w4 : Words cs few (byCoupling cs ks t3) = words-live cs few src tgt (length ks) most begins (linked firstAt maxNodes nextAt tgt (length ks) t3)
+      (words-chains cs few src tgt (length ks) most begins t3 (λ x a b. H.zero3 cs (m .rules) ks few most x a (omega arith)) w3) in
+      counted atomicsAt (length (atomics cs)) (set (byCoupling cs ks t3) countAt (length cs)) (omega arith) (omega (arith, atomics-most cs, few))
+      (counted countAt (length cs) (byCoupling cs ks t3) (omega arith) few w4)
     where
+      counted : (x v : ℕ) (t : List ℕ) → countAt ≤ x → v ≤ maxComponents → Words (m .components) (w .components .few) t → Words (m .components) (w .components .few) (set t x v)
+      counted x v t l b h = W.words-set (Allowed (length (m .components))) (none (length (m .components))) t x v h (total (length (m .components)) x v l b)
+
       parent-small : (c : ℕ) → c < length (m .components) → componentAt (m .components) c .parent < maxComponents
       parent-small zero l = omega (arith, root-parent (m .components) (w .components .fit 0 l))
       parent-small (suc c) l = omega (arith, parents (m .components) (w .components .fit) (suc c) (omega arith) l .0, w .components .few)
@@ -238,7 +242,7 @@ module _ (m : Model) (w : WellFormed m) where
   pub tables-of : TablesOf m (filled (m .components) (m .rules) (m .couplings))
   tables-of = record {
     tabled = tables-hold m w;
-    few = omega (arith, atomics-few (m .components), w .components .few);
+    few = omega (arith, atomics-most (m .components), w .components .few);
     in-range = ranged (m .components) (w .components .few) (filled (m .components) (m .rules) (m .couplings)) words-filled;
     seated = seated;
   }

@@ -34,10 +34,6 @@ module _ (cs : List Component) where
       go false h =
           absurd (true≢false (sym e ∙ ap (λ k. eqb (k .kind) 1) (List·getD-eq-default cs (record { kind = 0; parent = 0; phases = 0; initial = 0; order = 0 }) (ltb-false c (length cs) h))))
 
-  pub atomics-few : length (atomics cs) ≤ length cs
-  unfolding atomics
-  atomics-few = keep-long (isAtomic cs) 0 (length cs)
-
   -- ---- numbers by position
 
   numbered-within : (m c i : ℕ) (t : List ℕ) → Within (numbersAt + i) (numbersAt + (i + m)) t (numbered cs m c (t, i) .0)

@@ -7,10 +7,11 @@ use Rattle.law_model.proofs.WellFormed.{WellFormed}
 use Rattle.law_routes.proofs.Placed.{rising}
 use Rattle.spec_step.specs.Tables.{numbersAt, positionsAt, kindsAt, ordersAt, phasesAt, parentsAt}
 use Rattle.spec_step.specs.Tabled.{Tabled}
+use Rattle.model_records.proofs.Counting.{atomics-most}
 use Rattle.table_components.specs.Columns.{ruleNames}
 use Rattle.table_fill.specs.Filled.{filled}
-use Rattle.table_fill.proofs.Rows.{atomic-known, place-right, atomics-few, numbers-hold, positions-hold, kinds-hold, orders-hold, phases-hold, parents-hold}
-use Rattle.table_fill.proofs.Holding.{t0, l0, is-filled, kept1, count-holds, children-hold, rows-hold, ranges-in, ranges-from, ranges-to}
+use Rattle.table_fill.proofs.Rows.{atomic-known, place-right, numbers-hold, positions-hold, kinds-hold, orders-hold, phases-hold, parents-hold}
+use Rattle.table_fill.proofs.Holding.{t0, l0, is-filled, kept1, count-holds, atomics-hold, children-hold, rows-hold, ranges-in, ranges-from, ranges-to}
 use Rattle.table_fill.proofs.Sources.{given-holds, live-holds}
 
 pub tables-hold : (m : Model) → WellFormed m → Tabled m (filled (m .components) (m .rules) (m .couplings))
@@ -28,7 +29,8 @@ tables-hold m w =
     let r = rising cs (w .components .fit) in
     subst (Tabled m) (sym (is-filled cs rs ks few short)) (record {
       count = count-holds cs rs ks few short;
-      numbers = λ i h. kept (numbersAt + i) (omega (arith, atomics-few cs, few)) ∙ numbers-hold cs base size few i h;
+      atomic-count = atomics-hold cs rs ks few short;
+      numbers = λ i h. kept (numbersAt + i) (omega (arith, atomics-most cs, few)) ∙ numbers-hold cs base size few i h;
       positions = λ c e. let h = atomic-known cs c e in kept (positionsAt + c) (omega (arith, few)) ∙ positions-hold cs base size few c h ∙ place-right cs c e;
       kinds = λ c h. kept (kindsAt + c) (omega (arith, few)) ∙ kinds-hold cs base size few c h;
       orders = λ c h. kept (ordersAt + c) (omega (arith, few)) ∙ orders-hold cs base size few c h;

@@ -6,6 +6,7 @@ ghost use Rattle.definition.specs.Limits.{maxComponents, maxRules, maxCouplings
 ghost use Rattle.model_records.specs.Values.{componentsIn, rulesIn, couplingsIn};
 ghost use Rattle.table_couplings.specs.Links.{Begun};
 ghost use Rattle.table_fill.specs.Filled.{filled};
+use table_words::ATOMICS_AT;
 use table_words::COUNT_AT;
 use table_words::LINKS;
 use table_words::TABLE_SIZE;
@@ -27,4 +28,5 @@ pub fn fill_tables(
     table_components::fill_children(components, tables);
     table_couplings::fill_linked(components, couplings, targets, tables);
     tables[COUNT_AT] = table_components::count_word(components);
+    tables[ATOMICS_AT] = table_components::atomics_word(components);
 }

@@ -3,7 +3,7 @@ ghost use mathlib.Core.Path.{_≡_};
 ghost use Prim.Native.Nat.{_+_, _<_, _≤_};
 ghost use lib.ListN.{getD, length};
 ghost use Rattle.definition.specs.Limits.{maxComponents};
-ghost use Rattle.spec_step.specs.Tables.{siblingAt, tableSize};
+ghost use Rattle.spec_step.specs.Tables.{siblingAt, atomicsAt, tableSize, atomicsIn};
 ghost use Rattle.table_words.specs.Writes.{column, putIn, linkAt, linked};
 use limits::MAX_COMPONENTS;
 use limits::MAX_COUPLINGS;
@@ -46,7 +46,10 @@ pub const SOURCE_AT: usize = NEXT_AT + LINKS;
 // How many components there are.
 pub const COUNT_AT: usize = SOURCE_AT + LINKS;
 
-pub const TABLE_SIZE: usize = COUNT_AT + 1;
+// How many atomics there are.
+pub const ATOMICS_AT: usize = COUNT_AT + 1;
+
+pub const TABLE_SIZE: usize = ATOMICS_AT + 1;
 
 pub fn word(x: u8) -> u16
     ensures { λ r. ⌜ r ≡ x ⌝ }
@@ -75,6 +78,14 @@ pub fn row_in(t: &[u16; TABLE_SIZE], at: usize, i: u16) -> u16
     ensures { λ r. ⌜ r ≡ getD (now (t .entry)) (at + i) 0 ⌝ }
 {
     word_in(t, at + little_endian::size16(i))
+}
+
+// How many atomics there are.
+pub fn atomics_in(t: &[u16; TABLE_SIZE]) -> u8
+    requires { ⌜ getD (now t) atomicsAt 0 ≤ maxComponents ⌝ }
+    ensures { λ r. ⌜ r ≡ atomicsIn (now (t .entry)) ⌝ }
+{
+    word_in(t, ATOMICS_AT) as u8
 }
 
 // A component's mark or flag.

@@ -2,7 +2,7 @@
 use borrow.Author.Needs.{needs}
 use native.Mathlib.Omega.{arith}
 use Rattle.call_start.proofs.Starts.{wrote-short, wrote-whole, start-length, start-run-is}
-use Rattle.run_saved.proofs.Fitting.{atomics-most}
+use Rattle.model_records.proofs.Counting.{atomics-most}
 use Rattle.run_saved.specs.Runs.{bare}
 use Rattle.model_records.specs.Values.{componentsIn}
 use Rattle.definition.specs.Engine.{startRun}

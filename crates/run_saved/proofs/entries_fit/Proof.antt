@@ -4,7 +4,7 @@ use borrow.Author.Needs.{needs}
 use native.Mathlib.Omega.{arith}
 use lib.Dec.{eqb}
 use Rattle.run_saved.proofs.Fitting.{atomicsFrom, from-first, left-more, fitFrom, fit-first, fit-more, fit-fails, fit-end, tested-at, atomic-said}
-use Rattle.run_saved.proofs.Entries.{one-most}
+use Rattle.model_records.proofs.Counting.{one-most}
 use Rattle.run_saved.specs.Runs.{entryOf, entriesFitIn}
 use Rattle.clock.specs.Times.{timeOf}
 use Rattle.law_bytes.proofs.Rows.{number-below}

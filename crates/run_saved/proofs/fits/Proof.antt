@@ -1,6 +1,7 @@
 -- Length, count, open moment and entries, in the order of the definition (`fits-said`).
 use borrow.Author.Needs.{needs}
-use Rattle.run_saved.proofs.Fitting.{fits-said, atomics-most}
+use Rattle.run_saved.proofs.Fitting.{fits-said}
+use Rattle.model_records.proofs.Counting.{atomics-most}
 use Rattle.model_records.specs.Values.{componentsIn}
 use Rattle.run_saved.proofs.fits.Statement.{statement}
 use Rattle.run_saved.proofs.fits.Tie as tie

@@ -3,7 +3,8 @@ use borrow.Author.Needs.{needs}
 use native.Mathlib.Omega.{arith}
 use Rattle.run_saved.proofs.Starting.{startedTo, started-none, started-more, started-all, length-atomics}
 use Rattle.run_saved.proofs.Fitting.{atomic-said}
-use Rattle.run_saved.proofs.Entries.{Wide, wide-changed, kept-more, one-most}
+use Rattle.run_saved.proofs.Entries.{Wide, wide-changed}
+use Rattle.model_records.proofs.Counting.{kept-more, one-most}
 use Rattle.run_state.specs.declared.State.{State}
 use Rattle.run_state.specs.Held.{held, entriesOf}
 use Rattle.model_records.specs.Values.{componentsIn, componentOf}

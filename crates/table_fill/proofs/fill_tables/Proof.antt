@@ -32,15 +32,15 @@ unfolding filled
 returns c =
     let start : tie.Start = search in let after-fill-children : tie.After-fill-children = search in
     let after-fill-rules : tie.After-fill-rules = search in let after-fill-components : tie.After-fill-components = search in
+    let after-count-word : tie.After-count-word = search in let after-fill-linked : tie.After-fill-linked = search in
     let a = start .args in
     let cs = componentsIn (now (a .components)) in
     let rs = rulesIn (now (a .rules)) in
     let ks = couplingsIn (now (a .couplings)) in
-    let e = c .before .fill-linked .ensures ∙ ap (byCoupling cs ks) (after-fill-children .fill-children .ensures ∙ ap (byParent cs) (after-fill-rules .fill-rules .ensures ∙ ap (byRule rs) (after-fill-components .fill-components .ensures ∙ ap (byComponent cs) (start .pre .3 .begins)))) in
-    ap (λ s. set s countAt (c .count-word .result)) e
-    ∙ ap (set (byCoupling cs ks (byParent cs (byRule rs (byComponent cs (begun cs ks zeros))))) countAt) (c .count-word .ensures)
+    let e = after-fill-linked .fill-linked .ensures ∙ ap (byCoupling cs ks) (after-fill-children .fill-children .ensures ∙ ap (byParent cs) (after-fill-rules .fill-rules .ensures ∙ ap (byRule rs) (after-fill-components .fill-components .ensures ∙ ap (byComponent cs) (start .pre .3 .begins)))) in
+    rw (← e, ← after-count-word .count-word .ensures, ← c .atomics-word .ensures)
 
 pub fill-tables-spec : {M : Type 1} → statement M
 fill-tables-spec =
     tie.close (tie.spec (λ c κs. search needs) (λ c κs. search needs) (λ c κs. search needs) fill-linked-requires (λ c κs. search needs)
-    (λ c. search needs) returns)
+    (λ c. search needs) (λ c κs. search needs) (λ c. search needs) returns)

@@ -4,15 +4,15 @@ use native.Mathlib.Omega.{arith}
 use Prim.Native.Nat.{_+_}
 use mathlib.Core.Bool.{Bool, cond}
 use mathlib.Core.Path.{ap₂}
-use Rattle.run_saved.proofs.Entries.{kept-more, one-most}
+use Rattle.model_records.proofs.Counting.{kept-more, one-most}
 use Rattle.model_records.specs.Values.{componentsIn}
 use Rattle.definition.specs.Model.{isAtomic, atomics}
 use Rattle.definition.specs.Lists.{keep, upFrom}
 use lib.ListN.{length}
 use Prim.Native.Nat.{_≤_, _-_}
 use mathlib.Core.Path.{_≡_, refl, _∙_, ap}
-use Rattle.run_saved.proofs.atomic_count.Statement.{statement}
-use Rattle.run_saved.proofs.atomic_count.Tie as tie
+use Rattle.model_records.proofs.atomic_count.Statement.{statement}
+use Rattle.model_records.proofs.atomic_count.Tie as tie
 
 abbrev Inv-loop : tie.InvT-loop
 Inv-loop components n k₀ c₀ k c = (c ≤ n) × (k ≤ c) × (k ≡ length (keep (isAtomic (componentsIn components)) (upFrom 0 c)))
