@@ -38,7 +38,7 @@ module _ (m : Model) (w : WellFormed m) (t : List ℕ) (h : Tabled m t) (x : Bag
   abbrev sends : Node → List ℕ
   sends = sentAt (probed m) (probeEntry m) 0
 
-  sent-is : (y : Node) → good m w y ≡ true → atomicAt m y ≡ true → sentBy probes t probeMarks (code y) ≡ sends y
+  sent-is : (y : Node) → good m w y ≡ true → atomicAt m y ≡ true → sentBy probes probeMarks (code y) ≡ sends y
   unfolding sentBy sentAt
   sent-is y g e =
       let i = good-in m w y g in

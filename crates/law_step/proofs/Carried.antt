@@ -78,7 +78,7 @@ module _ (t : List ℕ) (r : InRange t) where
 
   -- ---- the least over the tree: levels enough are levels enough
 
-  least-same : (f g : ℕ → ℕ) (c : ℕ) (l : List ℕ) → Each (Above c) l → ((d : ℕ) → Above c d → f d ≡ g d) → leastEnd t f l ≡ leastEnd t g l
+  least-same : (f g : ℕ → ℕ) (c : ℕ) (l : List ℕ) → Each (Above c) l → ((d : ℕ) → Above c d → f d ≡ g d) → leastEnd f l ≡ leastEnd g l
   unfolding leastEnd
   least-same f g c [] e s = refl
   least-same f g c (d ∷ l) e s = ap₂ min (s d (e .0)) (least-same f g c l (e .1) s)
@@ -97,7 +97,7 @@ module _ (ps : List Phase) (t : List ℕ) (n : ℕ) (st : State) (ends : List �
   mark-carried : (now i : ℕ) → now < latest → i < n → endMark t now (st .phase) ends i (getD t (numbersAt + i) 0) ≡ markOf ps t now st i
   unfolding endMark markOf recordOf
   mark-carried now i l b =
-      ap (λ e. cond e (suc (recordOf ps t (getD t (numbersAt + i) 0) (getD (st .phase) i 0))) 0) (ap (λ e. eqb e now) (h i b) ∙ now-number (dueAtPosition ps t st i) now l)
+      ap (λ e. cond e (suc (recordOf t (getD t (numbersAt + i) 0) (getD (st .phase) i 0))) 0) (ap (λ e. eqb e now) (h i b) ∙ now-number (dueAtPosition ps t st i) now l)
 
   pub marked-carried : (now m i : ℕ) (es : List ℕ) → now < latest → i + m ≤ n → endMarked t now (st .phase) ends m i es ≡ marked ps t now st m i es
   unfolding endMarked marked
@@ -116,13 +116,13 @@ module _ (ps : List Phase) (t : List ℕ) (n : ℕ) (st : State) (ends : List �
       go false = omega arith
 
   least-carried : (f : ℕ → ℕ) (g : ℕ → Time) (c : ℕ) (l : List ℕ) → Each (Above c) l → ((d : ℕ) → Above c d → (f d ≡ dueNumber (g d)) × (f d ≤ neverMoment))
-      → (leastEnd t f l ≡ dueNumber (leastOf ps t g l)) × (leastEnd t f l ≤ neverMoment)
+      → (leastEnd f l ≡ dueNumber (leastOf g l)) × (leastEnd f l ≤ neverMoment)
   unfolding leastEnd leastOf dueNumber
   least-carried f g c [] e s = (refl, omega arith)
   least-carried f g c (d ∷ l) e s =
       let one = s d (e .0) in
       let more = least-carried f g c l (e .1) s in
-      (ap₂ min (one .0) (more .0) ∙ earlier-number (g d) (leastOf ps t g l) (omega (arith, one .0, one .1)) (omega (arith, more .0, more .1)), omega (arith, one .1, more .1))
+      (ap₂ min (one .0) (more .0) ∙ earlier-number (g d) (leastOf g l) (omega (arith, one .0, one .1)) (omega (arith, more .0, more .1)), omega (arith, one .1, more .1))
 
   module _ (r : InRange t) (w : Seated n t) where
     below-carried : (levels c : ℕ) → c < maxComponents → (endBelow t ends levels c ≡ dueNumber (dueBelow ps t st levels c)) × (endBelow t ends levels c ≤ neverMoment)
@@ -134,9 +134,9 @@ module _ (ps : List Phase) (t : List ℕ) (n : ℕ) (st : State) (ends : List �
         i : ℕ
         i = getD t (positionsAt + c) 0
 
-        go : (b : Bool) → atomicAt t c ≡ b → (leastEnd t (endBelow t ends m) (childRows t c) ≡ dueNumber (leastOf ps t (dueBelow ps t st m) (childRows t c))) × (leastEnd t (endBelow t ends m) (childRows t c) ≤ neverMoment)
-            → (cond b (getD ends i 0) (leastEnd t (endBelow t ends m) (childRows t c)) ≡ dueNumber (cond b (dueAtPosition ps t st i) (leastOf ps t (dueBelow ps t st m) (childRows t c))))
-            × (cond b (getD ends i 0) (leastEnd t (endBelow t ends m) (childRows t c)) ≤ neverMoment)
+        go : (b : Bool) → atomicAt t c ≡ b → (leastEnd (endBelow t ends m) (childRows t c) ≡ dueNumber (leastOf (dueBelow ps t st m) (childRows t c))) × (leastEnd (endBelow t ends m) (childRows t c) ≤ neverMoment)
+            → (cond b (getD ends i 0) (leastEnd (endBelow t ends m) (childRows t c)) ≡ dueNumber (cond b (dueAtPosition ps t st i) (leastOf (dueBelow ps t st m) (childRows t c))))
+            × (cond b (getD ends i 0) (leastEnd (endBelow t ends m) (childRows t c)) ≤ neverMoment)
         go true e ih = (h i (w c l e), omega (arith, h i (w c l e), due-bounded i))
         go false e ih = ih
 

@@ -51,17 +51,17 @@ closes false b e = refl
 -- What marks es and flags fs have to say of a model with the tables t, where `sends` is what its sources put out and x is the given bag: a
 -- mark that is down is down at the children, and where a flag is down nothing may come.
 pub record Flags (m : Model) (w : WellFormed m) (t : List ℕ) (ps : List Phase) (es fs : List ℕ) (x : Bag) (sends : Node → List ℕ) : Type 0 where
-  pub sent : (y : Node) → good m w y ≡ true → atomicAt m y ≡ true → sentBy ps t es (code y) ≡ sends y
+  pub sent : (y : Node) → good m w y ≡ true → atomicAt m y ≡ true → sentBy ps es (code y) ≡ sends y
   pub marks-down : (c d : ℕ) → isChild (m .components) c d ≡ true → d < length (m .components) → isUp es c ≡ false → isUp es d ≡ false
   pub flags-down : (c q : ℕ) → 0 < c → c < length (m .components) → q < portCount → isUp fs c ≡ false
-      → all (λ y. not (mayCome ps t es fs (code y))) (rowsAt m (inn c q)) ≡ true
+      → all (λ y. not (mayCome es fs (code y))) (rowsAt m (inn c q)) ≡ true
   pub root-down : isUp fs 0 ≡ false → isEmpty x ≡ true
 
 module _ (m : Model) (w : WellFormed m) (t : List ℕ) (h : Tabled m t) (ps : List Phase) (es fs : List ℕ) (x : Bag) (sends : Node → List ℕ)
     (k : Flags m w t ps es fs x sends) where
   -- the flag of a node
   unfoldable pub up : Node → Bool
-  up y = isOpen ps t es fs (code y)
+  up y = isOpen t es fs (code y)
 
   -- nothing comes from an output node, or from any
   abbrev Still : Node → Bool
@@ -71,7 +71,7 @@ module _ (m : Model) (w : WellFormed m) (t : List ℕ) (h : Tabled m t) (ps : Li
   StillIn = stillIn (rowsAt m) (atomicAt m) sends outputAt (good m w) up
 
   abbrev MayCome : Node → Bool
-  MayCome y = mayCome ps t es fs (code y)
+  MayCome y = mayCome es fs (code y)
 
   -- ---- a node whose flag is down
 

@@ -84,7 +84,7 @@ deciding-first test at (k ∷ ks) rs h =
 -- ---- transitions
 
 module _ (m : Model) (w : WellFormed m) (st : State) (t : List ℕ) (h : Tabled m t) (c : ℕ) (l : c < length (m .components)) where
-  pub decided-is : (p e : ℕ) (x : Bag) → decidedIn (m .phases) t (m .rules) c p e x ≡ external m c p e x
+  pub decided-is : (p e : ℕ) (x : Bag) → decidedIn t (m .rules) c p e x ≡ external m c p e x
   unfolding decidedIn external decidingIn
   decided-is p e x =
       ap (ledTo (m .rules) p)
@@ -100,16 +100,16 @@ module _ (m : Model) (w : WellFormed m) (st : State) (t : List ℕ) (h : Tabled 
   pub confluent-is : (p : ℕ) (x : Bag) → eqb (phaseAt m c p .advance) neverField ≡ false → confluentIn (m .phases) t (m .rules) c p x ≡ confluent m c p x
   unfolding confluentIn confluent advanceOf ticks
   confluent-is p x e =
-      ap (λ o. cond (eqb o 0) (decidedIn (m .phases) t (m .rules) c (phaseIn (m .phases) t c p .next) 0 x)
-      (phaseIn (m .phases) t c (decidedIn (m .phases) t (m .rules) c p (phaseIn (m .phases) t c p .advance) x) .next)) (h .orders c l)
+      ap (λ o. cond (eqb o 0) (decidedIn t (m .rules) c (phaseIn (m .phases) t c p .next) 0 x)
+      (phaseIn (m .phases) t c (decidedIn t (m .rules) c p (phaseIn (m .phases) t c p .advance) x) .next)) (h .orders c l)
       ∙ ap₂ (cond (eqb (componentAt (m .components) c .order) 0)) first second
     where
-      first : decidedIn (m .phases) t (m .rules) c (phaseIn (m .phases) t c p .next) 0 x ≡ external m c (internal m c p) 0 x
+      first : decidedIn t (m .rules) c (phaseIn (m .phases) t c p .next) 0 x ≡ external m c (internal m c p) 0 x
       first = decided-is _ 0 x ∙ ap (λ q. external m c q 0 x) (next-is p)
 
       stay : phaseIn (m .phases) t c p .advance ≡ ticks (cond (eqb (phaseAt m c p .advance) neverField) never (finite (phaseAt m c p .advance)))
       stay = ap (λ (k : Phase). k .advance) (phase-is m w st t h c p l) ∙ (unfold ticks in (rw e))
 
-      second : phaseIn (m .phases) t c (decidedIn (m .phases) t (m .rules) c p (phaseIn (m .phases) t c p .advance) x) .next
+      second : phaseIn (m .phases) t c (decidedIn t (m .rules) c p (phaseIn (m .phases) t c p .advance) x) .next
           ≡ internal m c (external m c p (ticks (cond (eqb (phaseAt m c p .advance) neverField) never (finite (phaseAt m c p .advance)))) x)
       second = next-is _ ∙ ap (internal m c) (decided-is p _ x ∙ ap (λ e. external m c p e x) stay)

@@ -74,10 +74,10 @@ module _ (m : Model) (w : WellFormed m) (st : State) (t : List ℕ) (h : Tabled 
   mark-own c e i l n =
       let p : atomicAtPlace m w st i ≡ c = sym (num-is i l) ∙ n in
       let q : atEntry m w st c ≡ heldAt st i = entry-at m w st c e ∙ ap (heldAt st) (ap (λ d. placeIn d (atomics (m .components))) (sym p) ∙ place-is m w st i l) in
-      ap (λ u. cond (sameTime u (finite now)) (suc (recordOf (m .phases) t (getD t (numbersAt + i) 0) (getD (st .phase) i 0))) 0)
+      ap (λ u. cond (sameTime u (finite now)) (suc (recordOf t (getD t (numbersAt + i) 0) (getD (st .phase) i 0))) 0)
       (due-at m w st t h i l (soon i l) ∙ ap (λ d. dueOf m d (heldAt st i)) p ∙ ap (dueOf m c) (sym q))
       ∙ ap (λ k. cond (sameTime (dueOf m c (atEntry m w st c)) (finite now)) (suc k) 0)
-      (ap (λ d. recordOf (m .phases) t d (getD (st .phase) i 0)) n ∙ ap (λ k. k + getD (st .phase) i 0) (h .phases c (atomic-below (m .components) c e)) ∙ ap (λ (r : Entry). phasesBefore (m .components) c + r .phase) (sym q))
+      (ap (λ d. recordOf t d (getD (st .phase) i 0)) n ∙ ap (λ k. k + getD (st .phase) i 0) (h .phases c (atomic-below (m .components) c e)) ∙ ap (λ (r : Entry). phasesBefore (m .components) c + r .phase) (sym q))
 
   -- an atomic's mark: its phase record where it is due
   mark-is : (c : ℕ) → isAtomic (m .components) c ≡ true
@@ -88,7 +88,7 @@ module _ (m : Model) (w : WellFormed m) (st : State) (t : List ℕ) (h : Tabled 
       let o = atomic-once (m .components) (w .components .fit) (w .some-component) c e in
       let l : i < length (atomics (m .components)) = place-below c (atomics (m .components)) (omega arith) in
       let n : getD t (numbersAt + i) 0 ≡ c = num-is i l ∙ place-at c (atomics (m .components)) 0 (omega arith) in
-      raised-other (m .phases) t most c first (no-parent c e)
+      raised-other t most c first (no-parent c e)
       ∙ ap (λ k. getD first k 0) (sym n)
       ∙ marked-own (m .phases) t now st (length (atomics (m .components))) 0 i (replicate maxComponents 0) (omega arith) (omega arith) (λ k b s z. one k i (omega arith) l z)
       (omega (arith, n, atomic-below (m .components) c e, w .components .few, length-replicate {A = ℕ} maxComponents 0))
@@ -109,7 +109,7 @@ module _ (m : Model) (w : WellFormed m) (st : State) (t : List ℕ) (h : Tabled 
   -- a marked component's parent is marked
   mark-closed : (c d : ℕ) → isChild (m .components) c d ≡ true → d < length (m .components) → isUp es c ≡ false → isUp es d ≡ false
   unfolding marks first
-  mark-closed c d k l down = go (isUp (raised (m .phases) t most first) d) refl
+  mark-closed c d k l down = go (isUp (raised t most first) d) refl
     where
       below : (k : ℕ) → 0 < k → k ≤ most → getD t (parentsAt + k) 0 < k
       below k b s =
@@ -117,18 +117,18 @@ module _ (m : Model) (w : WellFormed m) (st : State) (t : List ℕ) (h : Tabled 
           let r = rising m w (componentAt (m .components) k .parent) k (own-child (m .components) k (ne-eqb k 0 (λ z. omega arith))) i in
           omega (arith, parent-is k i)
 
-      go : (b : Bool) → isUp (raised (m .phases) t most first) d ≡ b → isUp (raised (m .phases) t most first) d ≡ false
+      go : (b : Bool) → isUp (raised t most first) d ≡ b → isUp (raised t most first) d ≡ false
       go false e = e
       go true e =
           let r = rising m w c d k l in
-          let u = raised-closed (m .phases) t most d first below (omega (arith, h .count, w .components .few, first-length, w .some-component)) (omega arith) (omega (arith, h .count)) e in
-          absurd (clash (ap (λ p. isUp (raised (m .phases) t most first) p) (sym (parent-is d l ∙ child-parent (m .components) c d k)) ∙ u) down)
+          let u = raised-closed t most d first below (omega (arith, h .count, w .components .few, first-length, w .some-component)) (omega arith) (omega (arith, h .count)) e in
+          absurd (clash (ap (λ p. isUp (raised t most first) p) (sym (parent-is d l ∙ child-parent (m .components) c d k)) ∙ u) down)
 
   -- ---- flags
 
   module _ (x : Bag) where
     abbrev pub fs : List ℕ
-    fs = reached (m .phases) t es x
+    fs = reached t es x
 
     abbrev begun : List ℕ
     begun = set (replicate maxComponents 0) 0 (cond (isEmpty x) 0 1)
@@ -137,7 +137,7 @@ module _ (m : Model) (w : WellFormed m) (st : State) (t : List ℕ) (h : Tabled 
     unfolding reached isUp
     flag-root =
         ap (λ n. not (eqb n 0))
-        (reached-before (m .phases) t es most 1 0 begun (omega arith) ∙ getD-set-same (replicate maxComponents 0) 0 (cond (isEmpty x) 0 1) 0 (omega (arith, length-replicate {A = ℕ} maxComponents 0)))
+        (reached-before t es most 1 0 begun (omega arith) ∙ getD-set-same (replicate maxComponents 0) 0 (cond (isEmpty x) 0 1) 0 (omega (arith, length-replicate {A = ℕ} maxComponents 0)))
         ∙ go (isEmpty x)
       where
         go : (b : Bool) → not (eqb (cond {A = ℕ} b 0 1) 0) ≡ not b
@@ -157,7 +157,7 @@ module _ (m : Model) (w : WellFormed m) (st : State) (t : List ℕ) (h : Tabled 
             go true z = lt-ltb (k .source) c (omega (arith, e, rising m w (k .source) (k .target) z (kept (m .components) k f .target)))
 
     may-agree : (gs : List ℕ) (c : ℕ) → ((d : ℕ) → d < c → getD gs d 0 ≡ getD fs d 0) → (y : Node) → y .port < portCount → y .output || ltb (y .component) c ≡ true
-        → mayCome (m .phases) t es gs (code y) ≡ mayCome (m .phases) t es fs (code y)
+        → mayCome es gs (code y) ≡ mayCome es fs (code y)
     unfolding mayCome isUp
     may-agree gs c agree y l b =
         ap (λ o. cond o (isUp es (nodeComponent (code y))) (isUp gs (nodeComponent (code y)))) (code-output y l) ∙ go (y .output) b
@@ -170,24 +170,24 @@ module _ (m : Model) (w : WellFormed m) (st : State) (t : List ℕ) (h : Tabled 
 
     -- where a flag is down, nothing may come to the inputs
     flag-down : (c q : ℕ) → 0 < c → c < length (m .components) → q < portCount → isUp fs c ≡ false
-        → all (λ y. not (mayCome (m .phases) t es fs (code y))) (rowsAt m (inn c q)) ≡ true
+        → all (λ y. not (mayCome es fs (code y))) (rowsAt m (inn c q)) ≡ true
     unfolding reached code
     flag-down c q b l p down =
-        let r = reached-down (m .phases) t es most 1 c begun (omega arith) (omega (arith, h .count))
+        let r = reached-down t es most 1 c begun (omega arith) (omega (arith, h .count))
         (omega (arith, length-set {A = ℕ} (replicate maxComponents 0) 0 (cond (isEmpty x) 0 1), length-replicate {A = ℕ} maxComponents 0, w .components .few)) down in
         let gs = r .0 in
-        let none : anyOf (λ y. mayCome (m .phases) t es gs (code y)) (rowsAt m (inn c q)) ≡ false
-        = sym (any-map (mayCome (m .phases) t es gs) code (rowsAt m (inn c q))) ∙ ap (anyOf (mayCome (m .phases) t es gs)) (sym (rows-are m w t h (inn c q) (good-node m w (inn c q) l p)))
-        ∙ reach-port (m .phases) t es gs c portCount 0 q (omega arith) p (r .1 .0) in
-        all-if (λ y. (good m w y && (y .output || ltb (y .component) c)) && not (mayCome (m .phases) t es gs (code y))) (λ y. not (mayCome (m .phases) t es fs (code y))) (rowsAt m (inn c q))
+        let none : anyOf (λ y. mayCome es gs (code y)) (rowsAt m (inn c q)) ≡ false
+        = sym (any-map (mayCome es gs) code (rowsAt m (inn c q))) ∙ ap (anyOf (mayCome es gs)) (sym (rows-are m w t h (inn c q) (good-node m w (inn c q) l p)))
+        ∙ reach-port t es gs c portCount 0 q (omega arith) p (r .1 .0) in
+        all-if (λ y. (good m w y && (y .output || ltb (y .component) c)) && not (mayCome es gs (code y))) (λ y. not (mayCome es fs (code y))) (rowsAt m (inn c q))
         (λ y e. let a = and-left (good m w y && (y .output || ltb (y .component) c)) _ e in
         ap not (sym (may-agree gs c (r .1 .1) y (good-in m w y (and-left (good m w y) _ a) .1) (and-right (good m w y) _ a)))
-        ∙ and-right (good m w y && (y .output || ltb (y .component) c)) (not (mayCome (m .phases) t es gs (code y))) e)
-        (all-and (λ y. good m w y && (y .output || ltb (y .component) c)) (λ y. not (mayCome (m .phases) t es gs (code y))) (rowsAt m (inn c q))
+        ∙ and-right (good m w y && (y .output || ltb (y .component) c)) (not (mayCome es gs (code y))) e)
+        (all-and (λ y. good m w y && (y .output || ltb (y .component) c)) (λ y. not (mayCome es gs (code y))) (rowsAt m (inn c q))
         (all-and (good m w) (λ y. y .output || ltb (y .component) c) (rowsAt m (inn c q)) (rows-good m w (inn c q)) (rows-before c q))
-        (any-none (λ y. mayCome (m .phases) t es gs (code y)) (rowsAt m (inn c q)) none))
+        (any-none (λ y. mayCome es gs (code y)) (rowsAt m (inn c q)) none))
 
-    sent-is : (y : Node) → good m w y ≡ true → atomicAt m y ≡ true → sentBy (m .phases) t es (code y) ≡ sentAt m (atEntry m w st) now y
+    sent-is : (y : Node) → good m w y ≡ true → atomicAt m y ≡ true → sentBy (m .phases) es (code y) ≡ sentAt m (atEntry m w st) now y
     unfolding sentBy sentAt atomicAt outDue outOf phaseAt
     sent-is y g e =
         let i = good-in m w y g in

@@ -64,6 +64,7 @@ module _ (ps : List Phase) (t : List ℕ) where
                 marked-other n (i + 1) (num j) (set es (num i) (markOf ps t now st i)) (λ k x y z. let q = one k (omega arith) (omega arith) z in omega arith)
                 ∙ ap (λ k. getD (set es (num k) (markOf ps t now st k)) (num j) 0) d ∙ getD-set-same es (num j) (markOf ps t now st j) 0 s
 
+module _ (t : List ℕ) where
   -- ---- the marks of coupled components
 
   abbrev parent : ℕ → ℕ
@@ -93,13 +94,13 @@ module _ (ps : List Phase) (t : List ℕ) where
       go true = length-set es (parent c) 1
       go false = refl
 
-  pub raised-keeps : (c x : ℕ) (es : List ℕ) → isUp es x ≡ true → isUp (raised ps t c es) x ≡ true
+  pub raised-keeps : (c x : ℕ) (es : List ℕ) → isUp es x ≡ true → isUp (raised t c es) x ≡ true
   unfolding raised
   raised-keeps zero x es h = h
   raised-keeps (suc c) x es h = raised-keeps c x (step (suc c) es) (step-up (suc c) x es h)
 
   -- a component that is no parent keeps its mark
-  pub raised-other : (c x : ℕ) (es : List ℕ) → ((d : ℕ) → 0 < d → d ≤ c → parent d ≡ x → ⊥) → getD (raised ps t c es) x 0 ≡ getD es x 0
+  pub raised-other : (c x : ℕ) (es : List ℕ) → ((d : ℕ) → 0 < d → d ≤ c → parent d ≡ x → ⊥) → getD (raised t c es) x 0 ≡ getD es x 0
   unfolding raised
   raised-other zero x es h = refl
   raised-other (suc c) x es h =
@@ -107,17 +108,17 @@ module _ (ps : List Phase) (t : List ℕ) where
 
   -- a marked component's parent is marked, where parents stand before their children
   pub raised-closed : (c d : ℕ) (es : List ℕ) → ((k : ℕ) → 0 < k → k ≤ c → parent k < k) → c < length es → 0 < d → d ≤ c
-      → isUp (raised ps t c es) d ≡ true → isUp (raised ps t c es) (parent d) ≡ true
+      → isUp (raised t c es) d ≡ true → isUp (raised t c es) (parent d) ≡ true
   unfolding raised
   raised-closed zero d es below room b l h = absurd (omega arith)
   raised-closed (suc c) d es below room b l h =
       go (eqb d (suc c)) refl (λ l. raised-closed c d (step (suc c) es) (λ k x y. below k x (omega arith)) (omega (arith, step-length (suc c) es)) b l h)
     where
-      go : (z : Bool) → eqb d (suc c) ≡ z → (d ≤ c → isUp (raised ps t c (step (suc c) es)) (parent d) ≡ true) → isUp (raised ps t c (step (suc c) es)) (parent d) ≡ true
+      go : (z : Bool) → eqb d (suc c) ≡ z → (d ≤ c → isUp (raised t c (step (suc c) es)) (parent d) ≡ true) → isUp (raised t c (step (suc c) es)) (parent d) ≡ true
       go false e ih = ih (let q = eqb-false d (suc c) e in omega arith)
       go true e ih = own (eqb-true d (suc c) e)
         where
-          was-up : isUp (raised ps t c (step (suc c) es)) (suc c) ≡ true → isUp es (suc c) ≡ true
+          was-up : isUp (raised t c (step (suc c) es)) (suc c) ≡ true → isUp es (suc c) ≡ true
           was-up h =
               unfold isUp in
               (ap (λ n. not (eqb n 0))
@@ -129,64 +130,64 @@ module _ (ps : List Phase) (t : List ℕ) where
               let q = below (suc c) (omega arith) (omega arith) in
               rw u (unfold isUp in (ap (λ n. not (eqb n 0)) (getD-set-same es (parent (suc c)) 1 0 (omega arith))))
 
-          own : d ≡ suc c → isUp (raised ps t c (step (suc c) es)) (parent d) ≡ true
+          own : d ≡ suc c → isUp (raised t c (step (suc c) es)) (parent d) ≡ true
           own q =
-              subst (λ k. isUp (raised ps t c (step (suc c) es)) (parent k) ≡ true) (sym q)
-              (raised-keeps c (parent (suc c)) (step (suc c) es) (set-parent (was-up (subst (λ k. isUp (raised ps t c (step (suc c) es)) k ≡ true) q h))))
+              subst (λ k. isUp (raised t c (step (suc c) es)) (parent k) ≡ true) (sym q)
+              (raised-keeps c (parent (suc c)) (step (suc c) es) (set-parent (was-up (subst (λ k. isUp (raised t c (step (suc c) es)) k ≡ true) q h))))
 
   -- ---- flags
 
   -- nothing may come to any port
-  pub reach-port : (es fs : List ℕ) (c m k q : ℕ) → k ≤ q → q < k + m → mayReach ps t es fs c m k ≡ false → anyOf (mayCome ps t es fs) (chainRows t (inputNode c q)) ≡ false
+  pub reach-port : (es fs : List ℕ) (c m k q : ℕ) → k ≤ q → q < k + m → mayReach t es fs c m k ≡ false → anyOf (mayCome es fs) (chainRows t (inputNode c q)) ≡ false
   unfolding mayReach
   reach-port es fs c zero k q b l h = absurd (omega arith)
   reach-port es fs c (suc m) k q b l h =
-      let both = or-none (anyOf (mayCome ps t es fs) (chainRows t (inputNode c k))) (mayReach ps t es fs c m (k + 1)) h in
+      let both = or-none (anyOf (mayCome es fs) (chainRows t (inputNode c k))) (mayReach t es fs c m (k + 1)) h in
       go (eqb k q) refl both (λ l b. reach-port es fs c m (k + 1) q l b (both .1))
     where
-      go : (z : Bool) → eqb k q ≡ z → (anyOf (mayCome ps t es fs) (chainRows t (inputNode c k)) ≡ false) × (mayReach ps t es fs c m (k + 1) ≡ false)
-          → (k + 1 ≤ q → q < k + 1 + m → anyOf (mayCome ps t es fs) (chainRows t (inputNode c q)) ≡ false) → anyOf (mayCome ps t es fs) (chainRows t (inputNode c q)) ≡ false
-      go true e both ih = subst (λ p. anyOf (mayCome ps t es fs) (chainRows t (inputNode c p)) ≡ false) (eqb-true k q e) (both .0)
+      go : (z : Bool) → eqb k q ≡ z → (anyOf (mayCome es fs) (chainRows t (inputNode c k)) ≡ false) × (mayReach t es fs c m (k + 1) ≡ false)
+          → (k + 1 ≤ q → q < k + 1 + m → anyOf (mayCome es fs) (chainRows t (inputNode c q)) ≡ false) → anyOf (mayCome es fs) (chainRows t (inputNode c q)) ≡ false
+      go true e both ih = subst (λ p. anyOf (mayCome es fs) (chainRows t (inputNode c p)) ≡ false) (eqb-true k q e) (both .0)
       go false e both ih = let d = eqb-false k q e in ih (omega arith) (omega arith)
 
   module _ (es : List ℕ) where
     -- flags of earlier components stay
-    pub reached-before : (m c x : ℕ) (fs : List ℕ) → x < c → getD (reachedFrom ps t es m c fs) x 0 ≡ getD fs x 0
+    pub reached-before : (m c x : ℕ) (fs : List ℕ) → x < c → getD (reachedFrom t es m c fs) x 0 ≡ getD fs x 0
     unfolding reachedFrom
     reached-before zero c x fs l = refl
     reached-before (suc m) c x fs l = reached-before m (c + 1) x _ (omega arith) ∙ getD-set-other fs c x _ 0 (λ e. omega arith)
 
     -- a flag that is down was found so by the flags before it
-    pub reached-down : (m c d : ℕ) (fs : List ℕ) → c ≤ d → d < c + m → d < length fs → isUp (reachedFrom ps t es m c fs) d ≡ false
-        → (gs : List ℕ) × ((mayReach ps t es gs d portCount 0 ≡ false) × ((x : ℕ) → x < d → getD gs x 0 ≡ getD (reachedFrom ps t es m c fs) x 0))
+    pub reached-down : (m c d : ℕ) (fs : List ℕ) → c ≤ d → d < c + m → d < length fs → isUp (reachedFrom t es m c fs) d ≡ false
+        → (gs : List ℕ) × ((mayReach t es gs d portCount 0 ≡ false) × ((x : ℕ) → x < d → getD gs x 0 ≡ getD (reachedFrom t es m c fs) x 0))
     unfolding reachedFrom
     reached-down zero c d fs b l room h = absurd (omega arith)
     reached-down (suc m) c d fs b l room h =
-        go (eqb c d) refl (λ (e : c + 1 ≤ d). reached-down m (c + 1) d next e (omega arith) (omega (arith, length-set fs c (cond (mayReach ps t es fs c portCount 0) 1 0))) h)
+        go (eqb c d) refl (λ (e : c + 1 ≤ d). reached-down m (c + 1) d next e (omega arith) (omega (arith, length-set fs c (cond (mayReach t es fs c portCount 0) 1 0))) h)
       where
         next : List ℕ
-        next = set fs c (cond (mayReach ps t es fs c portCount 0) 1 0)
+        next = set fs c (cond (mayReach t es fs c portCount 0) 1 0)
 
         Down : ℕ → Type 0
-        Down d = (gs : List ℕ) × ((mayReach ps t es gs d portCount 0 ≡ false) × ((x : ℕ) → x < d → getD gs x 0 ≡ getD (reachedFrom ps t es m (c + 1) next) x 0))
+        Down d = (gs : List ℕ) × ((mayReach t es gs d portCount 0 ≡ false) × ((x : ℕ) → x < d → getD gs x 0 ≡ getD (reachedFrom t es m (c + 1) next) x 0))
 
         down : (b : Bool) → not (eqb (cond {A = ℕ} b 1 0) 0) ≡ false → b ≡ false
         down true h = absurd (clash refl h)
         down false h = refl
 
-        here : isUp (reachedFrom ps t es m (c + 1) next) c ≡ false → c < length fs → mayReach ps t es fs c portCount 0 ≡ false
+        here : isUp (reachedFrom t es m (c + 1) next) c ≡ false → c < length fs → mayReach t es fs c portCount 0 ≡ false
         here h l =
-            down (mayReach ps t es fs c portCount 0)
+            down (mayReach t es fs c portCount 0)
             (unfold isUp in
-            (ap (λ n. not (eqb n 0)) (sym (reached-before m (c + 1) c next (omega arith) ∙ getD-set-same fs c (cond (mayReach ps t es fs c portCount 0) 1 0) 0 l)) ∙ h))
+            (ap (λ n. not (eqb n 0)) (sym (reached-before m (c + 1) c next (omega arith) ∙ getD-set-same fs c (cond (mayReach t es fs c portCount 0) 1 0) 0 l)) ∙ h))
 
         own : c ≡ d → Down d
         own e =
             subst Down e (
               fs,
               (
-                here (subst (λ k. isUp (reachedFrom ps t es m (c + 1) next) k ≡ false) (sym e) h) (omega arith),
-                (λ x l. sym (reached-before m (c + 1) x next (omega arith) ∙ getD-set-other fs c x (cond (mayReach ps t es fs c portCount 0) 1 0) 0 (λ z. omega arith))),
+                here (subst (λ k. isUp (reachedFrom t es m (c + 1) next) k ≡ false) (sym e) h) (omega arith),
+                (λ x l. sym (reached-before m (c + 1) x next (omega arith) ∙ getD-set-other fs c x (cond (mayReach t es fs c portCount 0) 1 0) 0 (λ z. omega arith))),
               ),
             )
 

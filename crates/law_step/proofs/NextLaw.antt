@@ -29,12 +29,12 @@ use Rattle.law_step.proofs.Positions.{heldAt, entries, atEntry, entry-a
 use Rattle.law_step.proofs.StepLaw.{Holds}
 
 module _ (m : Model) (w : WellFormed m) (t : List ℕ) (h : Tabled m t) (st : State) (now : ℕ) (k : Holds m now st) where
-  least-cong : (q : ℕ → Bool) (f g : ℕ → Time) (l : List ℕ) → all q l ≡ true → ((c : ℕ) → q c ≡ true → f c ≡ g c) → leastOf (m .phases) t f l ≡ leastOf (m .phases) t g l
+  least-cong : (q : ℕ → Bool) (f g : ℕ → Time) (l : List ℕ) → all q l ≡ true → ((c : ℕ) → q c ≡ true → f c ≡ g c) → leastOf f l ≡ leastOf g l
   unfolding leastOf all
   least-cong q f g [] e s = refl
   least-cong q f g (c ∷ l) e s = ap₂ earlier (s c (and-left (q c) _ e)) (least-cong q f g l (and-right (q c) _ e) s)
 
-  least-forest : (l : List ℕ) → leastOf (m .phases) t (λ c. dueAt m (atEntry m w st) (sub (m .components) c)) l ≡ dueAll m (atEntry m w st) (forest (map (sub (m .components)) l))
+  least-forest : (l : List ℕ) → leastOf (λ c. dueAt m (atEntry m w st) (sub (m .components) c)) l ≡ dueAll m (atEntry m w st) (forest (map (sub (m .components)) l))
   unfolding leastOf dueAt forest
   least-forest [] = refl
   least-forest (c ∷ l) = ap (earlier (dueAt m (atEntry m w st) (sub (m .components) c))) (least-forest l)
@@ -52,7 +52,7 @@ module _ (m : Model) (w : WellFormed m) (t : List ℕ) (h : Tabled m t) (st : St
   unfolding dueBelow children
   below-is zero c l s = absurd (omega arith)
   below-is (suc n) c l s =
-      ap (λ b. cond b (dueAtPosition (m .phases) t st (getD t (positionsAt + c) 0)) (leastOf (m .phases) t (dueBelow (m .phases) t st n) (childRows t c))) (kind c l)
+      ap (λ b. cond b (dueAtPosition (m .phases) t st (getD t (positionsAt + c) 0)) (leastOf (dueBelow (m .phases) t st n) (childRows t c))) (kind c l)
       ∙ go (isAtomic (m .components) c) refl
       (least-cong (λ d. isChild (m .components) c d && (leb 0 d && ltb d (0 + length (m .components)))) (dueBelow (m .phases) t st n) (λ d. dueAt m (atEntry m w st) (sub (m .components) d)) (children (m .components) c)
       (kept-tests (isChild (m .components) c) 0 (length (m .components)))
@@ -66,11 +66,11 @@ module _ (m : Model) (w : WellFormed m) (t : List ℕ) (h : Tabled m t) (st : St
       kind c l = unfold atomicAt isAtomic in (ap (λ n. eqb n 1) (h .kinds c l))
 
       go : (b : Bool) → isAtomic (m .components) c ≡ b
-          → leastOf (m .phases) t (dueBelow (m .phases) t st n) (children (m .components) c) ≡ leastOf (m .phases) t (λ d. dueAt m (atEntry m w st) (sub (m .components) d)) (children (m .components) c)
-          → cond (isAtomic (m .components) c) (dueAtPosition (m .phases) t st (getD t (positionsAt + c) 0)) (leastOf (m .phases) t (dueBelow (m .phases) t st n) (childRows t c))
+          → leastOf (dueBelow (m .phases) t st n) (children (m .components) c) ≡ leastOf (λ d. dueAt m (atEntry m w st) (sub (m .components) d)) (children (m .components) c)
+          → cond (isAtomic (m .components) c) (dueAtPosition (m .phases) t st (getD t (positionsAt + c) 0)) (leastOf (dueBelow (m .phases) t st n) (childRows t c))
           ≡ dueAt m (atEntry m w st) (cond (isAtomic (m .components) c) (leaf c) (node c (forest (map (sub (m .components)) (children (m .components) c)))))
       go true e ih = rw e (atomic-due c e ∙ (unfold dueAt in refl))
-      go false e ih = rw e (ap (leastOf (m .phases) t (dueBelow (m .phases) t st n)) (h .childs c l) ∙ ih ∙ least-forest (children (m .components) c) ∙ (unfold dueAt in refl))
+      go false e ih = rw e (ap (leastOf (dueBelow (m .phases) t st n)) (h .childs c l) ∙ ih ∙ least-forest (children (m .components) c) ∙ (unfold dueAt in refl))
 
   pub table-next : tableNext (m .phases) t st ≡ nextDue m (entries m w st)
   unfolding tableNext nextDue tree sub

@@ -38,9 +38,9 @@ module _ (m : Model) (w : WellFormed m) (t : List ℕ) (h : Tabled m t) (ps : Li
   abbrev Open : Node → List Node
   Open = openOnly (rowsAt m) (atomicAt m) sends outputAt (good m w) flag
 
-  open-are : (y : Node) → good m w y ≡ true → openRows ps t es fs (code y) ≡ map code (Open y)
+  open-are : (y : Node) → good m w y ≡ true → openRows t es fs (code y) ≡ map code (Open y)
   unfolding openRows openOnly up
-  open-are y g = go (isOpen ps t es fs (code y))
+  open-are y g = go (isOpen t es fs (code y))
     where
       go : (b : Bool) → cond b (chainRows t (code y)) [] ≡ map code (cond b (rowsAt m y) [])
       go true = rows-are m w t h y g
@@ -54,28 +54,28 @@ module _ (m : Model) (w : WellFormed m) (t : List ℕ) (h : Tabled m t) (ps : Li
       go true = rows-good m w y
       go false = refl
 
-  given-is : (y : Node) → good m w y ≡ true → rootAt y ≡ true → givenBy ps t x (code y) ≡ givenAt x y
+  given-is : (y : Node) → good m w y ≡ true → rootAt y ≡ true → givenBy x (code y) ≡ givenAt x y
   unfolding givenBy givenAt
   given-is y g r = ap (λ q. valuesOn q x) (code-port y (good-in m w y g .1))
 
   -- ---- the two bags
 
   below-is : (d c q : ℕ) → c < length (m .components) → q < portCount
-      → coupledOut (openRows ps t es fs) (atomicNode t) (sentBy ps t es) d (outputNode c q) ≡ coupledOut (rowsAt m) (atomicAt m) sends d (out c q)
+      → coupledOut (openRows t es fs) (atomicNode t) (sentBy ps es) d (outputNode c q) ≡ coupledOut (rowsAt m) (atomicAt m) sends d (out c q)
   unfolding code outputAt
   below-is d c q l p =
       let g = good-node m w (out c q) l p in
-      coupled-code code (good m w) Open (atomicAt m) sends (openRows ps t es fs) (atomicNode t) (sentBy ps t es) open-are open-good (atomic-is m w t h) (k .sent) d (out c q) g
+      coupled-code code (good m w) Open (atomicAt m) sends (openRows t es fs) (atomicNode t) (sentBy ps es) open-are open-good (atomic-is m w t h) (k .sent) d (out c q) g
       ∙ pruned-out (rowsAt m) (atomicAt m) sends outputAt (good m w) flag (out-good m w t h ps es fs x sends k) (closed-out m w t h ps es fs x sends k) d (out c q) g refl
 
   into-is : (d c q : ℕ) → c < length (m .components) → q < portCount
-      → inputIn (openRows ps t es fs) (atomicNode t) (sentBy ps t es) (givenBy ps t x) isRootNode isOutput d (inputNode c q)
+      → inputIn (openRows t es fs) (atomicNode t) (sentBy ps es) (givenBy x) isRootNode isOutput d (inputNode c q)
       ≡ inputIn (rowsAt m) (atomicAt m) sends (givenAt x) rootAt outputAt d (inn c q)
   unfolding code outputAt
   into-is d c q l p =
       let g = good-node m w (inn c q) l p in
-      input-code code (good m w) Open (atomicAt m) sends (openRows ps t es fs) (atomicNode t) (sentBy ps t es) open-are open-good (atomic-is m w t h) (k .sent)
-      (givenAt x) rootAt outputAt (givenBy ps t x) isRootNode isOutput given-is (λ y e. code-root y (good-in m w y e .1)) (λ y e. code-output y (good-in m w y e .1)) d (inn c q) g
+      input-code code (good m w) Open (atomicAt m) sends (openRows t es fs) (atomicNode t) (sentBy ps es) open-are open-good (atomic-is m w t h) (k .sent)
+      (givenAt x) rootAt outputAt (givenBy x) isRootNode isOutput given-is (λ y e. code-root y (good-in m w y e .1)) (λ y e. code-output y (good-in m w y e .1)) d (inn c q) g
       ∙ pruned-in (rowsAt m) (atomicAt m) sends outputAt (good m w) flag (out-good m w t h ps es fs x sends k) (closed-out m w t h ps es fs x sends k) (givenAt x) rootAt (λ y e o. rows-good m w y)
       (empty m w t h ps es fs x sends k) (closed-in m w t h ps es fs x sends k) d (inn c q) g refl
 

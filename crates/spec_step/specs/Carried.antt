@@ -17,10 +17,15 @@ use Rattle.spec_step.specs.TableStep.{recordOf, dueAtPosition}
 abbrev pub Carried : List Phase → List ℕ → ℕ → State → List ℕ → Type 0
 Carried ps t n st ends = (i : ℕ) → i < n → getD ends i 0 ≡ dueNumber (dueAtPosition ps t st i)
 
+-- The least of some due moments.
+unfoldable pub leastEnd : (ℕ → ℕ) → List ℕ → ℕ
+leastEnd f [] = neverMoment
+leastEnd f (c ∷ cs) = min (f c) (leastEnd f cs)
+
 module _ (t : List ℕ) where
   -- The mark of the atomic c at position i, by its phase and its due moment.
   unfoldable pub endMark : ℕ → List ℕ → List ℕ → ℕ → ℕ → ℕ
-  endMark now phase ends i c = cond (eqb (getD ends i 0) now) (suc (recordOf [] t c (getD phase i 0))) 0
+  endMark now phase ends i c = cond (eqb (getD ends i 0) now) (suc (recordOf t c (getD phase i 0))) 0
 
   -- The marks of n atomics from position i on, over the marks es.
   unfoldable pub endMarked : ℕ → List ℕ → List ℕ → ℕ → ℕ → List ℕ → List ℕ
@@ -28,10 +33,6 @@ module _ (t : List ℕ) where
   endMarked now phase ends (suc n) i es =
       let c = getD t (numbersAt + i) 0 in
       endMarked now phase ends n (i + 1) (set es c (endMark now phase ends i c))
-
-  unfoldable pub leastEnd : (ℕ → ℕ) → List ℕ → ℕ
-  leastEnd f [] = neverMoment
-  leastEnd f (c ∷ cs) = min (f c) (leastEnd f cs)
 
   -- The least due moment of component c, at most n components down.
   unfoldable pub endBelow : List ℕ → ℕ → ℕ → ℕ

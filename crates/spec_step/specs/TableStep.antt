@@ -44,61 +44,37 @@ isUp flags i = not (eqb (getD flags i 0) 0)
 abbrev pub rootRoom : ℕ → ℕ
 rootRoom room = room / 4
 
-module _ (ps : List Phase) (t : List ℕ) where
-  -- ---- phases, and when something is due
+-- The earliest of some moments.
+unfoldable pub leastOf : (ℕ → Time) → List ℕ → Time
+leastOf f [] = never
+leastOf f (c ∷ cs) = earlier (f c) (leastOf f cs)
 
-  -- The record of phase p of component c, and what it says.
+-- Something may come from node y, by the marks and by the flags of the components before.
+unfoldable pub mayCome : List ℕ → List ℕ → ℕ → Bool
+mayCome es fs y = cond (isOutput y) (isUp es (nodeComponent y)) (isUp fs (nodeComponent y))
+
+-- The values that an atomic with its mark in es puts out at node x, and those that a bag gives there.
+unfoldable pub sentBy : List Phase → List ℕ → ℕ → List ℕ
+sentBy ps es x =
+    let e = getD es (nodeComponent x) 0 in
+    cond (eqb e 0) [] (valuesOn (nodePort x) (outputs (getD ps (e - 1) noPhase)))
+
+unfoldable pub givenBy : Bag → ℕ → List ℕ
+givenBy x y = valuesOn (nodePort y) x
+
+-- ---- what the tables alone decide
+
+module _ (t : List ℕ) where
+  -- The record of phase p of component c.
   unfoldable pub recordOf : ℕ → ℕ → ℕ
   recordOf c p = getD t (phasesAt + c) 0 + p
-
-  unfoldable pub phaseIn : ℕ → ℕ → Phase
-  phaseIn c p = getD ps (recordOf c p) noPhase
-
-  -- When the atomic c is due that is in phase p since `last`. The code's moments end at `latest`.
-  unfoldable pub dueIn : ℕ → ℕ → ℕ → Time
-  dueIn c p last = cond (eqb (phaseIn c p .advance) neverField) never (finite (min (last + phaseIn c p .advance) latest))
-
-  -- The atomic at position i.
-  unfoldable pub dueAtPosition : State → ℕ → Time
-  dueAtPosition st i = dueIn (getD t (numbersAt + i) 0) (getD (st .phase) i 0) (getD (st .last) i 0)
-
-  unfoldable pub leastOf : (ℕ → Time) → List ℕ → Time
-  leastOf f [] = never
-  leastOf f (c ∷ cs) = earlier (f c) (leastOf f cs)
-
-  -- "A coupled component's earliest due moment is the least among its children, never if it has none"; at most n components down.
-  unfoldable pub dueBelow : State → ℕ → ℕ → Time
-  dueBelow st zero c = never
-  dueBelow st (suc n) c = cond (atomicAt t c) (dueAtPosition st (getD t (positionsAt + c) 0)) (leastOf (dueBelow st n) (childRows t c))
-
-  -- The whole model's next due moment.
-  unfoldable pub tableNext : State → Time
-  tableNext st = dueBelow st maxComponents 0
-
-  -- ---- marks by component: 0 where nothing is to be put out; an atomic that is due has its phase record and 1
-
-  unfoldable pub markOf : ℕ → State → ℕ → ℕ
-  markOf now st i =
-      cond (sameTime (dueAtPosition st i) (finite now)) (suc (recordOf (getD t (numbersAt + i) 0) (getD (st .phase) i 0))) 0
-
-  -- The marks of n atomics from position i on, over the marks es.
-  unfoldable pub marked : ℕ → State → ℕ → ℕ → List ℕ → List ℕ
-  marked now st zero i es = es
-  marked now st (suc n) i es = marked now st n (i + 1) (set es (getD t (numbersAt + i) 0) (markOf now st i))
 
   -- A coupled component is marked where a child is: from component c down to 1.
   unfoldable pub raised : ℕ → List ℕ → List ℕ
   raised zero es = es
   raised (suc c) es = raised c (cond (isUp es (suc c)) (set es (getD t (parentsAt + suc c) 0) 1) es)
 
-  unfoldable pub marks : ℕ → ℕ → State → List ℕ
-  marks n now st = raised (getD t countAt 0 - 1) (marked now st n 0 (replicate maxComponents 0))
-
   -- ---- flags by component: something may reach its inputs
-
-  -- Something may come from node y, by the marks and by the flags of the components before.
-  unfoldable pub mayCome : List ℕ → List ℕ → ℕ → Bool
-  mayCome es fs y = cond (isOutput y) (isUp es (nodeComponent y)) (isUp fs (nodeComponent y))
 
   -- The flag of component c, from its m ports from q on.
   unfoldable pub mayReach : List ℕ → List ℕ → ℕ → ℕ → ℕ → Bool
@@ -114,7 +90,7 @@ module _ (ps : List Phase) (t : List ℕ) where
   unfoldable pub reached : List ℕ → Bag → List ℕ
   reached es x = reachedFrom es (getD t countAt 0 - 1) 1 (set (replicate maxComponents 0) 0 (cond (isEmpty x) 0 1))
 
-  -- ---- pulling
+  -- ---- open nodes, and the deciding rule
 
   -- Nothing is pulled where no source ever leads, and nothing where no flag is up in this step.
   unfoldable pub isOpen : List ℕ → List ℕ → ℕ → Bool
@@ -123,20 +99,56 @@ module _ (ps : List Phase) (t : List ℕ) where
   unfoldable pub openRows : List ℕ → List ℕ → ℕ → List ℕ
   openRows es fs x = cond (isOpen es fs x) (chainRows t x) []
 
-  -- The values that an atomic with this mark puts out at node x.
-  unfoldable pub sentBy : List ℕ → ℕ → List ℕ
-  sentBy es x =
-      let e = getD es (nodeComponent x) 0 in
-      cond (eqb e 0) [] (valuesOn (nodePort x) (outputs (getD ps (e - 1) noPhase)))
+  -- The first rule of rs that holds for component c in phase p, e after its last transition, with bag x, among those from the first that
+  -- names c to the last: where it leads.
+  unfoldable pub decidedIn : List Rule → ℕ → ℕ → ℕ → Bag → ℕ
+  decidedIn rs c p e x = ledTo rs p (decidingIn rs (getD t (rulesFromAt + c) 0) (getD t (rulesToAt + c) 0) c p e x)
 
-  unfoldable pub givenBy : Bag → ℕ → List ℕ
-  givenBy x y = valuesOn (nodePort y) x
+module _ (ps : List Phase) (t : List ℕ) where
+  -- ---- phases, and when something is due
+
+  -- What the record of phase p of component c says.
+  unfoldable pub phaseIn : ℕ → ℕ → Phase
+  phaseIn c p = getD ps (recordOf t c p) noPhase
+
+  -- When the atomic c is due that is in phase p since `last`. The code's moments end at `latest`.
+  unfoldable pub dueIn : ℕ → ℕ → ℕ → Time
+  dueIn c p last = cond (eqb (phaseIn c p .advance) neverField) never (finite (min (last + phaseIn c p .advance) latest))
+
+  -- The atomic at position i.
+  unfoldable pub dueAtPosition : State → ℕ → Time
+  dueAtPosition st i = dueIn (getD t (numbersAt + i) 0) (getD (st .phase) i 0) (getD (st .last) i 0)
+
+  -- "A coupled component's earliest due moment is the least among its children, never if it has none"; at most n components down.
+  unfoldable pub dueBelow : State → ℕ → ℕ → Time
+  dueBelow st zero c = never
+  dueBelow st (suc n) c = cond (atomicAt t c) (dueAtPosition st (getD t (positionsAt + c) 0)) (leastOf (dueBelow st n) (childRows t c))
+
+  -- The whole model's next due moment.
+  unfoldable pub tableNext : State → Time
+  tableNext st = dueBelow st maxComponents 0
+
+  -- ---- marks by component: 0 where nothing is to be put out; an atomic that is due has its phase record and 1
+
+  unfoldable pub markOf : ℕ → State → ℕ → ℕ
+  markOf now st i =
+      cond (sameTime (dueAtPosition st i) (finite now)) (suc (recordOf t (getD t (numbersAt + i) 0) (getD (st .phase) i 0))) 0
+
+  -- The marks of n atomics from position i on, over the marks es.
+  unfoldable pub marked : ℕ → State → ℕ → ℕ → List ℕ → List ℕ
+  marked now st zero i es = es
+  marked now st (suc n) i es = marked now st n (i + 1) (set es (getD t (numbersAt + i) 0) (markOf now st i))
+
+  unfoldable pub marks : ℕ → ℕ → State → List ℕ
+  marks n now st = raised t (getD t countAt 0 - 1) (marked now st n 0 (replicate maxComponents 0))
+
+  -- ---- what is pulled
 
   abbrev pub pulledBelow : List ℕ → List ℕ → ℕ → ℕ → List ℕ
-  pulledBelow es fs = coupledOut (openRows es fs) (atomicNode t) (sentBy es)
+  pulledBelow es fs = coupledOut (openRows t es fs) (atomicNode t) (sentBy ps es)
 
   abbrev pub pulledInto : List ℕ → List ℕ → Bag → ℕ → ℕ → List ℕ
-  pulledInto es fs x = inputIn (openRows es fs) (atomicNode t) (sentBy es) (givenBy x) isRootNode isOutput
+  pulledInto es fs x = inputIn (openRows t es fs) (atomicNode t) (sentBy ps es) (givenBy x) isRootNode isOutput
 
   -- The keys of the bag of component c, and of the root's output bag.
   unfoldable pub keysInto : List ℕ → List ℕ → Bag → ℕ → List ℕ
@@ -148,22 +160,17 @@ module _ (ps : List Phase) (t : List ℕ) where
   -- ---- transitions
 
   module _ (rs : List Rule) where
-    -- The first rule that holds for component c in phase p, e after its last transition, with bag x, among those from the first that names c
-    -- to the last: where it leads.
-    unfoldable pub decidedIn : ℕ → ℕ → ℕ → Bag → ℕ
-    decidedIn c p e x = ledTo rs p (decidingIn rs (getD t (rulesFromAt + c) 0) (getD t (rulesToAt + c) 0) c p e x)
-
     unfoldable pub confluentIn : ℕ → ℕ → Bag → ℕ
     confluentIn c p x =
-        cond (eqb (getD t (ordersAt + c) 0) 0) (decidedIn c (phaseIn c p .next) 0 x)
-        (phaseIn c (decidedIn c p (phaseIn c p .advance) x) .next)
+        cond (eqb (getD t (ordersAt + c) 0) 0) (decidedIn t rs c (phaseIn c p .next) 0 x)
+        (phaseIn c (decidedIn t rs c p (phaseIn c p .advance) x) .next)
 
     -- The atomic c at position i, due or not, with its bag.
     unfoldable pub changedBy : ℕ → State → ℕ → ℕ → Bool → Bag → State
     changedBy now st i c true [] = changedAt st i (phaseIn c (getD (st .phase) i 0) .next) now
     changedBy now st i c true (y ∷ x) = changedAt st i (confluentIn c (getD (st .phase) i 0) (y ∷ x)) now
     changedBy now st i c false [] = st
-    changedBy now st i c false (y ∷ x) = changedAt st i (decidedIn c (getD (st .phase) i 0) (now - getD (st .last) i 0) (y ∷ x)) now
+    changedBy now st i c false (y ∷ x) = changedAt st i (decidedIn t rs c (getD (st .phase) i 0) (now - getD (st .last) i 0) (y ∷ x)) now
 
     -- n atomics from position i on, one after the other: marks and flags were read before, so the order does not matter. A bag has
     -- room for so many messages.
@@ -177,7 +184,7 @@ module _ (ps : List Phase) (t : List ℕ) where
     unfoldable pub tableStep : ℕ → ℕ → ℕ → Bag → State → Stepped State
     tableStep n room now x st =
         let es = marks n now st in
-        let fs = reached es x in
+        let fs = reached t es x in
         record { out = map messageOf (take (rootRoom room) (rootKeys es fs)); state = changedFrom es fs room now x n 0 st }
 
     abbrev pub tableSim : ℕ → ℕ → Simulator State

@@ -66,25 +66,20 @@ unfolding isRootNode
 not-root x h = le-ltb x portNodes h
 
 module _ (ps : List Phase) (t es fs : List ℕ) where
-  -- which nodes are open does not depend on the phases
-  open-any : (x : ℕ) → isOpen [] t es fs x ≡ isOpen ps t es fs x
-  unfolding isOpen mayCome
-  open-any x = refl
-
-  pub coupled-open : (d x : ℕ) → 0 < d → isOpen [] t es fs x ≡ true
+  pub coupled-open : (d x : ℕ) → 0 < d → isOpen t es fs x ≡ true
       → joined (pulledChild ps t es fs (d - 1)) (rowsFrom t maxCouplings (getD t (firstAt + x) 0)) ≡ pulledBelow ps t es fs d x
   unfolding coupledOut openRows
   coupled-open zero x h o = absurd (omega arith)
   coupled-open (suc d) x h o =
       let e : suc d - 1 ≡ d = omega arith in
-      rw (e, ← rows-first t x, sym (open-any x) ∙ o)
+      rw (e, ← rows-first t x, o)
 
-  pub coupled-shut : (d x : ℕ) → isOpen [] t es fs x ≡ false → pulledBelow ps t es fs d x ≡ []
+  pub coupled-shut : (d x : ℕ) → isOpen t es fs x ≡ false → pulledBelow ps t es fs d x ≡ []
   unfolding coupledOut openRows joined
   coupled-shut zero x o = refl
-  coupled-shut (suc d) x o = rw (sym (open-any x) ∙ o)
+  coupled-shut (suc d) x o = rw (o)
 
-  node-unreached : (c q : ℕ) → q < portCount → eqb (getD fs c 0) 0 ≡ true → isOpen [] t es fs (inputNode c q) ≡ false
+  node-unreached : (c q : ℕ) → q < portCount → eqb (getD fs c 0) 0 ≡ true → isOpen t es fs (inputNode c q) ≡ false
   unfolding isOpen mayCome isOutput nodeComponent isUp inputNode
   node-unreached c q k e =
       let m : (portNodes * c + q) % portNodes ≡ q = omega arith in
@@ -97,18 +92,18 @@ module _ (ps : List Phase) (t es fs : List ℕ) where
     input-root zero x r = rw r
     input-root (suc d) x r = rw r
 
-    pub input-open : (d x : ℕ) → isRootNode x ≡ false → 0 < d → isOpen [] t es fs x ≡ true
+    pub input-open : (d x : ℕ) → isRootNode x ≡ false → 0 < d → isOpen t es fs x ≡ true
         → joined (pulledFrom ps t es fs b (d - 1)) (rowsFrom t maxCouplings (getD t (firstAt + x) 0)) ≡ pulledInto ps t es fs b d x
     unfolding inputIn openRows
     input-open zero x r h o = absurd (omega arith)
     input-open (suc d) x r h o =
         let e : suc d - 1 ≡ d = omega arith in
-        rw (r, e, ← rows-first t x, sym (open-any x) ∙ o)
+        rw (r, e, ← rows-first t x, o)
 
-    pub input-shut : (d x : ℕ) → isRootNode x ≡ false → isOpen [] t es fs x ≡ false → pulledInto ps t es fs b d x ≡ []
+    pub input-shut : (d x : ℕ) → isRootNode x ≡ false → isOpen t es fs x ≡ false → pulledInto ps t es fs b d x ≡ []
     unfolding inputIn openRows joined
     input-shut zero x r o = rw r
-    input-shut (suc d) x r o = rw (r, sym (open-any x) ∙ o)
+    input-shut (suc d) x r o = rw (r, o)
 
     port-unreached : (d c q : ℕ) → 0 < c → q < portCount → eqb (getD fs c 0) 0 ≡ true → pulledInto ps t es fs b d (inputNode c q) ≡ []
     port-unreached d c q h k e = input-shut d (inputNode c q) (not-root (inputNode c q) away) (node-unreached c q k e)
@@ -158,6 +153,6 @@ ports-none values n q st h = let e : n - q ≡ 0 = omega arith in rw e
 
 -- ---- what an atomic sends
 
-pub sent-by : (ps : List Phase) (t es : List ℕ) (y : ℕ) → sentOn ps (getD es (nodeComponent y) 0) (nodePort y) ≡ sentBy ps t es y
+pub sent-by : (ps : List Phase) (es : List ℕ) (y : ℕ) → sentOn ps (getD es (nodeComponent y) 0) (nodePort y) ≡ sentBy ps es y
 unfolding sentOn sentBy
-sent-by ps t es y = refl
+sent-by ps es y = refl

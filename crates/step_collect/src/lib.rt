@@ -2,7 +2,6 @@
 // function for a coupled component and one for a child, input collection between a port and one that leads to it. Only open nodes are
 // entered: those that a source can reach at all, and that something may reach in this step.
 ghost use mathlib.Core.Path.{_≡_};
-ghost use mathlib.Core.List.{[]};
 ghost use mathlib.Core.Bool.{true};
 ghost use Prim.Native.Nat.{_+_, _*_, _%_, _/_, _<_, _≤_};
 ghost use Rattle.definition.specs.Limits.{maxAncestors, maxComponents, maxCouplings, portCount};
@@ -82,7 +81,7 @@ pub fn source_of(tables: &[u16; TABLE_SIZE], link: u16) -> u32
 // Something may come from node y in this step.
 pub fn may_come(marks: &[u32; MAX_COMPONENTS], reached: &[u32; MAX_COMPONENTS], y: u32) -> bool
     requires { ⌜ y < maxNodes ⌝ }
-    ensures { λ r. ⌜ r ≡ mayCome [] [] (now (marks .entry)) (now (reached .entry)) y ⌝ }
+    ensures { λ r. ⌜ r ≡ mayCome (now (marks .entry)) (now (reached .entry)) y ⌝ }
 {
     let c = size(y / PORT_NODES);
     if y % PORT_NODES < PORTS {
@@ -99,7 +98,7 @@ fn is_open(
     x: u32,
 ) -> bool
     requires { ⌜ x < maxNodes ⌝ }
-    ensures { λ r. ⌜ r ≡ isOpen [] (now (tables .entry)) (now (marks .entry)) (now (reached .entry)) x ⌝ }
+    ensures { λ r. ⌜ r ≡ isOpen (now (tables .entry)) (now (marks .entry)) (now (reached .entry)) x ⌝ }
 {
     (word_in(tables, LIVE_AT + size(x)) != 0) & may_come(marks, reached, x)
 }
@@ -118,7 +117,7 @@ fn collect_input(
     buf: &mut [u32],
     at: usize,
 ) -> usize
-    requires { ⌜ (x < maxNodes) × InRange (now tables) × (portNodes ≤ x) × (isOpen [] (now tables) (now marks) (now reached) x ≡ true) ⌝ }
+    requires { ⌜ (x < maxNodes) × InRange (now tables) × (portNodes ≤ x) × (isOpen (now tables) (now marks) (now reached) x ≡ true) ⌝ }
     ensures { λ r. ⌜ (now (buf .exit), r) ≡ puts own (pulledInto (phasesIn (now (phases .entry))) (now (tables .entry)) (now (marks .entry)) (now (reached .entry)) (toBag (now (given .entry))) depth x) (now (buf .entry), at) ⌝ }
 {
     if depth == 0 {

@@ -1,6 +1,5 @@
 // Output collection, by turns: a coupled component asks its children, and a child that is coupled is asked in the same way.
 ghost use mathlib.Core.Path.{_≡_};
-ghost use mathlib.Core.List.{[]};
 ghost use mathlib.Core.Bool.{true};
 ghost use Prim.Native.Nat.{_<_};
 ghost use lib.ListN.{getD};
@@ -62,7 +61,7 @@ pub fn collect_coupled(
     buf: &mut [u32],
     at: usize,
 ) -> usize
-    requires { ⌜ (x < maxNodes) × InRange (now tables) × (isOpen [] (now tables) (now marks) (now reached) x ≡ true) ⌝ }
+    requires { ⌜ (x < maxNodes) × InRange (now tables) × (isOpen (now tables) (now marks) (now reached) x ≡ true) ⌝ }
     ensures { λ r. ⌜ (now (buf .exit), r) ≡ puts own (pulledBelow (phasesIn (now (phases .entry))) (now (tables .entry)) (now (marks .entry)) (now (reached .entry)) depth x) (now (buf .entry), at) ⌝ }
 {
     if depth == 0 {

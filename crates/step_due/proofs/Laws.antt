@@ -44,7 +44,7 @@ module _ (t : List ℕ) where
 
   -- one child more
   pub least-more : (f : ℕ → ℕ) (left d u : ℕ) → (ltb 0 left && ltb 0 d) ≡ true
-      → min (min u (f d)) (leastEnd t f (childrenFrom (left - 1) (getD t (siblingAt + d) 0))) ≡ min u (leastEnd t f (childrenFrom left d))
+      → min (min u (f d)) (leastEnd f (childrenFrom (left - 1) (getD t (siblingAt + d) 0))) ≡ min u (leastEnd f (childrenFrom left d))
   unfolding leastEnd links
   least-more f zero d u h = absurd (omega (arith, ltb-true 0 0 (and-left (ltb 0 0) (ltb 0 d) h)))
   least-more f (suc n) d u h =
@@ -52,12 +52,12 @@ module _ (t : List ℕ) where
       rw (e, ne-eqb d 0 (λ z. omega (arith, ltb-true 0 d (and-right (ltb 0 (suc n)) (ltb 0 d) h)))) (omega arith)
 
   -- none left
-  pub least-end : (f : ℕ → ℕ) (left d u : ℕ) → u ≤ neverMoment → (ltb 0 left && ltb 0 d) ≡ false → u ≡ min u (leastEnd t f (childrenFrom left d))
+  pub least-end : (f : ℕ → ℕ) (left d u : ℕ) → u ≤ neverMoment → (ltb 0 left && ltb 0 d) ≡ false → u ≡ min u (leastEnd f (childrenFrom left d))
   unfolding leastEnd links
   least-end f zero d u l h = omega arith
   least-end f (suc n) d u l h = go (ltb 0 d) refl h
     where
-      go : (b : Bool) → ltb 0 d ≡ b → (ltb 0 (suc n) && b) ≡ false → u ≡ min u (leastEnd t f (childrenFrom (suc n) d))
+      go : (b : Bool) → ltb 0 d ≡ b → (ltb 0 (suc n) && b) ≡ false → u ≡ min u (leastEnd f (childrenFrom (suc n) d))
       go true e k = absurd (true≢false (sym (rw (lt-ltb 0 (suc n) (omega arith))) ∙ k))
       go false e k = rw (eq-eqb d 0 (omega (arith, ltb-false 0 d e))) (omega arith)
 
@@ -66,13 +66,13 @@ module _ (t : List ℕ) where
   unfolding endBelow
   end-atomic ends c a = rw a
 
-  least-bounded : (f : ℕ → ℕ) (l : List ℕ) → leastEnd t f l ≤ neverMoment
+  least-bounded : (f : ℕ → ℕ) (l : List ℕ) → leastEnd f l ≤ neverMoment
   unfolding leastEnd
   least-bounded f [] = omega arith
   least-bounded f (d ∷ l) = omega (arith, least-bounded f l)
 
   pub end-coupled : (ends : List ℕ) (c : ℕ) → atomicAt t c ≡ false
-      → min neverMoment (leastEnd t (endBelow t ends levelsLeft) (childrenFrom maxComponents (getD t (childAt + c) 0))) ≡ endBelow t ends maxComponents c
+      → min neverMoment (leastEnd (endBelow t ends levelsLeft) (childrenFrom maxComponents (getD t (childAt + c) 0))) ≡ endBelow t ends maxComponents c
   unfolding endBelow childRows
   end-coupled ends c a = rw a (omega (arith, least-bounded (endBelow t ends levelsLeft) (childRows t c)))
 

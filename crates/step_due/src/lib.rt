@@ -1,7 +1,6 @@
 // When something is due, by the tables of a call: an atomic by its phase and last moment, a coupled component by the least among its
 // children. Due moments are carried beside the state, by position, as numbers: 2^64 - 1 for never, which is no moment that a run comes to.
 ghost use mathlib.Core.Path.{_≡_};
-ghost use mathlib.Core.List.{[]};
 ghost use Prim.Native.Nat.{_+_, _<_, _≤_, min};
 ghost use lib.ListN.{length, getD, set};
 ghost use Rattle.definition.specs.Limits.{maxComponents};
@@ -29,7 +28,7 @@ use table_words::row_in;
 // The number of the record of phase p of component c.
 pub fn record_of(tables: &[u16; TABLE_SIZE], c: u16, p: u8) -> usize
     requires { ⌜ c < maxComponents ⌝ }
-    ensures { λ r. ⌜ r ≡ recordOf [] (now (tables .entry)) c p ⌝ }
+    ensures { λ r. ⌜ r ≡ recordOf (now (tables .entry)) c p ⌝ }
 {
     size16(row_in(tables, PHASES_AT, c)) + size(p)
 }

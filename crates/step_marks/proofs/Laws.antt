@@ -1,6 +1,5 @@
--- Marks and flags as the loops meet them: one atomic, one component, one coupling more; and that those by component do not depend on the
--- phases. Assumes nothing.
-use mathlib.Core.Path.{_≡_, refl, sym, ap, _∙_}
+-- Marks and flags as the loops meet them: one atomic, one component, one coupling more. Assumes nothing.
+use mathlib.Core.Path.{_≡_, refl, sym, _∙_}
 use mathlib.Core.List.{List, [], _∷_, map}
 use mathlib.Core.Bool.{Bool, true, false, _&&_, _||_, not, cond, true≢false}
 use Prim.Native.Nat.{ℕ, zero, suc, _+_, _-_, _/_, _≤_, _<_}
@@ -11,7 +10,6 @@ use borrow.Author.Tests.{le-leb, lt-leb, leb-true, leb-false, lt-ltb, ltb-false,
 use Rattle.definition.specs.Bytes.{Bytes, chunks}
 use Rattle.definition.specs.Lists.{isEmpty}
 use Rattle.definition.specs.Limits.{messageSize}
-use Rattle.definition.specs.Model.{Phase}
 use Rattle.definition.specs.Records.{messageAt}
 use Rattle.definition.specs.Engine.{toBag}
 use Rattle.law_routes.specs.Nodes.{inputNode}
@@ -34,19 +32,14 @@ module _ (t : List ℕ) (now : ℕ) (phase ends : List ℕ) where
   marked-none n i es h = let e : n - i ≡ 0 = omega arith in rw e
 
 pub raised-more : (t : List ℕ) (c : ℕ) (es : List ℕ) → 0 < c
-    → raised [] t (c - 1) (cond (isUp es c) (set es (getD t (parentsAt + c) 0) 1) es) ≡ raised [] t c es
+    → raised t (c - 1) (cond (isUp es c) (set es (getD t (parentsAt + c) 0) 1) es) ≡ raised t c es
 unfolding raised
 raised-more t zero es h = absurd (omega arith)
 raised-more t (suc c) es h = let e : suc c - 1 ≡ c = omega arith in rw e
 
-pub raised-none : (t : List ℕ) (c : ℕ) (es : List ℕ) → c ≡ 0 → es ≡ raised [] t c es
+pub raised-none : (t : List ℕ) (c : ℕ) (es : List ℕ) → c ≡ 0 → es ≡ raised t c es
 unfolding raised
 raised-none t c es e = rw e
-
-pub raised-any : (ps : List Phase) (t : List ℕ) (c : ℕ) (es : List ℕ) → raised [] t c es ≡ raised ps t c es
-unfolding raised
-raised-any ps t zero es = refl
-raised-any ps t (suc c) es = raised-any ps t c _
 
 -- ---- some coupling of a chain
 
@@ -79,39 +72,28 @@ module _ (p : ℕ → Bool) (t : List ℕ) where
 -- ---- flags
 
 module _ (t es fs : List ℕ) (c n q : ℕ) (h : q < n) where
-  reach-step : mayReach [] t es fs c (n - q) q ≡ (anyOf (mayCome [] t es fs) (chainRows t (inputNode c q)) || mayReach [] t es fs c (n - (q + 1)) (q + 1))
+  reach-step : mayReach t es fs c (n - q) q ≡ (anyOf (mayCome es fs) (chainRows t (inputNode c q)) || mayReach t es fs c (n - (q + 1)) (q + 1))
   unfolding mayReach
   reach-step = let e : n - q ≡ suc (n - (q + 1)) = omega arith in rw e
 
-  pub reach-here : anyOf (mayCome [] t es fs) (chainRows t (inputNode c q)) ≡ true → true ≡ mayReach [] t es fs c (n - q) q
+  pub reach-here : anyOf (mayCome es fs) (chainRows t (inputNode c q)) ≡ true → true ≡ mayReach t es fs c (n - q) q
   reach-here e = rw (reach-step, e)
 
-  pub reach-later : anyOf (mayCome [] t es fs) (chainRows t (inputNode c q)) ≡ false → mayReach [] t es fs c (n - (q + 1)) (q + 1) ≡ mayReach [] t es fs c (n - q) q
+  pub reach-later : anyOf (mayCome es fs) (chainRows t (inputNode c q)) ≡ false → mayReach t es fs c (n - (q + 1)) (q + 1) ≡ mayReach t es fs c (n - q) q
   reach-later e = rw (reach-step, e)
 
-pub reach-none : (t es fs : List ℕ) (c n q : ℕ) → n ≤ q → false ≡ mayReach [] t es fs c (n - q) q
+pub reach-none : (t es fs : List ℕ) (c n q : ℕ) → n ≤ q → false ≡ mayReach t es fs c (n - q) q
 unfolding mayReach
 reach-none t es fs c n q h = let e : n - q ≡ 0 = omega arith in rw e
 
 pub flags-more : (t es fs : List ℕ) (n c : ℕ) → c < n
-    → reachedFrom [] t es (n - (c + 1)) (c + 1) (set fs c (cond (mayReach [] t es fs c 4 0) 1 0)) ≡ reachedFrom [] t es (n - c) c fs
+    → reachedFrom t es (n - (c + 1)) (c + 1) (set fs c (cond (mayReach t es fs c 4 0) 1 0)) ≡ reachedFrom t es (n - c) c fs
 unfolding reachedFrom
 flags-more t es fs n c h = let e : n - c ≡ suc (n - (c + 1)) = omega arith in rw e
 
-pub flags-none : (t es fs : List ℕ) (n c : ℕ) → n ≤ c → fs ≡ reachedFrom [] t es (n - c) c fs
+pub flags-none : (t es fs : List ℕ) (n c : ℕ) → n ≤ c → fs ≡ reachedFrom t es (n - c) c fs
 unfolding reachedFrom
 flags-none t es fs n c h = let e : n - c ≡ 0 = omega arith in rw e
-
--- those of any phases
-may-any : (ps : List Phase) (t es fs : List ℕ) (c m q : ℕ) → mayReach [] t es fs c m q ≡ mayReach ps t es fs c m q
-unfolding mayReach mayCome
-may-any ps t es fs c zero q = refl
-may-any ps t es fs c (suc m) q = ap (λ b. anyOf (mayCome [] t es fs) (chainRows t (inputNode c q)) || b) (may-any ps t es fs c m (q + 1))
-
-pub flags-any : (ps : List Phase) (t es : List ℕ) (m c : ℕ) (fs : List ℕ) → reachedFrom [] t es m c fs ≡ reachedFrom ps t es m c fs
-unfolding reachedFrom
-flags-any ps t es zero c fs = refl
-flags-any ps t es (suc m) c fs = rw (may-any ps t es fs c 4 0) (flags-any ps t es m (c + 1) _)
 
 -- ---- a given bag with a message in it
 

@@ -1,7 +1,6 @@
 // What a step reads before any transition: the mark of each component, which is 0 where nothing below it is due, and an atomic's phase
 // record's number and 1 where it is due; and for each component whether something may reach its inputs.
 ghost use mathlib.Core.Path.{_≡_};
-ghost use mathlib.Core.List.{[]};
 ghost use mathlib.Core.Bool.{cond};
 ghost use Prim.Native.Nat.{_+_, _-_, _<_, _≤_, suc};
 ghost use lib.ListN.{getD, set};
@@ -56,7 +55,7 @@ fn flag(up: bool) -> u32
 // The mark of component c that is due in phase p.
 fn mark_for(tables: &[u16; TABLE_SIZE], c: u16, p: u8) -> u32
     requires { ⌜ c < maxComponents ⌝ }
-    ensures { λ r. ⌜ r ≡ suc (recordOf [] (now (tables .entry)) c p) ⌝ }
+    ensures { λ r. ⌜ r ≡ suc (recordOf (now (tables .entry)) c p) ⌝ }
 {
     wide16(row_in(tables, PHASES_AT, c)) + wide(p) + 1
 }
@@ -122,7 +121,7 @@ fn mark_parent(tables: &[u16; TABLE_SIZE], c: u16, marks: &mut [u32; MAX_COMPONE
 
 fn mark_parents(tables: &[u16; TABLE_SIZE], marks: &mut [u32; MAX_COMPONENTS])
     requires { ⌜ InRange (now tables) ⌝ }
-    ensures { λ _. ⌜ now (marks .exit) ≡ raised [] (now (tables .entry)) (getD (now (tables .entry)) countAt 0 - 1) (now (marks .entry)) ⌝ }
+    ensures { λ _. ⌜ now (marks .exit) ≡ raised (now (tables .entry)) (getD (now (tables .entry)) countAt 0 - 1) (now (marks .entry)) ⌝ }
 {
     let count = word_in(tables, COUNT_AT);
     let mut c: u16 = 0;
@@ -144,7 +143,7 @@ fn any_source(
     x: u32,
 ) -> bool
     requires { ⌜ (x < maxNodes) × InRange (now tables) ⌝ }
-    ensures { λ r. ⌜ r ≡ anyOf (mayCome [] (now (tables .entry)) (now (marks .entry)) (now (reached .entry))) (chainRows (now (tables .entry)) x) ⌝ }
+    ensures { λ r. ⌜ r ≡ anyOf (mayCome (now (marks .entry)) (now (reached .entry))) (chainRows (now (tables .entry)) x) ⌝ }
 {
     let mut left = MAX_COUPLINGS;
     let mut link = first_link(tables, x);
@@ -165,7 +164,7 @@ fn may_reach(
     c: u16,
 ) -> bool
     requires { ⌜ (c < maxComponents) × InRange (now tables) ⌝ }
-    ensures { λ r. ⌜ r ≡ mayReach [] (now (tables .entry)) (now (marks .entry)) (now (reached .entry)) c portCount 0 ⌝ }
+    ensures { λ r. ⌜ r ≡ mayReach (now (tables .entry)) (now (marks .entry)) (now (reached .entry)) c portCount 0 ⌝ }
 {
     let mut q: u8 = 0;
     while q < PORT_COUNT {
@@ -183,7 +182,7 @@ fn flag_components(
     reached: &mut [u32; MAX_COMPONENTS],
 )
     requires { ⌜ InRange (now tables) ⌝ }
-    ensures { λ _. ⌜ now (reached .exit) ≡ reachedFrom [] (now (tables .entry)) (now (marks .entry)) (getD (now (tables .entry)) countAt 0 - 1) 1 (now (reached .entry)) ⌝ }
+    ensures { λ _. ⌜ now (reached .exit) ≡ reachedFrom (now (tables .entry)) (now (marks .entry)) (getD (now (tables .entry)) countAt 0 - 1) 1 (now (reached .entry)) ⌝ }
 {
     let count = word_in(tables, COUNT_AT);
     let mut c: u16 = 1;
@@ -206,7 +205,7 @@ pub fn mark(
     marks: &mut [u32; MAX_COMPONENTS],
 )
     requires { ⌜ (n ≤ maxComponents) × InRange (now tables) ⌝ }
-    ensures { λ _. ⌜ now (marks .exit) ≡ raised [] (now (tables .entry)) (getD (now (tables .entry)) countAt 0 - 1)
+    ensures { λ _. ⌜ now (marks .exit) ≡ raised (now (tables .entry)) (getD (now (tables .entry)) countAt 0 - 1)
         (endMarked (now (tables .entry)) (at .0) (now (phase .entry)) (now (ends .entry)) n 0 (now (marks .entry))) ⌝ }
 {
     mark_atomics(tables, n, phase, ends, at, marks);
@@ -221,7 +220,7 @@ pub fn reach(
     reached: &mut [u32; MAX_COMPONENTS],
 )
     requires { ⌜ InRange (now tables) ⌝ }
-    ensures { λ _. ⌜ now (reached .exit) ≡ reachedFrom [] (now (tables .entry)) (now (marks .entry)) (getD (now (tables .entry)) countAt 0 - 1) 1 (set (now (reached .entry)) 0 (cond (isEmpty (toBag (now (given .entry)))) 0 1)) ⌝ }
+    ensures { λ _. ⌜ now (reached .exit) ≡ reachedFrom (now (tables .entry)) (now (marks .entry)) (getD (now (tables .entry)) countAt 0 - 1) 1 (set (now (reached .entry)) 0 (cond (isEmpty (toBag (now (given .entry)))) 0 1)) ⌝ }
 {
     put_mark(reached, 0, flag(MESSAGE_SIZE <= given.len()));
     flag_components(tables, marks, reached);

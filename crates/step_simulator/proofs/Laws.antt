@@ -22,7 +22,6 @@ use Rattle.definition.specs.Step.{Stepped}
 use Rattle.spec_step.specs.Tables.{numbersAt, countAt}
 use Rattle.spec_step.specs.TableStep.{isUp, dueAtPosition, raised, marks, reachedFrom, reached, pulledInto, pulledBelow, keysInto, rootKeys, rootRoom, changedBy, changedFrom, tableStep}
 use Rattle.step_collect.proofs.Laws.{unreached}
-use Rattle.step_marks.proofs.Laws.{raised-any, flags-any}
 use Rattle.spec_step.specs.Carried.{Carried, endMarked}
 use Rattle.law_step.proofs.Carried.{marked-carried, carried-put, changed-elsewhere}
 use Rattle.law_step.proofs.Putting.{bag-front}
@@ -82,25 +81,24 @@ carried-changed ps t rs now n st st' ends i c due x l e h =
 -- ---- the whole step, where the marks and flags are those that the code filled in over zeros, by due moments that are carried
 
 module _ (ps : List Phase) (t : List ℕ) (rs : List Rule) (n room now : ℕ) (x : Bag) (st : State) (ends es fs : List ℕ) (h : Carried ps t n st ends) (l : now < latest)
-    (e : es ≡ raised [] t (getD t countAt 0 - 1) (endMarked t now (st .phase) ends n 0 (replicate maxComponents 0)))
-    (f : fs ≡ reachedFrom [] t es (getD t countAt 0 - 1) 1 (set (replicate maxComponents 0) 0 (cond (isEmpty x) 0 1))) where
+    (e : es ≡ raised t (getD t countAt 0 - 1) (endMarked t now (st .phase) ends n 0 (replicate maxComponents 0)))
+    (f : fs ≡ reachedFrom t es (getD t countAt 0 - 1) 1 (set (replicate maxComponents 0) 0 (cond (isEmpty x) 0 1))) where
   marks-are : marks ps t n now st ≡ es
   unfolding marks
   marks-are =
       sym
-      (e ∙ raised-any ps t (getD t countAt 0 - 1) (endMarked t now (st .phase) ends n 0 (replicate maxComponents 0))
-      ∙ ap (raised ps t (getD t countAt 0 - 1)) (marked-carried ps t n st ends h now n 0 (replicate maxComponents 0) l (omega arith)))
+      (e ∙ ap (raised t (getD t countAt 0 - 1)) (marked-carried ps t n st ends h now n 0 (replicate maxComponents 0) l (omega arith)))
 
-  flags-are : reached ps t es x ≡ fs
+  flags-are : reached t es x ≡ fs
   unfolding reached
-  flags-are = sym (f ∙ flags-any ps t es (getD t countAt 0 - 1) 1 (set (replicate maxComponents 0) 0 (cond (isEmpty x) 0 1)))
+  flags-are = sym f
 
   build : List ℕ → List ℕ → Stepped State
   build es fs = record { out = map messageOf (take (rootRoom room) (rootKeys ps t es fs)); state = changedFrom ps t rs es fs room now x n 0 st }
 
   pub step-is : tableStep ps t rs n room now x st ≡ record { out = map messageOf (take (rootRoom room) (rootKeys ps t es fs)); state = changedFrom ps t rs es fs room now x n 0 st }
   unfolding tableStep build
-  step-is = ap (λ l. build l (reached ps t l x)) marks-are ∙ ap (build es) flags-are
+  step-is = ap (λ l. build l (reached t l x)) marks-are ∙ ap (build es) flags-are
 
 -- what has room of a bag
 pub count-bag : (room : ℕ) (ks : List ℕ) → min room (length ks) ≡ length (map messageOf (take room ks))

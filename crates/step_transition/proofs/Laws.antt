@@ -31,7 +31,7 @@ module _ (ps : List Phase) (t : List ℕ) (rs : List Rule) (now : ℕ) (st : Sta
   confluent-case (k ∷ l) e = refl
 
   pub external-case : (l : List ℕ) → (length l ≡ 0 → ⊥)
-      → changedAt st i (decidedIn ps t rs c (getD (st .phase) i 0) (now - getD (st .last) i 0) (map messageOf l)) now
+      → changedAt st i (decidedIn t rs c (getD (st .phase) i 0) (now - getD (st .last) i 0) (map messageOf l)) now
       ≡ changedBy ps t rs now st i c false (map messageOf l)
   unfolding changedBy
   external-case [] e = absurd (e refl)

@@ -1,6 +1,6 @@
 // The transitions of an atomic: internal, external, confluent in both orders, or none. The elapsed time is the atomic's own.
 ghost use mathlib.Core.Path.{_≡_};
-ghost use mathlib.Core.List.{[], map};
+ghost use mathlib.Core.List.{map};
 ghost use Prim.Native.Nat.{_<_};
 ghost use lib.ListN.{length, getD};
 ghost use Rattle.definition.specs.Limits.{maxComponents};
@@ -67,7 +67,7 @@ fn decided(
     bag: &[u32],
 ) -> u8
     requires { ⌜ c < maxComponents ⌝ }
-    ensures { λ r. ⌜ r ≡ decidedIn [] (now (tables .entry)) (rulesIn (now (rules .entry))) c p (elapsed .0) (map messageOf (now (bag .entry))) ⌝ }
+    ensures { λ r. ⌜ r ≡ decidedIn (now (tables .entry)) (rulesIn (now (rules .entry))) c p (elapsed .0) (map messageOf (now (bag .entry))) ⌝ }
 {
     let first = row_in(tables, RULES_FROM_AT, c);
     let end = row_in(tables, RULES_TO_AT, c);

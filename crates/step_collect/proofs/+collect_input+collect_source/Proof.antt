@@ -235,7 +235,7 @@ collect-source-returns-4 t c =
     let after-is-atomic : collect-source-lts.After-is-atomic (collect-source-calls t) (collect-source-at t) collect-source.Post = search in
     let else1 : collect-source-lts.Else1 (collect-source-calls t) (collect-source-at t) collect-source.Post = search in
     let a = start .args in
-    rw (le-ltb _ _ (else1 .if1 .left), sym (after-is-atomic .is-atomic .ensures) ∙ then4 .if4 .taken, ← sent-by (phasesIn (now (a .phases))) (now (a .tables)) (now (a .marks)) (a .y)) (after-put-output .put-output .ensures)
+    rw (le-ltb _ _ (else1 .if1 .left), sym (after-is-atomic .is-atomic .ensures) ∙ then4 .if4 .taken, ← sent-by (phasesIn (now (a .phases))) (now (a .marks)) (a .y)) (after-put-output .put-output .ensures)
 
 collect-source-is-open-requires-2 : (t : ℕ) → collect-source-lts.Need-is-open-requires-2 (collect-source-calls t) (collect-source-at t) collect-source.Post
 collect-source-is-open-requires-2 t c κs = search needs

@@ -38,7 +38,7 @@ end-below-below t = and 2 end-below-kinds.ps (falls 2 end-below-kinds.ps _<_ μ-
 abbrev end-below-Inv-loop : end-below-lts.InvT-loop
 end-below-Inv-loop tables ends c least₀ left₀ d₀ least left d =
     (left ≤ maxComponents) × (d < maxComponents) × (0 < d → c < d) × (least ≤ neverMoment) ×
-    (min least (leastEnd tables (endBelow tables ends levelsLeft) (childrenFrom tables left d)) ≡ endBelow tables ends maxComponents c)
+    (min least (leastEnd (endBelow tables ends levelsLeft) (childrenFrom tables left d)) ≡ endBelow tables ends maxComponents c)
 
 abbrev end-below-μ-loop : end-below-lts.MeasureT-loop
 end-below-μ-loop tables ends c least₀ left₀ d₀ least left d = left

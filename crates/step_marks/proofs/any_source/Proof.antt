@@ -4,7 +4,6 @@ use Rattle.definition.specs.Limits.{maxCouplings}
 use native.Mathlib.Omega.{arith}
 use Prim.Native.Nat.{_≤_, _+_}
 use mathlib.Core.Path.{_≡_, _∙_, sym}
-use mathlib.Core.List.{[]}
 use lib.ListN.{getD}
 use denote.Ref.{now}
 use Rattle.spec_step.specs.Tables.{sourceAt, chainRows}
@@ -15,7 +14,7 @@ use Rattle.step_marks.proofs.any_source.Statement.{statement}
 use Rattle.step_marks.proofs.any_source.Tie as tie
 
 abbrev Inv-loop : tie.InvT-loop
-Inv-loop tables marks reached x left₀ link₀ left link = (left ≤ maxCouplings) × (link ≤ maxCouplings) × (anyOf (mayCome [] tables marks reached) (rowsFrom tables left link) ≡ anyOf (mayCome [] tables marks reached) (chainRows tables x))
+Inv-loop tables marks reached x left₀ link₀ left link = (left ≤ maxCouplings) × (link ≤ maxCouplings) × (anyOf (mayCome marks reached) (rowsFrom tables left link) ≡ anyOf (mayCome marks reached) (chainRows tables x))
 
 abbrev μ-loop : tie.MeasureT-loop
 μ-loop tables marks reached x left₀ link₀ left link = left
@@ -39,9 +38,9 @@ returns c =
     let in-loop : tie.In-loop Inv-loop μ-loop = search in let at-loop : tie.At-loop Inv-loop μ-loop = search in
     let a = start .args in
     let l = at-loop .loop in
-    let e : mayCome [] (now (a .tables)) (now (a .marks)) (now (a .reached)) (getD (now (a .tables)) (sourceAt + l .link) 0) ≡ c .before .may-come .result =
+    let e : mayCome (now (a .marks)) (now (a .reached)) (getD (now (a .tables)) (sourceAt + l .link) 0) ≡ c .before .may-come .result =
     unfold mayCome in sym (rw (after-source-of .source-of .ensures) at (c .before .may-come .ensures)) in
-    any-here (mayCome [] (now (a .tables)) (now (a .marks)) (now (a .reached))) (now (a .tables)) (l .left) (l .link) (in-loop .loop-test .taken) (e ∙ c .if1 .taken) ∙ l .inv .2
+    any-here (mayCome (now (a .marks)) (now (a .reached))) (now (a .tables)) (l .left) (l .link) (in-loop .loop-test .taken) (e ∙ c .if1 .taken) ∙ l .inv .2
 
 next-link-requires : tie.Need-next-link-requires Inv-loop μ-loop
 next-link-requires c κs =
@@ -65,16 +64,16 @@ loop-again c =
     let at-loop : tie.At-loop Inv-loop μ-loop = search in
     let a = start .args in
     let l = at-loop .loop in
-    let e : mayCome [] (now (a .tables)) (now (a .marks)) (now (a .reached)) (getD (now (a .tables)) (sourceAt + l .link) 0) ≡ after-may-come .may-come .result =
+    let e : mayCome (now (a .marks)) (now (a .reached)) (getD (now (a .tables)) (sourceAt + l .link) 0) ≡ after-may-come .may-come .result =
     unfold mayCome in sym (rw (after-source-of .source-of .ensures) at (after-may-come .may-come .ensures)) in
-    (omega arith, rw (c .next-link .ensures) (start .pre .1 .nexts (l .link) (l .inv .1)), rw (c .next-link .ensures) (any-later (mayCome [] (now (a .tables)) (now (a .marks)) (now (a .reached))) (now (a .tables)) (l .left) (l .link) (in-loop .loop-test .taken) (e ∙ c .before .if1 .left)) ∙ l .inv .2)
+    (omega arith, rw (c .next-link .ensures) (start .pre .1 .nexts (l .link) (l .inv .1)), rw (c .next-link .ensures) (any-later (mayCome (now (a .marks)) (now (a .reached))) (now (a .tables)) (l .left) (l .link) (in-loop .loop-test .taken) (e ∙ c .before .if1 .left)) ∙ l .inv .2)
 
 returns-2 : tie.Need-returns-2 Inv-loop μ-loop
 returns-2 c =
     let start : tie.Start Inv-loop μ-loop = search in
     let a = start .args in
     let l = c .before .loop in
-    any-end (mayCome [] (now (a .tables)) (now (a .marks)) (now (a .reached))) (now (a .tables)) (l .left) (l .link) (c .loop-test .left) ∙ l .inv .2
+    any-end (mayCome (now (a .marks)) (now (a .reached))) (now (a .tables)) (l .left) (l .link) (c .loop-test .left) ∙ l .inv .2
 
 pub any-source-spec : {M : Type 1} → statement M
 any-source-spec =

@@ -3,7 +3,6 @@ use borrow.Author.Needs.{needs}
 use native.Mathlib.Omega.{arith}
 use Prim.Native.Nat.{_-_}
 use mathlib.Core.Path.{_≡_, _∙_}
-use mathlib.Core.List.{[]}
 use lib.ListN.{getD}
 use denote.Ref.{now}
 use Rattle.spec_step.specs.TableStep.{reachedFrom}
@@ -13,7 +12,7 @@ use Rattle.step_marks.proofs.flag_components.Statement.{statement}
 use Rattle.step_marks.proofs.flag_components.Tie as tie
 
 abbrev Inv-loop : tie.InvT-loop
-Inv-loop tables marks reached₀ count c₀ reached c = (count ≡ getD tables countAt 0) × (reachedFrom [] tables marks (count - c) c reached ≡ reachedFrom [] tables marks (getD tables countAt 0 - 1) 1 reached₀)
+Inv-loop tables marks reached₀ count c₀ reached c = (count ≡ getD tables countAt 0) × (reachedFrom tables marks (count - c) c reached ≡ reachedFrom tables marks (getD tables countAt 0 - 1) 1 reached₀)
 
 abbrev μ-loop : tie.MeasureT-loop
 μ-loop tables marks reached₀ count c₀ reached c = count - c

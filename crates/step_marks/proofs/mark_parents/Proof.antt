@@ -5,7 +5,6 @@ use native.Mathlib.Omega.{arith}
 use Prim.Native.Nat.{_-_, _<_}
 use mathlib.Core.Path.{_≡_, _∙_}
 use mathlib.Core.Logic.{⊎-elim}
-use mathlib.Core.List.{[]}
 use lib.ListN.{getD}
 use denote.Ref.{now}
 use Rattle.spec_step.specs.TableStep.{raised}
@@ -15,7 +14,7 @@ use Rattle.step_marks.proofs.mark_parents.Statement.{statement}
 use Rattle.step_marks.proofs.mark_parents.Tie as tie
 
 abbrev Inv-loop : tie.InvT-loop
-Inv-loop tables marks₀ count c₀ marks c = (c < maxComponents) × (raised [] tables c marks ≡ raised [] tables (getD tables countAt 0 - 1) marks₀)
+Inv-loop tables marks₀ count c₀ marks c = (c < maxComponents) × (raised tables c marks ≡ raised tables (getD tables countAt 0 - 1) marks₀)
 
 abbrev μ-loop : tie.MeasureT-loop
 μ-loop tables marks₀ count c₀ marks c = c

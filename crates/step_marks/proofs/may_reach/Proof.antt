@@ -4,7 +4,6 @@ use Rattle.spec_step.specs.Ranges.{maxNodes}
 use native.Mathlib.Omega.{arith}
 use Prim.Native.Nat.{_≤_, _<_, _-_}
 use mathlib.Core.Path.{_≡_, _∙_, refl, sym}
-use mathlib.Core.List.{[]}
 use denote.Ref.{now}
 use Rattle.spec_step.specs.TableStep.{anyOf, mayCome, mayReach}
 use Rattle.spec_step.specs.Tables.{chainRows}
@@ -14,7 +13,7 @@ use Rattle.step_marks.proofs.may_reach.Statement.{statement}
 use Rattle.step_marks.proofs.may_reach.Tie as tie
 
 abbrev Inv-loop : tie.InvT-loop
-Inv-loop tables marks reached c q₀ q = (q ≤ 4) × (mayReach [] tables marks reached c (4 - q) q ≡ mayReach [] tables marks reached c 4 0)
+Inv-loop tables marks reached c q₀ q = (q ≤ 4) × (mayReach tables marks reached c (4 - q) q ≡ mayReach tables marks reached c 4 0)
 
 abbrev μ-loop : tie.MeasureT-loop
 μ-loop tables marks reached c q₀ q = 4 - q
@@ -35,7 +34,7 @@ returns c =
     let at-loop : tie.At-loop Inv-loop μ-loop = search in
     let a = start .args in
     let l = at-loop .loop in
-    let e : anyOf (mayCome [] (now (a .tables)) (now (a .marks)) (now (a .reached))) (chainRows (now (a .tables)) (inputNode (a .c) (l .q))) ≡ c .before .any-source .result = sym (rw (after-input-node .input-node .ensures) at (c .before .any-source .ensures)) in
+    let e : anyOf (mayCome (now (a .marks)) (now (a .reached))) (chainRows (now (a .tables)) (inputNode (a .c) (l .q))) ≡ c .before .any-source .result = sym (rw (after-input-node .input-node .ensures) at (c .before .any-source .ensures)) in
     reach-here (now (a .tables)) (now (a .marks)) (now (a .reached)) (a .c) 4 (l .q) (omega arith) (e ∙ c .if1 .taken) ∙ l .inv .1
 
 loop-again : tie.Need-loop-again Inv-loop μ-loop
@@ -44,7 +43,7 @@ loop-again c =
     let at-loop : tie.At-loop Inv-loop μ-loop = search in
     let a = start .args in
     let l = at-loop .loop in
-    let e : anyOf (mayCome [] (now (a .tables)) (now (a .marks)) (now (a .reached))) (chainRows (now (a .tables)) (inputNode (a .c) (l .q))) ≡ c .before .any-source .result = sym (rw (after-input-node .input-node .ensures) at (c .before .any-source .ensures)) in
+    let e : anyOf (mayCome (now (a .marks)) (now (a .reached))) (chainRows (now (a .tables)) (inputNode (a .c) (l .q))) ≡ c .before .any-source .result = sym (rw (after-input-node .input-node .ensures) at (c .before .any-source .ensures)) in
     (omega arith, reach-later (now (a .tables)) (now (a .marks)) (now (a .reached)) (a .c) 4 (l .q) (omega arith) (e ∙ c .if1 .left) ∙ l .inv .1)
 
 returns-2 : tie.Need-returns-2 Inv-loop μ-loop

@@ -89,7 +89,7 @@ collect-child-returns t c =
     let then1 : collect-child-lts.Then1 (collect-child-calls t) (collect-child-at t) collect-child.Post = search in
     let after-is-atomic : collect-child-lts.After-is-atomic (collect-child-calls t) (collect-child-at t) collect-child.Post = search in
     let a = start .args in
-    rw (sym (after-is-atomic .is-atomic .ensures) ∙ then1 .if1 .taken, ← sent-by (phasesIn (now (a .phases))) (now (a .tables)) (now (a .marks)) (a .y)) (after-put-output .put-output .ensures)
+    rw (sym (after-is-atomic .is-atomic .ensures) ∙ then1 .if1 .taken, ← sent-by (phasesIn (now (a .phases))) (now (a .marks)) (a .y)) (after-put-output .put-output .ensures)
 
 collect-child-is-open-requires : (t : ℕ) → collect-child-lts.Need-is-open-requires (collect-child-calls t) (collect-child-at t) collect-child.Post
 collect-child-is-open-requires t c κs = search needs
