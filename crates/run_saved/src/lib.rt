@@ -12,14 +12,14 @@ ghost use Rattle.definition.specs.SavedRun.{runLength, toRun, entryBytes, runBy
 ghost use Rattle.model_records.specs.Values.{componentsIn, phasesIn};
 ghost use Rattle.clock_due.specs.After.{dueAfter};
 ghost use Rattle.clock.specs.Times.{timeOf};
-ghost use Rattle.run_state.specs.Held.{held, entriesOf};
+ghost use Rattle.run_state.specs.Held.{heldIn, entriesOf};
 ghost use Rattle.run_saved.specs.Runs.{bare, entryOf, entryAt, entriesFitIn, heldAt, entryRows, runIn, startEntries};
 use clock::Due;
 use clock::Moment;
-use limits::MAX_COMPONENTS;
 use model_records::Component;
 use model_records::component_at;
 use model_records::component_count;
+use run_state::STATE_SIZE;
 
 // Open moment (8) and atomic count (2), then for each atomic its phase (1) and last moment (8).
 const HEAD_SIZE: usize = 10;
@@ -61,22 +61,16 @@ pub fn entry_at(run: &[u8], i: usize) -> Entry
     }
 }
 
-// The state that the bytes of a run of n atomics hold, put into two lent arrays. What a lent array holds is a list, whose length no rule gives
-// away: it is asked, and told on.
-pub fn load(
-    run: &[u8],
-    n: usize,
-    phase: &mut [u8; MAX_COMPONENTS],
-    last: &mut [u64; MAX_COMPONENTS],
-)
-    requires { ⌜ (n ≤ maxComponents) × (length (now phase) ≡ maxComponents) × (length (now last) ≡ maxComponents) ⌝ }
-    ensures { λ _. ⌜ (entriesOf n (held (now (phase .exit)) (now (last .exit))) ≡ toRun n (now (run .entry)) .entries)
-        × (length (now (phase .exit)) ≡ maxComponents) × (length (now (last .exit)) ≡ maxComponents) ⌝ }
+// The state that the bytes of a run of n atomics hold; when something is due is not carried yet.
+pub fn load(run: &[u8], n: usize, state: &mut [u64; STATE_SIZE])
+    requires { ⌜ n ≤ maxComponents ⌝ }
+    ensures { λ _. ⌜ entriesOf n (heldIn (now (state .exit))) ≡ toRun n (now (run .entry)) .entries ⌝ }
 {
+    run_state::whole(state);
     let mut i: usize = 0;
     while i < n {
         let e = entry_at(run, i);
-        run_state::put_at(phase, last, i, e.phase, e.last);
+        run_state::put_at(state, i, e.phase, e.last);
         i = i + 1;
     }
 }
@@ -147,60 +141,51 @@ fn wide(x: u8) -> u64
     x as u64
 }
 
-fn put_entry(run: &mut [u8], phase: &[u8; MAX_COMPONENTS], last: &[u64; MAX_COMPONENTS], i: usize)
+fn put_entry(run: &mut [u8], state: &[u64; STATE_SIZE], i: usize)
     requires { ⌜ (i < maxComponents) × (runLength (i + 1) ≤ length (now run)) ⌝ }
-    ensures { λ _. ⌜ now (run .exit) ≡ sets (now (run .entry)) (runLength i) (entryBytes (heldAt (held (now (phase .entry)) (now (last .entry))) i)) ⌝ }
+    ensures { λ _. ⌜ now (run .exit) ≡ sets (now (run .entry)) (runLength i) (entryBytes (heldAt (heldIn (now (state .entry))) i)) ⌝ }
 {
     let at = HEAD_SIZE + ENTRY_SIZE * i;
-    let since = run_state::last_at(last, i);
-    little_endian::put_number(run, at, 1, wide(run_state::phase_at(phase, i)));
+    let since = run_state::last_at(state, i);
+    little_endian::put_number(run, at, 1, wide(run_state::phase_at(state, i)));
     little_endian::put_number(run, at + 1, 8, since.0);
 }
 
-fn put_entries(run: &mut [u8], n: usize, phase: &[u8; MAX_COMPONENTS], last: &[u64; MAX_COMPONENTS])
+fn put_entries(run: &mut [u8], n: usize, state: &[u64; STATE_SIZE])
     requires { ⌜ (n ≤ maxComponents) × (runLength n ≤ length (now run)) ⌝ }
-    ensures { λ _. ⌜ now (run .exit) ≡ sets (now (run .entry)) (runLength 0) (entryRows (held (now (phase .entry)) (now (last .entry))) 0 n) ⌝ }
+    ensures { λ _. ⌜ now (run .exit) ≡ sets (now (run .entry)) (runLength 0) (entryRows (heldIn (now (state .entry))) 0 n) ⌝ }
 {
     let mut i: usize = 0;
     while i < n {
-        put_entry(run, phase, last, i);
+        put_entry(run, state, i);
         i = i + 1;
     }
 }
 
 // The run of the first n atomics of a state, at the front of a buffer that is long enough; the bytes beyond it stay.
-pub fn store(
-    run: &mut [u8],
-    opening: Moment,
-    n: usize,
-    phase: &[u8; MAX_COMPONENTS],
-    last: &[u64; MAX_COMPONENTS],
-)
+pub fn store(run: &mut [u8], opening: Moment, n: usize, state: &[u64; STATE_SIZE])
     requires { ⌜ (n ≤ maxComponents) × (runLength n ≤ length (now run)) ⌝ }
-    ensures { λ _. ⌜ now (run .exit) ≡ stored (runBytes (runIn (opening .0) n (held (now (phase .entry)) (now (last .entry))))) (now (run .entry)) ⌝ }
+    ensures { λ _. ⌜ now (run .exit) ≡ stored (runBytes (runIn (opening .0) n (heldIn (now (state .entry))))) (now (run .entry)) ⌝ }
 {
     little_endian::put_number(run, 0, 8, opening.0);
     little_endian::put_number(run, 8, 2, n as u64);
-    put_entries(run, n, phase, last);
+    put_entries(run, n, state);
 }
 
 // ---- the start
 
 // Every atomic in its initial phase since moment 0.
-pub fn start_state(
-    components: &[u8],
-    phase: &mut [u8; MAX_COMPONENTS],
-    last: &mut [u64; MAX_COMPONENTS],
-)
-    requires { ⌜ (length (componentsIn (now components)) ≤ maxComponents) × (length (now phase) ≡ maxComponents) × (length (now last) ≡ maxComponents) ⌝ }
-    ensures { λ _. ⌜ entriesOf (length (atomics (componentsIn (now (components .entry))))) (held (now (phase .exit)) (now (last .exit))) ≡ startEntries (componentsIn (now (components .entry))) ⌝ }
+pub fn start_state(components: &[u8], state: &mut [u64; STATE_SIZE])
+    requires { ⌜ length (componentsIn (now components)) ≤ maxComponents ⌝ }
+    ensures { λ _. ⌜ entriesOf (length (atomics (componentsIn (now (components .entry))))) (heldIn (now (state .exit))) ≡ startEntries (componentsIn (now (components .entry))) ⌝ }
 {
+    run_state::whole(state);
     let n = component_count(components);
     let mut k: usize = 0;
     let mut c: usize = 0;
     while c < n {
         let own = component_at(components, c);
-        run_state::put_at(phase, last, k, own.initial, Moment(0));
+        run_state::put_at(state, k, own.initial, Moment(0));
         k = k + model_records::one_if(own.kind == 1);
         c = c + 1;
     }

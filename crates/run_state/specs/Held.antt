@@ -1,15 +1,48 @@
--- The entries that a state of the code holds, and a state with one entry changed. Assumes nothing.
-use Prim.Native.Nat.{ℕ}
+-- What the words of a state hold, and a state with one entry changed. Assumes nothing.
+use mathlib.Core.Path.{_≡_}
+use Prim.Native.Nat.{ℕ, _+_, _*_, _%_}
 use mathlib.Core.List.{List, map}
-use lib.ListN.{getD, set}
+use lib.ListN.{getD, set, take, drop}
 use Rattle.definition.specs.Lists.{upFrom}
+use Rattle.definition.specs.Limits.{maxComponents}
 use Rattle.definition.specs.SavedRun.{Entry}
 use Rattle.definition.specs.Advance.{Ended}
 use Rattle.run_state.specs.declared.State.{State}
 
--- The state whose phases and last moments stand in two slices.
-abbrev pub held : List ℕ → List ℕ → State
-held phase last = record { phase = phase; last = last }
+-- ---- the words, by regions
+
+-- where the regions by position begin after the phases: last moments, due moments; and the word of the next due moment
+abbrev pub lastAt : ℕ
+lastAt = maxComponents
+
+abbrev pub endAt : ℕ
+endAt = 2 * maxComponents
+
+abbrev pub nextDueAt : ℕ
+nextDueAt = 3 * maxComponents
+
+abbrev pub stateSize : ℕ
+stateSize = nextDueAt + 1
+
+-- A region by position.
+unfoldable pub row : ℕ → List ℕ → List ℕ
+row at w = take maxComponents (drop at w)
+
+unfoldable pub byteOf : ℕ → ℕ
+byteOf x = x % 256
+
+-- The phases, a byte each, and the last moments.
+unfoldable pub heldIn : List ℕ → State
+heldIn w = record { phase = map byteOf (row 0 w); last = row lastAt w }
+
+-- The due moments.
+unfoldable pub endsIn : List ℕ → List ℕ
+endsIn w = row endAt w
+
+unfoldable pub nextIn : List ℕ → ℕ
+nextIn w = getD w nextDueAt 0
+
+-- ---- states by entries
 
 -- The entries of the first n atomics.
 unfoldable pub entriesOf : ℕ → State → List Entry
@@ -17,6 +50,23 @@ entriesOf n st = map (λ i. record { phase = getD (st .phase) i 0; last = getD (
 
 unfoldable pub changedAt : State → ℕ → ℕ → ℕ → State
 changedAt st i p last = record { phase = set (st .phase) i p; last = set (st .last) i last }
+
+-- ---- one thing written, the others as before
+
+pub record EntryPut (w₀ w : List ℕ) (i p last : ℕ) : Type 0 where
+  pub held : heldIn w ≡ changedAt (heldIn w₀) i p last
+  pub ends : endsIn w ≡ endsIn w₀
+  pub next : nextIn w ≡ nextIn w₀
+
+pub record EndPut (w₀ w : List ℕ) (i end : ℕ) : Type 0 where
+  pub held : heldIn w ≡ heldIn w₀
+  pub ends : endsIn w ≡ set (endsIn w₀) i end
+  pub next : nextIn w ≡ nextIn w₀
+
+pub record NextPut (w₀ w : List ℕ) (due : ℕ) : Type 0 where
+  pub held : heldIn w ≡ heldIn w₀
+  pub ends : endsIn w ≡ endsIn w₀
+  pub next : nextIn w ≡ due
 
 -- The end of a call with the entries that its state holds for n atomics.
 unfoldable pub heldEnd : ℕ → Ended State → Ended (List Entry)

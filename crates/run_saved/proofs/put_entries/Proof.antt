@@ -2,7 +2,7 @@
 use borrow.Author.Needs.{needs}
 use native.Mathlib.Omega.{arith}
 use Rattle.run_saved.proofs.Storing.{rows-put, rows-none}
-use Rattle.run_state.specs.Held.{held}
+use Rattle.run_state.specs.Held.{heldIn}
 use Rattle.run_saved.specs.Runs.{entryRows}
 use Rattle.definition.specs.SavedRun.{runLength}
 use lib.Seq.{sets}
@@ -13,10 +13,10 @@ use Rattle.run_saved.proofs.put_entries.Statement.{statement}
 use Rattle.run_saved.proofs.put_entries.Tie as tie
 
 abbrev Inv-loop : tie.InvT-loop
-Inv-loop run₀ n phase last i₀ run i = (i ≤ n) × (length run ≡ length run₀) × (sets run (runLength i) (entryRows (held phase last) i (n - i)) ≡ sets run₀ (runLength 0) (entryRows (held phase last) 0 (n - 0)))
+Inv-loop run₀ n state i₀ run i = (i ≤ n) × (length run ≡ length run₀) × (sets run (runLength i) (entryRows (heldIn state) i (n - i)) ≡ sets run₀ (runLength 0) (entryRows (heldIn state) 0 (n - 0)))
 
 abbrev μ-loop : tie.MeasureT-loop
-μ-loop run₀ n phase last i₀ run i = n - i
+μ-loop run₀ n state i₀ run i = n - i
 
 loop-holds : tie.Need-loop-holds Inv-loop μ-loop
 loop-holds c = (omega arith, refl, refl)
@@ -31,7 +31,7 @@ loop-again c =
     let at-loop : tie.At-loop Inv-loop μ-loop = search in
     let a = start .args in
     let l = at-loop .loop in
-    (omega arith, after-put-entry .put-entry .kept .0 ∙ l .inv .1, rw (after-put-entry .put-entry .ensures) (rows-put (held (a .phase .now) (a .last .now)) (a .n) (l .i) (l .run) (omega arith)) ∙ l .inv .2)
+    (omega arith, after-put-entry .put-entry .kept .0 ∙ l .inv .1, rw (after-put-entry .put-entry .ensures) (rows-put (heldIn (a .state .now)) (a .n) (l .i) (l .run) (omega arith)) ∙ l .inv .2)
 
 same-length : tie.Need-same-length Inv-loop μ-loop
 same-length c = c .before .loop .inv .1
@@ -42,7 +42,7 @@ returns c =
     let a = start .args in
     let l = c .before .loop in
     let z : a .n - 0 ≡ a .n = omega arith in
-    sym (rows-none (held (a .phase .now) (a .last .now)) (l .i) (a .n - l .i) (runLength (l .i)) (l .run) (omega arith)) ∙ l .inv .2 ∙ ap (λ k. sets (a .run .now) (runLength 0) (entryRows (held (a .phase .now) (a .last .now)) 0 k)) z
+    sym (rows-none (heldIn (a .state .now)) (l .i) (a .n - l .i) (runLength (l .i)) (l .run) (omega arith)) ∙ l .inv .2 ∙ ap (λ k. sets (a .run .now) (runLength 0) (entryRows (heldIn (a .state .now)) 0 k)) z
 
 pub put-entries-spec : {M : Type 1} → statement M
 put-entries-spec =

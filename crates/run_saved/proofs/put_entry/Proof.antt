@@ -1,7 +1,7 @@
 -- Two stores in a row are the entry (`entry-put`).
 use borrow.Author.Needs.{needs}
 use Rattle.run_saved.proofs.Storing.{entry-put}
-use Rattle.run_state.specs.Held.{held}
+use Rattle.run_state.specs.Held.{heldIn}
 use Rattle.run_saved.specs.Runs.{heldAt}
 use Rattle.definition.specs.SavedRun.{runLength}
 use Rattle.run_saved.proofs.put_entry.Statement.{statement}
@@ -21,7 +21,7 @@ returns c =
     let after-put-number : tie.After-put-number = search in let after-wide : tie.After-wide = search in
     let after-phase-at : tie.After-phase-at = search in let after-last-at : tie.After-last-at = search in
     let a = start .args in
-    rw (after-put-number2 .put-number2 .ensures, after-put-number .put-number .ensures, after-wide .wide .ensures, after-phase-at .phase-at .ensures, after-last-at .last-at .ensures) (entry-put (a .run .now) (a .i) (heldAt (held (a .phase .now) (a .last .now)) (a .i)))
+    rw (after-put-number2 .put-number2 .ensures, after-put-number .put-number .ensures, after-wide .wide .ensures, after-phase-at .phase-at .ensures, after-last-at .last-at .ensures) (entry-put (a .run .now) (a .i) (heldAt (heldIn (a .state .now)) (a .i)))
 
 pub put-entry-spec : {M : Type 1} → statement M
 put-entry-spec =

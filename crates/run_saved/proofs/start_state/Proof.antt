@@ -5,8 +5,9 @@ use Rattle.run_saved.proofs.Starting.{startedTo, started-none, started-
 use Rattle.run_saved.proofs.Fitting.{atomic-said}
 use Rattle.run_saved.proofs.Entries.{Wide, wide-changed}
 use Rattle.model_records.proofs.Counting.{kept-more, one-most}
+use Rattle.run_state.proofs.Laws.{held-size}
 use Rattle.run_state.specs.declared.State.{State}
-use Rattle.run_state.specs.Held.{held, entriesOf}
+use Rattle.run_state.specs.Held.{heldIn, entriesOf}
 use Rattle.model_records.specs.Values.{componentsIn, componentOf}
 use Rattle.definition.specs.Model.{Component, isAtomic, atomics}
 use Rattle.definition.specs.Lists.{keep, upFrom}
@@ -19,16 +20,16 @@ use Rattle.run_saved.proofs.start_state.Statement.{statement}
 use Rattle.run_saved.proofs.start_state.Tie as tie
 
 abbrev Inv-loop : tie.InvT-loop
-Inv-loop components phase₀ last₀ n k₀ c₀ phase last k c = (c ≤ n) × (k ≤ c) × (k ≡ length (keep (isAtomic (componentsIn components)) (upFrom 0 c))) × Wide (held phase last) × (entriesOf k (held phase last) ≡ startedTo (componentsIn components) c)
+Inv-loop components state₀ n k₀ c₀ state k c = (c ≤ n) × (k ≤ c) × (k ≡ length (keep (isAtomic (componentsIn components)) (upFrom 0 c))) × Wide (heldIn state) × (entriesOf k (heldIn state) ≡ startedTo (componentsIn components) c)
 
 abbrev μ-loop : tie.MeasureT-loop
-μ-loop components phase₀ last₀ n k₀ c₀ phase last k c = n - c
+μ-loop components state₀ n k₀ c₀ state k c = n - c
 
 loop-holds : tie.Need-loop-holds Inv-loop μ-loop
 unfolding keep upFrom
 loop-holds c =
-    let start : tie.Start Inv-loop μ-loop = search in
-    (omega arith, omega arith, refl, (start .pre .1, start .pre .2), started-none (componentsIn (start .args .components .now)) _)
+    let start : tie.Start Inv-loop μ-loop = search in let after-whole : tie.After-whole Inv-loop μ-loop = search in
+    (omega arith, omega arith, refl, held-size _ (after-whole .whole .ensures), started-none (componentsIn (start .args .components .now)) _)
 
 add-k : tie.Need-add-k Inv-loop μ-loop
 add-k c =
@@ -46,13 +47,13 @@ loop-again c =
     let own = after-component-at .component-at .result in
     let g = atomic-said cs (l .c) (componentOf own) (after-component-at .component-at .ensures) in
     let o = c .one-if .ensures ∙ ap (λ (b : Bool). cond b 1 0) g in
-    let st = held (l .phase) (l .last) in
-    let new = sym (after-put-at .put-at .ensures) in (
+    let st = heldIn (l .state) in
+    let new = sym (after-put-at .put-at .ensures .held) in (
       omega arith,
       omega (arith, c .one-if .ensures, one-most (eqb (own .kind) 1)),
       ap₂ _+_ (l .inv .2) o ∙ kept-more (isAtomic cs) (l .c),
       subst Wide new (wide-changed st (l .k) (own .initial) 0 (l .inv .3)),
-      subst (λ (s : State). entriesOf (l .k + c .one-if .result) s ≡ startedTo cs (l .c + 1)) new (rw o (started-more cs st (l .c) (l .k) (own .initial) (l .inv .3) (omega (arith, after-component-count .component-count .ensures, start .pre .0)) (ap (λ (k : Component). k .initial) (after-component-at .component-at .ensures)) (l .inv .4))),
+      subst (λ (s : State). entriesOf (l .k + c .one-if .result) s ≡ startedTo cs (l .c + 1)) new (rw o (started-more cs st (l .c) (l .k) (own .initial) (l .inv .3) (omega (arith, after-component-count .component-count .ensures, start .pre)) (ap (λ (k : Component). k .initial) (after-component-at .component-at .ensures)) (l .inv .4))),
     )
 
 returns : tie.Need-returns Inv-loop μ-loop
@@ -66,5 +67,5 @@ returns c =
 
 pub start-state-spec : {M : Type 1} → statement M
 start-state-spec =
-    tie.close (tie.spec Inv-loop μ-loop (λ c κs. search needs) loop-holds (λ c κs. search needs) (λ c κs. search needs) (λ c κs. search needs) add-k
+    tie.close (tie.spec Inv-loop μ-loop (λ c κs. search needs) (λ c κs. search needs) loop-holds (λ c κs. search needs) (λ c κs. search needs) (λ c κs. search needs) add-k
     (λ c. search needs) (λ c. search needs) loop-again returns)

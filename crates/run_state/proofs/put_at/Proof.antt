@@ -1,12 +1,15 @@
--- The two stores are the two `set`s of `changedAt`.
+-- Two regions are written, the others stay.
 use borrow.Author.Needs.{needs}
-use Rattle.run_state.specs.Held.{changedAt}
+use denote.Ref.{now}
+use Rattle.run_state.proofs.Laws.{entry-put}
 use Rattle.run_state.proofs.put_at.Statement.{statement}
 use Rattle.run_state.proofs.put_at.Tie as tie
 
 returns : tie.Need-returns
-unfolding changedAt
-returns c = search needs
+returns c =
+    let start : tie.Start = search in let after-wide : tie.After-wide = search in
+    let a = start .args in
+    rw (after-wide .wide .ensures) (entry-put (a .position) (a .phase) (a .since .0) (now (a .state)) (start .pre) search)
 
 pub put-at-spec : {M : Type 1} → statement M
-put-at-spec = tie.close (tie.spec (λ c. search needs) (λ c. search needs) (λ c. search needs) returns)
+put-at-spec = tie.close (tie.spec (λ c. search needs) (λ c. search needs) (λ c. search needs) (λ c. search needs) (λ c. search needs) (λ c. search needs) returns)
