@@ -1,21 +1,22 @@
 // When something is due, by the tables of a call: an atomic by its phase and last moment, a coupled component by the least among its
-// children. Due moments are carried beside the state, by position, as numbers: 2^64 - 1 for never, which is no moment that a run comes to.
+// children. Due moments are carried in the state, by position, as numbers: 2^64 - 1 for never, which is no moment that a run comes to.
 ghost use mathlib.Core.Path.{_≡_};
 ghost use Prim.Native.Nat.{_+_, _<_, _≤_, min};
-ghost use lib.ListN.{length, getD, set};
+ghost use lib.ListN.{getD};
 ghost use Rattle.definition.specs.Limits.{maxComponents};
-ghost use Rattle.definition.specs.Engine.{dueNumber};
 ghost use Rattle.model_records.specs.Values.{phaseOf, phasesIn};
-ghost use Rattle.run_state.specs.Held.{held};
+ghost use Rattle.run_state.specs.Held.{heldIn, endsIn, EndPut};
 ghost use Rattle.spec_step.specs.Tables.{positionsAt, atomicAt};
 ghost use Rattle.spec_step.specs.Ranges.{InRange};
-ghost use Rattle.spec_step.specs.Carried.{Carried, endBelow, nextEnd};
-ghost use Rattle.spec_step.specs.TableStep.{recordOf, phaseIn, dueIn};
+ghost use Rattle.spec_step.specs.Carried.{endBelow, nextEnd};
+ghost use Rattle.spec_step.specs.TableStep.{recordOf, phaseIn};
+ghost use Rattle.step_due.specs.Due.{endFor, CarriedIn};
 use clock::Moment;
 use limits::MAX_COMPONENTS;
 use little_endian::size;
 use little_endian::size16;
 use model_records::Phase;
+use run_state::STATE_SIZE;
 use table_words::CHILD_AT;
 use table_words::KINDS_AT;
 use table_words::NUMBERS_AT;
@@ -42,17 +43,10 @@ pub fn phase_in(phases: &[u8], tables: &[u16; TABLE_SIZE], c: u16, p: u8) -> Pha
 
 // ---- due moments by position
 
-// An array tells its length where it is lent as a slice. For the proofs alone: nothing is run.
-pub fn whole(ends: &[u64; MAX_COMPONENTS])
-    ensures { λ _. ⌜ length (now (ends .entry)) ≡ maxComponents ⌝ }
-{
-    let _all: &[u64] = ends;
-}
-
 // When the atomic c is due that is in phase p since a moment.
 fn end_since(phases: &[u8], tables: &[u16; TABLE_SIZE], c: u16, p: u8, since: Moment) -> u64
     requires { ⌜ c < maxComponents ⌝ }
-    ensures { λ r. ⌜ r ≡ dueNumber (dueIn (phasesIn (now (phases .entry))) (now (tables .entry)) c p (since .0)) ⌝ }
+    ensures { λ r. ⌜ r ≡ endFor (now (phases .entry)) (now (tables .entry)) c p (since .0) ⌝ }
 {
     let own = phase_in(phases, tables, c, p);
     clock_due::due_number(clock_due::due_after(since, own.advance))
@@ -65,35 +59,29 @@ pub fn put_end(
     tables: &[u16; TABLE_SIZE],
     c: u16,
     p: u8,
-    last: &[u64; MAX_COMPONENTS],
+    state: &mut [u64; STATE_SIZE],
     i: u8,
-    ends: &mut [u64; MAX_COMPONENTS],
 )
     requires { ⌜ (i < maxComponents) × (c < maxComponents) ⌝ }
-    ensures { λ _. ⌜ now (ends .exit) ≡ set (now (ends .entry)) i (dueNumber (dueIn (phasesIn (now (phases .entry))) (now (tables .entry)) c p (getD (now (last .entry)) i 0))) ⌝ }
+    ensures { λ _. ⌜ EndPut (now (state .entry)) (now (state .exit)) i
+        (endFor (now (phases .entry)) (now (tables .entry)) c p (getD (heldIn (now (state .entry)) .last) i 0)) ⌝ }
 {
-    let at = size(i);
-    ends[at] = end_since(phases, tables, c, p, run_state::last_at(last, at));
+    let position = size(i);
+    let since = run_state::last_at(state, position);
+    run_state::put_end(state, position, end_since(phases, tables, c, p, since));
 }
 
 // The due moments of n atomics.
-pub fn put_ends(
-    phases: &[u8],
-    tables: &[u16; TABLE_SIZE],
-    n: u8,
-    phase: &[u8; MAX_COMPONENTS],
-    last: &[u64; MAX_COMPONENTS],
-    ends: &mut [u64; MAX_COMPONENTS],
-)
+pub fn put_ends(phases: &[u8], tables: &[u16; TABLE_SIZE], n: u8, state: &mut [u64; STATE_SIZE])
     requires { ⌜ (n ≤ maxComponents) × InRange (now tables) ⌝ }
-    ensures { λ _. ⌜ Carried (phasesIn (now (phases .entry))) (now (tables .entry)) n (held (now (phase .entry)) (now (last .entry))) (now (ends .exit)) ⌝ }
+    ensures { λ _. ⌜ (heldIn (now (state .exit)) ≡ heldIn (now (state .entry))) × CarriedIn (now (phases .entry)) (now (tables .entry)) n (now (state .exit)) ⌝ }
 {
-    whole(ends);
+    run_state::whole(state);
     let mut i: u8 = 0;
     while i < n {
         let c = row_in(tables, NUMBERS_AT, i as u16);
-        let p = run_state::phase_at(phase, size(i));
-        put_end(phases, tables, c, p, last, i, ends);
+        let p = run_state::phase_at(state, size(i));
+        put_end(phases, tables, c, p, state, i);
         i = i + 1;
     }
 }
@@ -117,31 +105,30 @@ fn is_atomic(tables: &[u16; TABLE_SIZE], c: u16) -> bool
 }
 
 // When the atomic c is due.
-fn end_of(tables: &[u16; TABLE_SIZE], ends: &[u64; MAX_COMPONENTS], c: u16) -> u64
+fn end_of(tables: &[u16; TABLE_SIZE], state: &[u64; STATE_SIZE], c: u16) -> u64
     requires { ⌜ (c < maxComponents) × InRange (now tables) ⌝ }
-    ensures { λ r. ⌜ r ≡ getD (now (ends .entry)) (getD (now (tables .entry)) (positionsAt + c) 0) 0 ⌝ }
+    ensures { λ r. ⌜ r ≡ getD (endsIn (now (state .entry))) (getD (now (tables .entry)) (positionsAt + c) 0) 0 ⌝ }
 {
-    let at = size16(row_in(tables, POSITIONS_AT, c));
-    ends[at]
+    run_state::end_at(state, size16(row_in(tables, POSITIONS_AT, c)))
 }
 
 // "A coupled component's earliest due moment is the least among its children": children are numbered above their parent, so the remaining
 // component numbers fall. An atomic child is looked up in place: a call for each would cost more than the look-up.
-fn end_below(tables: &[u16; TABLE_SIZE], ends: &[u64; MAX_COMPONENTS], c: u16) -> u64
+fn end_below(tables: &[u16; TABLE_SIZE], state: &[u64; STATE_SIZE], c: u16) -> u64
     requires { ⌜ (c < maxComponents) × InRange (now tables) ⌝ }
-    ensures { λ r. ⌜ r ≡ endBelow (now (tables .entry)) (now (ends .entry)) maxComponents c ⌝ }
+    ensures { λ r. ⌜ r ≡ endBelow (now (tables .entry)) (endsIn (now (state .entry))) maxComponents c ⌝ }
 {
     if is_atomic(tables, c) {
-        return end_of(tables, ends, c);
+        return end_of(tables, state, c);
     }
     let mut least = NEVER;
     let mut left = MAX_COMPONENTS;
     let mut d = row_in(tables, CHILD_AT, c);
     while (0 < left) & (0 < d) {
         if is_atomic(tables, d) {
-            least = lesser(least, end_of(tables, ends, d));
+            least = lesser(least, end_of(tables, state, d));
         } else {
-            least = lesser(least, end_below(tables, ends, d));
+            least = lesser(least, end_below(tables, state, d));
         }
         d = row_in(tables, SIBLING_AT, d);
         left = left - 1;
@@ -150,9 +137,9 @@ fn end_below(tables: &[u16; TABLE_SIZE], ends: &[u64; MAX_COMPONENTS], c: u16) -
 }
 
 // The whole model's next due moment: the root's.
-pub fn next_end(tables: &[u16; TABLE_SIZE], ends: &[u64; MAX_COMPONENTS]) -> u64
+pub fn next_end(tables: &[u16; TABLE_SIZE], state: &[u64; STATE_SIZE]) -> u64
     requires { ⌜ InRange (now tables) ⌝ }
-    ensures { λ r. ⌜ r ≡ nextEnd (now (tables .entry)) (now (ends .entry)) ⌝ }
+    ensures { λ r. ⌜ r ≡ nextEnd (now (tables .entry)) (endsIn (now (state .entry))) ⌝ }
 {
-    end_below(tables, ends, 0)
+    end_below(tables, state, 0)
 }

@@ -11,6 +11,7 @@ use denote.Ref.{now}
 use borrow.Author.Tests.{ltb-true}
 use Rattle.definition.specs.Limits.{maxComponents, neverMoment}
 use Rattle.law_base.proofs.Tests.{and-left, and-right}
+use Rattle.run_state.specs.Held.{endsIn}
 use Rattle.spec_step.specs.Carried.{leastEnd, endBelow}
 use Rattle.law_step.proofs.Carried.{levels-enough}
 use Rattle.step_due.proofs.Laws.{levelsLeft, childrenFrom, least-more, least-end, end-atomic, end-coupled}
@@ -36,12 +37,12 @@ abbrev end-below-below : ℕ → In 2 end-below-kinds.ps
 end-below-below t = and 2 end-below-kinds.ps (falls 2 end-below-kinds.ps _<_ μ-end-below t) end-below.Pre
 
 abbrev end-below-Inv-loop : end-below-lts.InvT-loop
-end-below-Inv-loop tables ends c least₀ left₀ d₀ least left d =
+end-below-Inv-loop tables state c least₀ left₀ d₀ least left d =
     (left ≤ maxComponents) × (d < maxComponents) × (0 < d → c < d) × (least ≤ neverMoment) ×
-    (min least (leastEnd (endBelow tables ends levelsLeft) (childrenFrom tables left d)) ≡ endBelow tables ends maxComponents c)
+    (min least (leastEnd (endBelow tables (endsIn state) levelsLeft) (childrenFrom tables left d)) ≡ endBelow tables (endsIn state) maxComponents c)
 
 abbrev end-below-μ-loop : end-below-lts.MeasureT-loop
-end-below-μ-loop tables ends c least₀ left₀ d₀ least left d = left
+end-below-μ-loop tables state c least₀ left₀ d₀ least left d = left
 
 abbrev end-below-calls : ℕ → end-below-lts.Claims
 end-below-calls t = (is-atomic-reads.Asked, is-atomic-reads.Learnt, end-of-reads.Asked, end-of-reads.Learnt, row-in-reads.Asked, row-in-reads.Learnt, lesser-reads.Asked, lesser-reads.Learnt, end-below-below t, end-below.Post)
@@ -59,7 +60,7 @@ end-below-returns t c =
     let start : end-below-lts.Start (end-below-calls t) (end-below-at t) end-below.Post end-below-Inv-loop end-below-μ-loop = search in
     let after-is-atomic : end-below-lts.After-is-atomic (end-below-calls t) (end-below-at t) end-below.Post end-below-Inv-loop end-below-μ-loop = search in
     let a = start .args in
-    c .end-of .ensures ∙ end-atomic (now (a .tables)) (now (a .ends)) (a .c) (sym (after-is-atomic .is-atomic .ensures) ∙ c .before .if1 .taken)
+    c .end-of .ensures ∙ end-atomic (now (a .tables)) (endsIn (now (a .state))) (a .c) (sym (after-is-atomic .is-atomic .ensures) ∙ c .before .if1 .taken)
 
 end-below-row-in-requires : (t : ℕ) → end-below-lts.Need-row-in-requires (end-below-calls t) (end-below-at t) end-below.Post end-below-Inv-loop end-below-μ-loop
 end-below-row-in-requires t c κs = search needs
@@ -71,7 +72,7 @@ end-below-loop-holds t c =
     let a = start .args in
     let q = start .pre .1 in
     let child = c .row-in .ensures in
-    (omega arith, rw child (q .1 .children (a .c) (q .0)), rw child (q .1 .children-rise (a .c) (q .0)), omega arith, rw child (end-coupled (now (a .tables)) (now (a .ends)) (a .c) (sym (after-is-atomic .is-atomic .ensures) ∙ c .before .if1 .left)))
+    (omega arith, rw child (q .1 .children (a .c) (q .0)), rw child (q .1 .children-rise (a .c) (q .0)), omega arith, rw child (end-coupled (now (a .tables)) (endsIn (now (a .state))) (a .c) (sym (after-is-atomic .is-atomic .ensures) ∙ c .before .if1 .left)))
 
 end-below-is-atomic-requires-2 : (t : ℕ) → end-below-lts.Need-is-atomic-requires-2 (end-below-calls t) (end-below-at t) end-below.Post end-below-Inv-loop end-below-μ-loop
 end-below-is-atomic-requires-2 t c κs = c .before .loop .inv .1
@@ -126,7 +127,7 @@ end-below-loop-again t c =
     let q = start .pre .1 in
     let l = at-loop .loop in
     let t = now (a .tables) in
-    let es = now (a .ends) in
+    let es = endsIn (now (a .state)) in
     let sibling = c .row-in2 .ensures in
     let p : 0 < l .d = ltb-true 0 (l .d) (and-right (ltb 0 (l .left)) (ltb 0 (l .d)) (in-loop .loop-test .taken)) in
     let all : endBelow t es maxComponents (l .d) ≡ endBelow t es levelsLeft (l .d) = levels-enough t (q .1) es maxComponents levelsLeft (l .d) (l .inv .1) (omega arith) (omega (arith, p)) in
@@ -142,7 +143,7 @@ end-below-returns-2 t c =
     let start : end-below-lts.Start (end-below-calls t) (end-below-at t) end-below.Post end-below-Inv-loop end-below-μ-loop = search in
     let a = start .args in
     let l = c .before .loop in
-    least-end (now (a .tables)) (endBelow (now (a .tables)) (now (a .ends)) levelsLeft) (l .left) (l .d) (l .least) (l .inv .3) (c .loop-test .left) ∙ l .inv .4
+    least-end (now (a .tables)) (endBelow (now (a .tables)) (endsIn (now (a .state))) levelsLeft) (l .left) (l .d) (l .least) (l .inv .3) (c .loop-test .left) ∙ l .inv .4
 
 pub +end-below-spec : {M : Type 1} → statement M
 +end-below-spec = close μ-end-below λ t. end-below-lts.spec (end-below-calls t)

@@ -3,16 +3,16 @@ use borrow.Author.Needs.{needs}
 use Rattle.step_due.proofs.end_of.Statement.{statement}
 use Rattle.step_due.proofs.end_of.Tie as tie
 
-element-copy-out-result : tie.Need-element-copy-out-result
-element-copy-out-result c =
+end-at-requires : tie.Need-end-at-requires
+end-at-requires c κs =
     let start : tie.Start = search in
     let q = start .pre in
     rw (c .size16 .ensures, c .before .row-in .ensures) (q .1 .positions (start .args .c) (q .0))
 
 returns : tie.Need-returns
 returns c =
-    let after-row-in : tie.After-row-in = search in
-    rw (c .before .size16 .ensures, after-row-in .row-in .ensures)
+    let after-row-in : tie.After-row-in = search in let after-size16 : tie.After-size16 = search in
+    rw (c .end-at .ensures, after-size16 .size16 .ensures, after-row-in .row-in .ensures)
 
 pub end-of-spec : {M : Type 1} → statement M
-end-of-spec = tie.close (tie.spec (λ c κs. search needs) (λ c κs. search needs) (λ c. search needs) element-copy-out-result returns)
+end-of-spec = tie.close (tie.spec (λ c κs. search needs) (λ c κs. search needs) end-at-requires returns)

@@ -2,26 +2,27 @@
 use borrow.Author.Needs.{needs}
 use native.Mathlib.Omega.{arith}
 use Prim.Native.Nat.{_≤_, _-_}
-use mathlib.Core.Path.{_≡_, _∙_, ap}
+use mathlib.Core.Path.{_≡_, _∙_, ap, refl}
 use lib.ListN.{length, getD, set, length-set}
 use denote.Ref.{now}
 use Rattle.definition.specs.Limits.{maxComponents}
 use Rattle.definition.specs.Engine.{dueNumber}
 use Rattle.model_records.specs.Values.{phasesIn}
-use Rattle.run_state.specs.Held.{held}
-use Rattle.spec_step.specs.Carried.{Carried}
+use Rattle.run_state.specs.Held.{heldIn, endsIn}
+use Rattle.run_state.proofs.Laws.{ends-size}
+use Rattle.step_due.specs.Due.{CarriedIn}
 use Rattle.step_due.proofs.Laws.{carried-more, due-named}
 use Rattle.step_due.proofs.put_ends.Statement.{statement}
 use Rattle.step_due.proofs.put_ends.Tie as tie
 
 abbrev Inv-loop : tie.InvT-loop
-Inv-loop phases tables n phase last ends₀ i₀ ends i = (i ≤ n) × (length ends ≡ maxComponents) × Carried (phasesIn phases) tables i (held phase last) ends
+Inv-loop phases tables n state₀ i₀ state i = (i ≤ n) × (length (endsIn state) ≡ maxComponents) × (heldIn state ≡ heldIn state₀) × CarriedIn phases tables i state
 
 abbrev μ-loop : tie.MeasureT-loop
-μ-loop phases tables n phase last ends₀ i₀ ends i = n - i
+μ-loop phases tables n state₀ i₀ state i = n - i
 
 loop-holds : tie.Need-loop-holds Inv-loop μ-loop
-loop-holds c = (omega arith, c .whole .ensures, λ j l. absurd (omega arith))
+loop-holds c = (omega arith, ends-size _ (c .whole .ensures), refl, λ j l. absurd (omega arith))
 
 put-end-requires : tie.Need-put-end-requires Inv-loop μ-loop
 put-end-requires c κs =
@@ -36,13 +37,16 @@ loop-again c =
     let at-loop : tie.At-loop Inv-loop μ-loop = search in
     let a = start .args in
     let l = at-loop .loop in
-    let st = held (now (a .phase)) (now (a .last)) in
-    let p : after-phase-at .phase-at .result ≡ getD (now (a .phase)) (l .i) 0 = after-phase-at .phase-at .ensures ∙ ap (λ k. getD (now (a .phase)) k 0) (after-size .size .ensures) in
-    let put = c .put-end .ensures ∙ ap (λ u. set (l .ends) (l .i) (dueNumber u)) (due-named (phasesIn (now (a .phases))) (now (a .tables)) st (l .i) _ _ (after-row-in .row-in .ensures) p) in
-    (omega arith, rw put (simp length-set (l .inv .1)), rw put (carried-more (phasesIn (now (a .phases))) (now (a .tables)) st (l .ends) (l .i) (omega arith) (l .inv .2)))
+    let ps = phasesIn (now (a .phases)) in
+    let t = now (a .tables) in
+    let st = heldIn (l .state) in
+    let p : after-phase-at .phase-at .result ≡ getD (st .phase) (l .i) 0 = after-phase-at .phase-at .ensures ∙ ap (λ k. getD (st .phase) k 0) (after-size .size .ensures) in
+    let put = c .put-end .ensures in
+    let ends = put .ends ∙ ap (λ u. set (endsIn (l .state)) (l .i) (dueNumber u)) (due-named ps t st (l .i) _ _ (after-row-in .row-in .ensures) p) in
+    (omega arith, rw ends (simp length-set (l .inv .1)), put .held ∙ l .inv .2, rw (put .held, ends) (carried-more ps t st (endsIn (l .state)) (l .i) (omega arith) (l .inv .3)))
 
 returns : tie.Need-returns Inv-loop μ-loop
-returns c = λ j l. c .before .loop .inv .2 j (omega arith)
+returns c = (c .before .loop .inv .2, λ j l. c .before .loop .inv .3 j (omega arith))
 
 pub put-ends-spec : {M : Type 1} → statement M
 put-ends-spec =
