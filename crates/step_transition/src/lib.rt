@@ -2,19 +2,18 @@
 ghost use mathlib.Core.Path.{_≡_};
 ghost use mathlib.Core.List.{map};
 ghost use Prim.Native.Nat.{_<_};
-ghost use lib.ListN.{length, getD};
 ghost use Rattle.definition.specs.Limits.{maxComponents};
 ghost use Rattle.definition.specs.Atomic.{ledTo};
 ghost use Rattle.model_records.specs.Values.{phasesIn, rulesIn};
-ghost use Rattle.run_state.specs.Held.{held};
 ghost use Rattle.step_rule.specs.Search.{foundOf};
 ghost use Rattle.law_base.specs.Keys.{messageOf};
-ghost use Rattle.spec_step.specs.TableStep.{phaseIn, decidedIn, confluentIn, changedBy};
+ghost use Rattle.spec_step.specs.TableStep.{phaseIn, decidedIn, confluentIn};
+ghost use Rattle.step_transition.specs.Changes.{changeOf, Changed};
 use clock::Moment;
 use clock::Stay;
-use limits::MAX_COMPONENTS;
 use little_endian::size;
 use little_endian::size16;
+use run_state::STATE_SIZE;
 use step_due::phase_in;
 use step_rule::Found;
 use table_words::ORDERS_AT;
@@ -100,20 +99,12 @@ fn confluent(
     next_of(phases, tables, c, led)
 }
 
-// A lent array of phases has a place for every atomic; nothing is computed.
-fn whole(phase: &[u8; MAX_COMPONENTS])
-    ensures { λ _. ⌜ length (now (phase .entry)) ≡ maxComponents ⌝ }
-{
-    let _all: &[u8] = phase;
-}
-
 // The atomic c at position i, due or not, with its bag. Its phase afterwards is the answer.
 pub fn transition(
     phases: &[u8],
     rules: &[u8],
     tables: &[u16; TABLE_SIZE],
-    phase: &mut [u8; MAX_COMPONENTS],
-    last: &mut [u64; MAX_COMPONENTS],
+    state: &mut [u64; STATE_SIZE],
     at: Moment,
     i: u8,
     c: u16,
@@ -121,29 +112,27 @@ pub fn transition(
     bag: &[u32],
 ) -> u8
     requires { ⌜ (i < maxComponents) × (c < maxComponents) ⌝ }
-    ensures { λ r. ⌜ (held (now (phase .exit)) (now (last .exit))
-        ≡ changedBy (phasesIn (now (phases .entry))) (now (tables .entry)) (rulesIn (now (rules .entry)))
-        (at .0) (held (now (phase .entry)) (now (last .entry))) i c due (map messageOf (now (bag .entry))))
-        × (r ≡ getD (now (phase .exit)) i 0) ⌝ }
+    ensures { λ r. ⌜ Changed (now (state .entry)) (now (state .exit)) i r
+        (changeOf (now (phases .entry)) (now (rules .entry)) (now (tables .entry)) (at .0) (now (state .entry)) i c due (now (bag .entry))) ⌝ }
 {
-    whole(phase);
+    run_state::whole(state);
     let position = size(i);
-    let p = run_state::phase_at(phase, position);
+    let p = run_state::phase_at(state, position);
     if bag.len() == 0 {
         if due {
             let next = next_of(phases, tables, c, p);
-            run_state::put_at(phase, last, position, next, at);
+            run_state::put_at(state, position, next, at);
             return next;
         }
         return p;
     }
     if due {
         let next = confluent(phases, rules, tables, c, p, bag);
-        run_state::put_at(phase, last, position, next, at);
+        run_state::put_at(state, position, next, at);
         return next;
     }
-    let elapsed = at.since(run_state::last_at(last, position));
+    let elapsed = at.since(run_state::last_at(state, position));
     let led = decided(rules, tables, c, p, elapsed, bag);
-    run_state::put_at(phase, last, position, led, at);
+    run_state::put_at(state, position, led, at);
     led
 }
