@@ -12,9 +12,9 @@ ghost use Rattle.spec_step.specs.TablesOf.{TablesOf};
 ghost use Rattle.call_read.specs.Answers.{readOf};
 use accept_routes::Counted;
 use clock::Moment;
-use limits::MAX_COMPONENTS;
 use model_file::Checked;
 use model_file::Counts;
+use run_state::STATE_SIZE;
 use table_words::TABLE_SIZE;
 
 // The number, 0 for success; the phase and the last moment of the atomic at the position; and the whole model's next due moment.
@@ -55,19 +55,11 @@ fn whole_due(file: &[u8], n: Counts, tables: &[u16; TABLE_SIZE], run: &[u8], cou
         × (count ≡ length (atomics (modelOf (now file) n .components))) ⌝ }
     ensures { λ r. ⌜ r ≡ dueNumber (nextDue (modelOf (now (file .entry)) n) (runOf (modelOf (now (file .entry)) n) (now (run .entry)) .entries)) ⌝ }
 {
-    let mut phase = [0u8; MAX_COMPONENTS];
-    let mut last = [0u64; MAX_COMPONENTS];
-    run_saved::load(run, count, &mut phase, &mut last);
-    let mut ends = [0u64; MAX_COMPONENTS];
-    step_due::put_ends(
-        model_file::phases_of(file, n),
-        tables,
-        count as u8,
-        &phase,
-        &last,
-        &mut ends,
-    );
-    step_due::next_end(tables, &ends)
+    let mut state = [0u64; STATE_SIZE];
+    run_saved::load(run, count, &mut state);
+    let phases = model_file::phases_of(file, n);
+    step_due::put_ends(phases, tables, count as u8, &mut state);
+    step_due::next_end(tables, &state)
 }
 
 // The checks of run and position, and the answer, for an accepted model.

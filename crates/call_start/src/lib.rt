@@ -11,9 +11,9 @@ ghost use Rattle.model_records.specs.Values.{componentsIn};
 ghost use Rattle.run_saved.specs.Runs.{bare};
 ghost use Rattle.call_start.specs.Answers.{wroteOf};
 use clock::Moment;
-use limits::MAX_COMPONENTS;
 use model_file::Checked;
 use run_saved::run_size;
+use run_state::STATE_SIZE;
 
 // The number, 0 for success, and the bytes written.
 pub struct Written {
@@ -40,10 +40,9 @@ fn start_run(components: &[u8], run: &mut [u8]) -> Written
             bytes: 0,
         };
     }
-    let mut phase = [0u8; MAX_COMPONENTS];
-    let mut last = [0u64; MAX_COMPONENTS];
-    run_saved::start_state(components, &mut phase, &mut last);
-    run_saved::store(run, Moment(0), n, &phase, &last);
+    let mut state = [0u64; STATE_SIZE];
+    run_saved::start_state(components, &mut state);
+    run_saved::store(run, Moment(0), n, &state);
     Written {
         number: 0,
         bytes: size as u64,

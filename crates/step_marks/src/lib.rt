@@ -7,6 +7,7 @@ ghost use lib.ListN.{getD, set};
 ghost use Rattle.definition.specs.Lists.{isEmpty};
 ghost use Rattle.definition.specs.Limits.{maxComponents, portCount};
 ghost use Rattle.definition.specs.Engine.{toBag};
+ghost use Rattle.run_state.specs.Held.{heldIn, endsIn};
 ghost use Rattle.spec_step.specs.Tables.{countAt, parentsAt, chainRows};
 ghost use Rattle.spec_step.specs.TableStep.{anyOf, isUp, recordOf, raised, mayCome, mayReach, reachedFrom};
 ghost use Rattle.spec_step.specs.Ranges.{maxNodes, InRange};
@@ -18,6 +19,7 @@ use limits::MESSAGE_SIZE;
 use limits::PORT_COUNT;
 use little_endian::size;
 use little_endian::size16;
+use run_state::STATE_SIZE;
 use step_collect::first_link;
 use step_collect::input_node;
 use step_collect::may_come;
@@ -61,20 +63,13 @@ fn mark_for(tables: &[u16; TABLE_SIZE], c: u16, p: u8) -> u32
 }
 
 // The mark of the atomic c at position i.
-fn mark_of(
-    tables: &[u16; TABLE_SIZE],
-    phase: &[u8; MAX_COMPONENTS],
-    ends: &[u64; MAX_COMPONENTS],
-    at: Moment,
-    i: u8,
-    c: u16,
-) -> u32
+fn mark_of(tables: &[u16; TABLE_SIZE], state: &[u64; STATE_SIZE], at: Moment, i: u8, c: u16) -> u32
     requires { ⌜ (i < maxComponents) × (c < maxComponents) ⌝ }
-    ensures { λ r. ⌜ r ≡ endMark (now (tables .entry)) (at .0) (now (phase .entry)) (now (ends .entry)) i c ⌝ }
+    ensures { λ r. ⌜ r ≡ endMark (now (tables .entry)) (at .0) (heldIn (now (state .entry)) .phase) (endsIn (now (state .entry))) i c ⌝ }
 {
     let position = size(i);
-    if ends[position] == at.0 {
-        mark_for(tables, c, run_state::phase_at(phase, position))
+    if run_state::end_at(state, position) == at.0 {
+        mark_for(tables, c, run_state::phase_at(state, position))
     } else {
         0
     }
@@ -92,18 +87,17 @@ fn put_mark(marks: &mut [u32; MAX_COMPONENTS], c: u16, mark: u32)
 fn mark_atomics(
     tables: &[u16; TABLE_SIZE],
     n: u8,
-    phase: &[u8; MAX_COMPONENTS],
-    ends: &[u64; MAX_COMPONENTS],
+    state: &[u64; STATE_SIZE],
     at: Moment,
     marks: &mut [u32; MAX_COMPONENTS],
 )
     requires { ⌜ (n ≤ maxComponents) × InRange (now tables) ⌝ }
-    ensures { λ _. ⌜ now (marks .exit) ≡ endMarked (now (tables .entry)) (at .0) (now (phase .entry)) (now (ends .entry)) n 0 (now (marks .entry)) ⌝ }
+    ensures { λ _. ⌜ now (marks .exit) ≡ endMarked (now (tables .entry)) (at .0) (heldIn (now (state .entry)) .phase) (endsIn (now (state .entry))) n 0 (now (marks .entry)) ⌝ }
 {
     let mut i: u8 = 0;
     while i < n {
         let c = row_in(tables, NUMBERS_AT, i as u16);
-        let mark = mark_of(tables, phase, ends, at, i, c);
+        let mark = mark_of(tables, state, at, i, c);
         put_mark(marks, c, mark);
         i = i + 1;
     }
@@ -199,16 +193,15 @@ fn flag_components(
 pub fn mark(
     tables: &[u16; TABLE_SIZE],
     n: u8,
-    phase: &[u8; MAX_COMPONENTS],
-    ends: &[u64; MAX_COMPONENTS],
+    state: &[u64; STATE_SIZE],
     at: Moment,
     marks: &mut [u32; MAX_COMPONENTS],
 )
     requires { ⌜ (n ≤ maxComponents) × InRange (now tables) ⌝ }
     ensures { λ _. ⌜ now (marks .exit) ≡ raised (now (tables .entry)) (getD (now (tables .entry)) countAt 0 - 1)
-        (endMarked (now (tables .entry)) (at .0) (now (phase .entry)) (now (ends .entry)) n 0 (now (marks .entry))) ⌝ }
+        (endMarked (now (tables .entry)) (at .0) (heldIn (now (state .entry)) .phase) (endsIn (now (state .entry))) n 0 (now (marks .entry))) ⌝ }
 {
-    mark_atomics(tables, n, phase, ends, at, marks);
+    mark_atomics(tables, n, state, at, marks);
     mark_parents(tables, marks);
 }
 

@@ -3,6 +3,7 @@ use borrow.Author.Needs.{needs}
 use Rattle.step_marks.proofs.Laws.{marked-more, marked-none}
 use Rattle.spec_step.specs.Carried.{endMarked}
 use denote.Ref.{now}
+use Rattle.run_state.specs.Held.{heldIn, endsIn}
 use mathlib.Core.Path.{_≡_, _∙_}
 use native.Mathlib.Nat.{sub-zero}
 use Prim.Native.Nat.{_≤_, _-_}
@@ -11,10 +12,10 @@ use Rattle.step_marks.proofs.mark_atomics.Statement.{statement}
 use Rattle.step_marks.proofs.mark_atomics.Tie as tie
 
 abbrev Inv-loop : tie.InvT-loop
-Inv-loop tables n phase ends at marks₀ i₀ marks i = (i ≤ n) × (endMarked tables (at .0) phase ends (n - i) i marks ≡ endMarked tables (at .0) phase ends n 0 marks₀)
+Inv-loop tables n state at marks₀ i₀ marks i = (i ≤ n) × (endMarked tables (at .0) (heldIn state .phase) (endsIn state) (n - i) i marks ≡ endMarked tables (at .0) (heldIn state .phase) (endsIn state) n 0 marks₀)
 
 abbrev μ-loop : tie.MeasureT-loop
-μ-loop tables n phase ends at marks₀ i₀ marks i = n - i
+μ-loop tables n state at marks₀ i₀ marks i = n - i
 
 loop-holds : tie.Need-loop-holds Inv-loop μ-loop
 loop-holds c = (omega arith, rw sub-zero)
@@ -38,14 +39,14 @@ loop-again c =
     let after-row-in : tie.After-row-in Inv-loop μ-loop = search in let at-loop : tie.At-loop Inv-loop μ-loop = search in
     let a = start .args in
     let l = at-loop .loop in
-    (omega arith, rw (c .put-mark .ensures, after-mark-of .mark-of .ensures, after-row-in .row-in .ensures) (marked-more (now (a .tables)) (a .at .0) (now (a .phase)) (now (a .ends)) (a .n) (l .i) (l .marks) (omega arith) ∙ l .inv .1))
+    (omega arith, rw (c .put-mark .ensures, after-mark-of .mark-of .ensures, after-row-in .row-in .ensures) (marked-more (now (a .tables)) (a .at .0) (heldIn (now (a .state)) .phase) (endsIn (now (a .state))) (a .n) (l .i) (l .marks) (omega arith) ∙ l .inv .1))
 
 returns : tie.Need-returns Inv-loop μ-loop
 returns c =
     let start : tie.Start Inv-loop μ-loop = search in
     let a = start .args in
     let l = c .before .loop in
-    marked-none (now (a .tables)) (a .at .0) (now (a .phase)) (now (a .ends)) (a .n) (l .i) (l .marks) (omega arith) ∙ l .inv .1
+    marked-none (now (a .tables)) (a .at .0) (heldIn (now (a .state)) .phase) (endsIn (now (a .state))) (a .n) (l .i) (l .marks) (omega arith) ∙ l .inv .1
 
 pub mark-atomics-spec : {M : Type 1} → statement M
 mark-atomics-spec =
