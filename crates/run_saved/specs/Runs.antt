@@ -1,13 +1,14 @@
 -- What a saved run's code stands for: the model that runs look at, an entry, and the run of a state. Assumes nothing.
+use mathlib.Core.Path.{_≡_}
 use Prim.Native.Nat.{ℕ}
 use mathlib.Core.List.{List, [], map}
 use mathlib.Core.Bool.{Bool}
-use lib.ListN.{drop, getD}
+use lib.ListN.{drop, getD, length}
 use Rattle.definition.specs.Lists.{concat, upFrom}
 use Rattle.definition.specs.Bytes.{Bytes}
-use Rattle.definition.specs.Limits.{headSize, entrySize}
+use Rattle.definition.specs.Limits.{headSize, entrySize, maxComponents}
 use Rattle.definition.specs.Model.{Component, Model, componentAt, atomics}
-use Rattle.definition.specs.SavedRun.{Entry, Run, toEntry, entryBytes, runOf, entriesFit}
+use Rattle.definition.specs.SavedRun.{Entry, Run, toEntry, toRun, entryBytes, runOf, entriesFit}
 use Rattle.law_bytes.specs.Parts.{row}
 use Rattle.model_records.specs.Values.{modelIn}
 use Rattle.run_state.specs.declared.State.{State}
@@ -34,6 +35,12 @@ unfoldable pub entriesFitIn : Bytes → Bytes → Bytes → Bool
 entriesFitIn components phases s =
     let m = bare components phases in
     entriesFit m (runOf m s .opening) (atomics (m .components)) (runOf m s .entries)
+
+-- The state that the bytes of a run of n atomics hold, with a place for each position.
+pub record Loaded (s : Bytes) (n : ℕ) (st : State) : Type 0 where
+  pub entries : entriesOf n st ≡ toRun n s .entries
+  pub phases : length (st .phase) ≡ maxComponents
+  pub lasts : length (st .last) ≡ maxComponents
 
 -- ---- a state's bytes
 

@@ -8,12 +8,12 @@ ghost use lib.Seq.{sets};
 ghost use Rattle.definition.specs.Bytes.{numberAt, stored};
 ghost use Rattle.definition.specs.Limits.{maxComponents};
 ghost use Rattle.definition.specs.Model.{noPhase, atomics};
-ghost use Rattle.definition.specs.SavedRun.{runLength, toRun, entryBytes, runBytes, notBefore, runFits};
+ghost use Rattle.definition.specs.SavedRun.{runLength, entryBytes, runBytes, notBefore, runFits};
 ghost use Rattle.model_records.specs.Values.{componentsIn, phasesIn};
 ghost use Rattle.clock_due.specs.After.{dueAfter};
 ghost use Rattle.clock.specs.Times.{timeOf};
 ghost use Rattle.run_state.specs.Held.{heldIn, entriesOf};
-ghost use Rattle.run_saved.specs.Runs.{bare, entryOf, entryAt, entriesFitIn, heldAt, entryRows, runIn, startEntries};
+ghost use Rattle.run_saved.specs.Runs.{Loaded, bare, entryOf, entryAt, entriesFitIn, heldAt, entryRows, runIn, startEntries};
 use clock::Due;
 use clock::Moment;
 use model_records::Component;
@@ -64,7 +64,7 @@ pub fn entry_at(run: &[u8], i: usize) -> Entry
 // The state that the bytes of a run of n atomics hold; when something is due is not carried yet.
 pub fn load(run: &[u8], n: usize, state: &mut [u64; STATE_SIZE])
     requires { ⌜ n ≤ maxComponents ⌝ }
-    ensures { λ _. ⌜ entriesOf n (heldIn (now (state .exit))) ≡ toRun n (now (run .entry)) .entries ⌝ }
+    ensures { λ _. ⌜ Loaded (now (run .entry)) n (heldIn (now (state .exit))) ⌝ }
 {
     run_state::whole(state);
     let mut i: usize = 0;

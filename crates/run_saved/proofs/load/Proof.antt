@@ -41,7 +41,7 @@ returns c =
     let start : tie.Start Inv-loop μ-loop = search in
     let l = c .before .loop in
     let e : l .i ≡ start .args .n = omega arith in
-    rw e at (l .inv .2)
+    record { entries = rw e at (l .inv .2); phases = l .inv .1 .0; lasts = l .inv .1 .1 }
 
 pub load-spec : {M : Type 1} → statement M
 load-spec =
