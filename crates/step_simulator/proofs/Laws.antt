@@ -1,11 +1,11 @@
 -- What the buffers hold after a bag was pulled and after it was sorted; one atomic more. Assumes nothing.
 use mathlib.Core.Path.{_≡_, sym, ap, _∙_, subst}
 use mathlib.Core.List.{List, [], _∷_, _++_, map}
-use Prim.Native.Nat.{ℕ, suc, _+_, _-_, _≤_, _<_, min}
+use Prim.Native.Nat.{ℕ, suc, _+_, _-_, _/_, _≤_, _<_, min}
 use native.Mathlib.Omega.{arith}
 use lib.Dec.{leb, eqb}
 use lib.ListN.{length, take, drop, getD, set, replicate, length-map, length-take}
-use lib.Seq.{take-at, length-take-le}
+use lib.Seq.{length-take-le, length-front, take-append-le}
 use mathlib.Core.Bool.{Bool, true, cond, _&&_, not}
 use Rattle.definition.specs.Lists.{isEmpty, sortBy}
 use Rattle.definition.specs.Limits.{maxComponents, maxAncestors, portCount}
@@ -14,7 +14,9 @@ use Rattle.definition.specs.Engine.{dueNumber}
 use Rattle.clock.specs.Times.{latest}
 use Rattle.run_state.specs.declared.State.{State}
 use Rattle.sort.proofs.Keys.{sort-messages}
-use Rattle.sort.proofs.Merging.{length-sort}
+use Rattle.sort.specs.Sorted.{SortedIn}
+use Rattle.sort.proofs.Merging.{front-sorted}
+use Rattle.step_simulator.specs.Simulator.{RootBag}
 use Rattle.law_routes.specs.Nodes.{inputNode, outputNode}
 use Rattle.law_base.specs.Keys.{messageOf}
 use Rattle.spec_step.specs.Put.{putPorts, keysOf}
@@ -51,13 +53,32 @@ module _ (ps : List Phase) (t es fs : List ℕ) where
       let f : ℕ → List ℕ = λ q. pulledBelow ps t es fs maxAncestors (outputNode 0 q) in
       subst (λ (st : List ℕ × ℕ). Front (length b) st (keysOf f portCount 0)) (sym e) (bag-front f portCount 0 b)
 
--- The front of a buffer, sorted.
-pub sorted-front : (n : ℕ) (b d : List ℕ) → n ≤ length b → d ≡ sortBy leb (take n b) ++ drop n b
-    → map messageOf (take n d) ≡ sortBy messageLe (map messageOf (take n b))
-sorted-front n b d h e =
-    ap (λ l. map messageOf (take n l)) e
-    ∙ ap (map messageOf) (take-at (sortBy leb (take n b)) (drop n b) n (length-sort (take n b) ∙ length-take-le n b h))
-    ∙ sort-messages (take n b)
+-- The keys in the first quarter of a buffer, sorted there: the rest of it, but for the end, stays.
+module _ (b d keys : List ℕ) (k : ℕ) (f : Front (length (take (rootRoom (length b)) b)) (d, k) keys) where
+  abbrev quarter : ℕ
+  quarter = rootRoom (length b)
+
+  abbrev whole : List ℕ
+  whole = d ++ drop quarter b
+
+  lent : length (take quarter b) ≡ quarter
+  lent = length-take-le quarter b (omega arith)
+
+  pub same-size : length whole ≡ length b
+  same-size = length-front b d quarter (f .size)
+
+  pub sort-fits : k + k / 2 ≤ length whole
+  sort-fits = omega (arith, f .position, lent, same-size)
+
+  pub root-sorted : (exit : List ℕ) → SortedIn k (k / 2) whole exit → RootBag (length b) exit k keys
+  root-sorted exit e = record {
+    size = f .position ∙ ap (λ n. min n (length keys)) lent;
+    bag =
+      ap (map messageOf) (front-sorted k (k / 2) whole exit sort-fits e ∙ ap (sortBy leb) front) ∙ sort-messages (take quarter keys);
+  }
+    where
+      front : take k whole ≡ take quarter keys
+      front = take-append-le k d (drop quarter b) (omega (arith, f .position, f .size)) ∙ f .held ∙ ap (λ n. take n keys) lent
 
 -- one atomic more
 module _ (ps : List Phase) (t : List ℕ) (rs : List Rule) (es fs : List ℕ) (room now : ℕ) (x : Bag) (n i : ℕ) (st : State) where

@@ -1,21 +1,24 @@
 -- The step of the nest on the tables of a call, over the bytes of the phase and rule sections. Assumes nothing.
 use mathlib.Core.Path.{_≡_}
 use mathlib.Core.List.{List, map}
-use Prim.Native.Nat.{ℕ, _≤_, _<_}
-use lib.ListN.{length, take}
+use Prim.Native.Nat.{ℕ, _+_, _≤_, _<_, min}
+use lib.ListN.{length, take, getD, set}
 use Rattle.definition.specs.Lists.{sortBy}
 use Rattle.definition.specs.Bytes.{Bytes}
 use Rattle.definition.specs.Limits.{maxComponents}
 use Rattle.definition.specs.Model.{Bag, messageLe}
 use Rattle.definition.specs.Devs.{Time}
+use Rattle.definition.specs.Engine.{toBag, dueNumber}
 use Rattle.definition.specs.Step.{Stepped, Simulator}
 use Rattle.law_base.specs.Keys.{messageOf}
 use Rattle.clock.specs.Times.{latest}
 use Rattle.run_state.specs.declared.State.{State}
+use Rattle.run_state.specs.Held.{heldIn, endsIn}
 use Rattle.model_records.specs.Values.{phasesIn, rulesIn}
+use Rattle.step_due.specs.Due.{CarriedIn}
 use Rattle.spec_step.specs.Ranges.{InRange}
-use Rattle.spec_step.specs.Carried.{Carried}
-use Rattle.spec_step.specs.TableStep.{rootRoom}
+use Rattle.spec_step.specs.Tables.{numbersAt}
+use Rattle.spec_step.specs.TableStep.{rootRoom, isUp, keysInto, dueAtPosition}
 use Rattle.spec_step.specs.TableStep as T
 
 abbrev pub tableNext : Bytes → List ℕ → State → Time
@@ -28,17 +31,56 @@ tableStep phases rules tables n room now x st = T.tableStep (phasesIn phases) ta
 abbrev pub tableSim : Bytes → Bytes → List ℕ → ℕ → ℕ → Simulator State
 tableSim phases rules tables n room = record { next = tableNext phases tables; step = tableStep phases rules tables n room }
 
--- What a step at `now` asks: a moment that another may follow, tables in range, words for the bags, and the state's due moments.
-pub record CanStep (phases : Bytes) (tables : List ℕ) (n now : ℕ) (st : State) (ends : List ℕ) (work keys : ℕ) : Type 0 where
-  pub few : n ≤ maxComponents
-  pub moment : now < latest
-  pub in-range : InRange tables
-  pub rows : keys ≡ rootRoom work
-  pub carried : Carried (phasesIn phases) tables n st ends
+-- ---- one atomic
 
--- What it leaves: the state with its due moments, and the root's bag, sorted, in the first `count` words of `keys`.
-pub record HasStepped (phases : Bytes) (tables : List ℕ) (n : ℕ) (st : State) (ends keys : List ℕ) (count : ℕ) (r : Stepped State) : Type 0 where
-  pub state : st ≡ r .state
-  pub carried : Carried (phasesIn phases) tables n st ends
+-- The atomic at position i after its transition, with the marks es and flags fs, where its bag has room for so many messages.
+abbrev pub changedOne : Bytes → Bytes → List ℕ → List ℕ → List ℕ → ℕ → ℕ → Bytes → State → ℕ → State
+changedOne phases rules tables es fs room now given st i =
+    let c = getD tables (numbersAt + i) 0 in
+    T.changedBy (phasesIn phases) tables (rulesIn rules) now st i c (isUp es c) (map messageOf (take room (keysInto (phasesIn phases) tables es fs (toBag given) c)))
+
+-- A position whose due moment is carried.
+pub record CanChange (phases : Bytes) (tables w : List ℕ) (i : ℕ) : Type 0 where
+  pub position : i < maxComponents
+  pub in-range : InRange tables
+  pub carried : getD (endsIn w) i 0 ≡ dueNumber (dueAtPosition (phasesIn phases) tables (heldIn w) i)
+
+pub record OneChanged (phases : Bytes) (tables w₀ w : List ℕ) (i : ℕ) (after : State) : Type 0 where
+  pub state : heldIn w ≡ after
+  pub ends : endsIn w ≡ set (endsIn w₀) i (dueNumber (dueAtPosition (phasesIn phases) tables (heldIn w) i))
+
+-- ---- all atomics
+
+-- n atomics from position i on.
+abbrev pub changedAll : Bytes → Bytes → List ℕ → List ℕ → List ℕ → ℕ → ℕ → Bytes → ℕ → ℕ → State → State
+changedAll phases rules tables es fs room now given n i st = T.changedFrom (phasesIn phases) tables (rulesIn rules) es fs room now (toBag given) n i st
+
+pub record Changeable (phases : Bytes) (tables : List ℕ) (n : ℕ) (w : List ℕ) : Type 0 where
+  pub few : n ≤ maxComponents
+  pub in-range : InRange tables
+  pub carried : CarriedIn phases tables n w
+
+pub record AllChanged (phases : Bytes) (tables : List ℕ) (n : ℕ) (w : List ℕ) (after : State) : Type 0 where
+  pub state : heldIn w ≡ after
+  pub carried : CarriedIn phases tables n w
+
+-- ---- the root's bag
+
+-- As many of these keys as a quarter of the room takes, as messages, sorted: the first `count` words.
+pub record RootBag (room : ℕ) (work : List ℕ) (count : ℕ) (keys : List ℕ) : Type 0 where
+  pub size : count ≡ min (rootRoom room) (length keys)
+  pub bag : map messageOf (take count work) ≡ sortBy messageLe (map messageOf (take (rootRoom room) keys))
+
+-- ---- the step
+
+-- What a step at `now` asks: a moment that another may follow, tables in range, and the state's due moments.
+pub record CanStep (phases : Bytes) (tables : List ℕ) (n now : ℕ) (w : List ℕ) : Type 0 where
+  pub moment : now < latest
+  pub changeable : Changeable phases tables n w
+
+-- What it leaves: the state with its due moments, and the root's bag, sorted, in the first `count` words of `work`.
+pub record HasStepped (phases : Bytes) (tables : List ℕ) (n : ℕ) (w work : List ℕ) (count : ℕ) (r : Stepped State) : Type 0 where
+  pub state : heldIn w ≡ r .state
+  pub carried : CarriedIn phases tables n w
   pub size : count ≡ length (r .out)
-  pub bag : map messageOf (take count keys) ≡ sortBy messageLe (r .out)
+  pub bag : map messageOf (take count work) ≡ sortBy messageLe (r .out)

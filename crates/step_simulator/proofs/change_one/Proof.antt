@@ -3,81 +3,119 @@ use borrow.Author.Needs.{needs}
 use native.Mathlib.Omega.{arith}
 use Rattle.step_simulator.proofs.Laws.{into-held, keys-unreached}
 use Rattle.definition.specs.Engine.{toBag, dueNumber}
+use Rattle.definition.specs.Limits.{maxComponents}
 use Rattle.model_records.specs.Values.{phasesIn, rulesIn}
+use Rattle.spec_step.specs.Tables.{numbersAt}
 use Rattle.spec_step.specs.TableStep.{isUp, keysInto}
 use denote.Ref.{now}
 use lib.Seq.{length-take-le, set-getD}
 use mathlib.Core.Path.{_≡_, _∙_, sym, ap}
+use Prim.Native.Nat.{_+_, _<_}
 use lib.Dec.{eqb}
 use lib.ListN.{length, take, getD, set, length-take}
 use Rattle.law_base.proofs.Tests.{and-left, and-right}
-use Rattle.run_state.specs.Held.{held}
+use Rattle.law_stores.proofs.Fronts.{Front}
+use Rattle.run_state.specs.Held.{heldIn, endsIn}
 use Rattle.step_transition.proofs.Laws.{still-case}
 use Rattle.step_due.proofs.Laws.{due-named}
 use Rattle.step_simulator.proofs.change_one.Statement.{statement}
 use Rattle.step_simulator.proofs.change_one.Tie as tie
 
+-- The number of the component is a number.
+numbered : (k : tie.After-row-in) → k .row-in .result < maxComponents
+numbered k =
+    let start : tie.Start = search in
+    let q = start .pre in
+    rw (k .row-in .ensures) (q .in-range .numbers (start .args .i) (q .position))
+
+-- The bag stands at the front of the buffer.
+abbrev Pulled : tie.After-collect-bag → Type 0
+Pulled k =
+    let start : tie.Start = search in let row : tie.After-row-in = search in
+    let a = start .args in
+    Front (length (now (a .work))) (k .collect-bag .last .1 .1 .1 .1 .1 .1 .0, k .collect-bag .result)
+    (keysInto (phasesIn (now (a .phases))) (now (a .tables)) (now (a .marks)) (now (a .reached)) (toBag (now (a .given))) (row .row-in .result))
+
+pulled : (k : tie.After-collect-bag) → Pulled k
+pulled k =
+    let start : tie.Start = search in let row : tie.After-row-in = search in
+    let a = start .args in
+    into-held (phasesIn (now (a .phases))) (now (a .tables)) (now (a .marks)) (now (a .reached)) (toBag (now (a .given))) (row .row-in .result) (now (a .work)) _ (k .collect-bag .result) (k .collect-bag .ensures)
+
 is-still-requires : tie.Need-is-still-requires
 is-still-requires c κs =
-    let start : tie.Start = search in
-    start .pre .1
+    let after-row-in : tie.After-row-in = search in
+    numbered after-row-in
 
 returns : tie.Need-returns
 unfolding isUp
 returns c =
-    let start : tie.Start = search in
+    let start : tie.Start = search in let after-row-in : tie.After-row-in = search in
     let a = start .args in
-    let h = sym (c .before .is-still .ensures) ∙ c .if1 .taken in
-    let keys = keysInto (phasesIn (now (a .phases))) (now (a .tables)) (now (a .marks)) (now (a .reached)) (toBag (now (a .given))) (a .c) in
-    let none : length (take (length (now (a .work))) keys) ≡ 0 = omega (arith, length-take (length (now (a .work))) keys, keys-unreached (phasesIn (now (a .phases))) (now (a .tables)) (now (a .marks)) (now (a .reached)) (toBag (now (a .given))) (a .c) (and-right (eqb (getD (now (a .marks)) (a .c) 0) 0) _ h)) in
-    (rw (and-left (eqb (getD (now (a .marks)) (a .c) 0) 0) _ h) (still-case (phasesIn (now (a .phases))) (now (a .tables)) (rulesIn (now (a .rules))) (a .at .0) (held (now (a .phase)) (now (a .last))) (a .i) (a .c) (take (length (now (a .work))) keys) none), sym (set-getD (now (a .ends)) (a .i) 0) ∙ ap (set (now (a .ends)) (a .i)) (start .pre .4))
+    let ps = phasesIn (now (a .phases)) in
+    let t = now (a .tables) in
+    let es = now (a .marks) in
+    let n = getD t (numbersAt + a .i) 0 in
+    let h = rw (after-row-in .row-in .ensures) at (sym (c .before .is-still .ensures) ∙ c .if1 .taken) in
+    let keys = keysInto ps t es (now (a .reached)) (toBag (now (a .given))) n in
+    let unreached = keys-unreached ps t es (now (a .reached)) (toBag (now (a .given))) n (and-right (eqb (getD es n 0) 0) _ h) in
+    let none : length (take (length (now (a .work))) keys) ≡ 0 = omega (arith, length-take (length (now (a .work))) keys, unreached) in
+    let still = still-case ps t (rulesIn (now (a .rules))) (a .at .0) (heldIn (now (a .state))) (a .i) n (take (length (now (a .work))) keys) none in
+    record {
+      state = rw (and-left (eqb (getD es n 0) 0) _ h) still;
+      ends = sym (set-getD (endsIn (now (a .state))) (a .i) 0) ∙ ap (set (endsIn (now (a .state))) (a .i)) (start .pre .carried);
+    }
 
 collect-bag-requires : tie.Need-collect-bag-requires
 collect-bag-requires c κs =
-    let start : tie.Start = search in
-    (start .pre .1, start .pre .2)
+    let start : tie.Start = search in let after-row-in : tie.After-row-in = search in
+    (numbered after-row-in, start .pre .in-range)
+
+mark-at-requires : tie.Need-mark-at-requires
+mark-at-requires c κs =
+    let row : tie.After-row-in = search in
+    rw (c .size16 .ensures) (numbered row)
 
 slice-reshare-prefix-bag : tie.Need-slice-reshare-prefix-bag
 slice-reshare-prefix-bag c =
-    let start : tie.Start = search in let after-collect-bag : tie.After-collect-bag = search in
-    let a = start .args in
-    let m = after-collect-bag .collect-bag in
-    let f = into-held (phasesIn (now (a .phases))) (now (a .tables)) (now (a .marks)) (now (a .reached)) (toBag (now (a .given))) (a .c) (now (a .work)) (m .last .1 .1 .1 .1 .1 .1 .0) (m .result) (m .ensures) in
+    let after-collect-bag : tie.After-collect-bag = search in let f = pulled after-collect-bag in
     omega (arith, f .position, f .size)
 
 slice-aggregate-bag : tie.Need-slice-aggregate-bag
 slice-aggregate-bag c =
-    let start : tie.Start = search in let after-collect-bag : tie.After-collect-bag = search in
-    let a = start .args in
-    let m = after-collect-bag .collect-bag in
-    let f = into-held (phasesIn (now (a .phases))) (now (a .tables)) (now (a .marks)) (now (a .reached)) (toBag (now (a .given))) (a .c) (now (a .work)) (m .last .1 .1 .1 .1 .1 .1 .0) (m .result) (m .ensures) in
-    sym (length-take-le (m .result) (m .last .1 .1 .1 .1 .1 .1 .0) (omega (arith, f .position, f .size)))
+    let after-collect-bag : tie.After-collect-bag = search in let f = pulled after-collect-bag in
+    sym (length-take-le (after-collect-bag .collect-bag .result) _ (omega (arith, f .position, f .size)))
 
 transition-requires : tie.Need-transition-requires
 transition-requires c κs =
-    let start : tie.Start = search in
-    (start .pre .0, start .pre .1)
+    let start : tie.Start = search in let after-row-in : tie.After-row-in = search in
+    (start .pre .position, numbered after-row-in)
 
 put-end-requires : tie.Need-put-end-requires
 put-end-requires c κs =
-    let start : tie.Start = search in
-    (start .pre .0, start .pre .1)
+    let start : tie.Start = search in let after-row-in : tie.After-row-in = search in
+    (start .pre .position, numbered after-row-in)
 
 returns-2 : tie.Need-returns-2
 unfolding isUp
 returns-2 c =
     let start : tie.Start = search in let after-transition : tie.After-transition = search in let after-mark-at : tie.After-mark-at = search in
     let after-size16 : tie.After-size16 = search in let after-collect-bag : tie.After-collect-bag = search in
+    let row : tie.After-row-in = search in
     let a = start .args in
-    let m = after-collect-bag .collect-bag in
-    let f = into-held (phasesIn (now (a .phases))) (now (a .tables)) (now (a .marks)) (now (a .reached)) (toBag (now (a .given))) (a .c) (now (a .work)) (m .last .1 .1 .1 .1 .1 .1 .0) (m .result) (m .ensures) in
-    let r = after-transition .transition in
-    let st = held (r .last .1 .1 .1 .0) (r .last .1 .1 .1 .1 .0) in (
-      rw (after-mark-at .mark-at .ensures, after-size16 .size16 .ensures, f .held) at (r .ensures .0),
-      c .put-end .ensures ∙ ap (λ u. set (now (a .ends)) (a .i) (dueNumber u)) (due-named (phasesIn (now (a .phases))) (now (a .tables)) st (a .i) (a .c) (r .result) (start .pre .3) (r .ensures .1)),
-    )
+    let ps = phasesIn (now (a .phases)) in
+    let t = now (a .tables) in
+    let ends = endsIn (now (a .state)) in
+    let f = pulled after-collect-bag in
+    let changed = after-transition .transition .ensures in
+    let put = c .put-end .ensures in
+    let named = due-named ps t _ (a .i) (row .row-in .result) (after-transition .transition .result) (row .row-in .ensures) (changed .phase) in
+    record {
+      state = put .held ∙ (rw (after-mark-at .mark-at .ensures, after-size16 .size16 .ensures, f .held, row .row-in .ensures) at (changed .state));
+      ends = put .ends ∙ rw (changed .ends, put .held) (ap (λ u. set ends (a .i) (dueNumber u)) named);
+    }
 
 pub change-one-spec : {M : Type 1} → statement M
 change-one-spec =
-    tie.close (tie.spec is-still-requires returns collect-bag-requires (λ c κs. search needs) (λ c κs. search needs) slice-reshare-prefix-bag
-    slice-aggregate-bag transition-requires put-end-requires (λ c. search needs) returns-2)
+    tie.close (tie.spec (λ c κs. search needs) is-still-requires returns collect-bag-requires (λ c κs. search needs)
+    mark-at-requires slice-reshare-prefix-bag slice-aggregate-bag transition-requires put-end-requires (λ c. search needs) returns-2)

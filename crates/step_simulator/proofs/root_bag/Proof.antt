@@ -1,46 +1,51 @@
--- What `collect_root` leaves at the front of the buffer is the root's bag, as much as has room; sorting keys sorts messages.
+-- What `collect_root` leaves in the first quarter of the buffer is the root's bag, as much as has room; sorting keys sorts messages.
+use borrow.Author.Needs.{needs}
 use native.Mathlib.Omega.{arith}
-use mathlib.Core.Path.{_∙_, ap}
-use mathlib.Core.List.{map}
+use mathlib.Core.Path.{_∙_, sym}
 use denote.Ref.{now}
-use Rattle.law_base.specs.Keys.{messageOf}
+use lib.ListN.{length, take}
+use lib.Seq.{length-take-le}
 use Rattle.model_records.specs.Values.{phasesIn}
-use Rattle.definition.specs.Model.{messageLe}
-use Rattle.definition.specs.Lists.{sortBy}
-use Rattle.step_simulator.proofs.Laws.{root-held, sorted-front}
+use Rattle.law_stores.proofs.Fronts.{Front}
+use Rattle.spec_step.specs.TableStep.{rootKeys, rootRoom}
+use Rattle.step_simulator.proofs.Laws.{root-held, sort-fits, root-sorted, same-size}
 use Rattle.step_simulator.proofs.root_bag.Statement.{statement}
 use Rattle.step_simulator.proofs.root_bag.Tie as tie
 
-collect-root-requires : tie.Need-collect-root-requires
-collect-root-requires c κs =
+-- The bag stands at the front of the quarter.
+abbrev Pulled : tie.After-collect-root → Type 0
+Pulled k =
     let start : tie.Start = search in
-    start .pre .0
+    let a = start .args in
+    Front (length (take (rootRoom (length (now (a .work)))) (now (a .work)))) (k .collect-root .last .1 .1 .1 .1 .0, k .collect-root .result)
+    (rootKeys (phasesIn (now (a .phases))) (now (a .tables)) (now (a .marks)) (now (a .reached)))
+
+pulled : (k : tie.After-collect-root) → Pulled k
+pulled k =
+    let start : tie.Start = search in
+    let a = start .args in
+    root-held (phasesIn (now (a .phases))) (now (a .tables)) (now (a .marks)) (now (a .reached)) _ _ (k .collect-root .result) (k .collect-root .ensures)
+
+aggregate : tie.Need-slice-aggregate-collect-root
+aggregate c =
+    let start : tie.Start = search in
+    let b = now (start .args .work) in
+    sym (length-take-le (rootRoom (length b)) b (omega arith))
 
 sort-requires : tie.Need-sort-requires
 sort-requires c κs =
     let start : tie.Start = search in let after-collect-root : tie.After-collect-root = search in
-    let a = start .args in
-    let m = after-collect-root .collect-root in
-    let f = root-held (phasesIn (now (a .phases))) (now (a .tables)) (now (a .marks)) (now (a .reached)) (now (a .keys)) (m .last .1 .1 .1 .1 .0) (m .result) (m .ensures) in
-    (omega (arith, f .position, f .size), omega (arith, f .position, f .size))
+    sort-fits (now (start .args .work)) _ _ _ (pulled after-collect-root)
 
 same-length : tie.Need-same-length
 same-length c =
-    let after-sort : tie.After-sort = search in let after-collect-root : tie.After-collect-root = search in
-    after-sort .sort .kept .0 ∙ after-collect-root .collect-root .kept .1 .1 .1 .1 .0
-
-same-length-2 : tie.Need-same-length-2
-same-length-2 c =
-    let after-sort : tie.After-sort = search in
-    after-sort .sort .kept .1 .1 .0
+    let start : tie.Start = search in let after-collect-root : tie.After-collect-root = search in let after-sort : tie.After-sort = search in
+    after-sort .sort .kept .0 ∙ same-size (now (start .args .work)) _ _ _ (pulled after-collect-root)
 
 returns : tie.Need-returns
 returns c =
-    let start : tie.Start = search in let after-sort : tie.After-sort = search in let after-collect-root : tie.After-collect-root = search in
-    let a = start .args in
-    let m = after-collect-root .collect-root in
-    let f = root-held (phasesIn (now (a .phases))) (now (a .tables)) (now (a .marks)) (now (a .reached)) (now (a .keys)) (m .last .1 .1 .1 .1 .0) (m .result) (m .ensures) in
-    (f .position, sorted-front (m .result) (m .last .1 .1 .1 .1 .0) _ (omega (arith, f .position, f .size)) (after-sort .sort .ensures) ∙ ap (λ l. sortBy messageLe (map messageOf l)) (f .held))
+    let start : tie.Start = search in let after-collect-root : tie.After-collect-root = search in let after-sort : tie.After-sort = search in
+    root-sorted (now (start .args .work)) _ _ _ (pulled after-collect-root) _ (after-sort .sort .ensures)
 
 pub root-bag-spec : {M : Type 1} → statement M
-root-bag-spec = tie.close (tie.spec collect-root-requires sort-requires same-length same-length-2 returns)
+root-bag-spec = tie.close (tie.spec (λ c. search needs) aggregate (λ c κs. search needs) sort-requires same-length returns)

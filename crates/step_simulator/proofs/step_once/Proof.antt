@@ -1,53 +1,58 @@
 -- The marks and flags over zeros are the definition's, and then the step is the definition's with them.
 use borrow.Author.Needs.{needs}
-use native.Mathlib.Omega.{arith}
 use Rattle.step_simulator.proofs.Laws.{step-is, count-bag}
-use Rattle.definition.specs.Lists.{sortBy}
-use Rattle.definition.specs.Model.{messageLe}
 use Rattle.definition.specs.Engine.{toBag}
-use Rattle.run_state.specs.Held.{held}
+use Rattle.run_state.specs.Held.{heldIn, endsIn}
 use Rattle.model_records.specs.Values.{phasesIn, rulesIn}
-use Rattle.law_base.specs.Keys.{messageOf}
 use Rattle.spec_step.specs.TableStep.{rootKeys, rootRoom}
 use denote.Ref.{now}
-use lib.ListN.{length, take}
-use mathlib.Core.List.{map}
-use mathlib.Core.Path.{_∙_, ap}
-use Prim.Native.Nat.{min}
+use lib.ListN.{length}
+use mathlib.Core.Path.{_∙_}
 use Rattle.step_simulator.proofs.step_once.Statement.{statement}
 use Rattle.step_simulator.proofs.step_once.Tie as tie
 
 mark-requires : tie.Need-mark-requires
-mark-requires c κs = search needs
+mark-requires c κs =
+    let start : tie.Start = search in
+    let q = start .pre .changeable in
+    (q .few, q .in-range)
 
 reach-requires : tie.Need-reach-requires
-reach-requires c κs = search needs
-
-step-marked-requires : tie.Need-step-marked-requires
-step-marked-requires c κs =
+reach-requires c κs =
     let start : tie.Start = search in
-    let q = start .pre in
-    (q .few, q .in-range, omega (arith, q .rows), q .carried)
+    start .pre .changeable .in-range
+
+change-all-requires : tie.Need-change-all-requires
+change-all-requires c κs =
+    let start : tie.Start = search in
+    start .pre .changeable
+
+root-bag-requires : tie.Need-root-bag-requires
+root-bag-requires c κs =
+    let start : tie.Start = search in
+    start .pre .changeable .in-range
 
 returns : tie.Need-returns
 returns c =
-    let after-step : tie.After-step-marked = search in let after-reach : tie.After-reach = search in let after-mark : tie.After-mark = search in
-    let start : tie.Start = search in
+    let after-change : tie.After-change-all = search in let after-reach : tie.After-reach = search in let after-mark : tie.After-mark = search in
+    let after-root : tie.After-root-bag = search in let start : tie.Start = search in
     let a = start .args in
     let q = start .pre in
     let ps = phasesIn (now (a .phases)) in
     let t = now (a .tables) in
-    let es = after-mark .mark .last .1 .1 .1 .1 .1 .0 in
+    let es = after-mark .mark .last .1 .1 .1 .1 .0 in
     let fs = after-reach .reach .last .1 .1 .1 .0 in
-    let s = after-step .step-marked .ensures in
-    rw (step-is ps t (rulesIn (now (a .rules))) (a .n) (length (now (a .work))) (a .at .0) (toBag (now (a .given))) (held (now (a .phase)) (now (a .last)))
-    (now (a .ends)) es fs (q .carried) (q .moment) (after-mark .mark .ensures) (after-reach .reach .ensures))
+    let s = after-change .change-all .ensures in
+    let b = rw (after-change .change-all .kept .1 .1 .1 .1 .1 .1 .1 .1 .1 .0) at (after-root .root-bag .ensures) in
+    let w = now (a .state) in
+    rw (step-is ps t (rulesIn (now (a .rules))) (a .n) (length (now (a .work))) (a .at .0) (toBag (now (a .given))) (heldIn w) (endsIn w) es fs
+    (q .changeable .carried) (q .moment) (after-mark .mark .ensures) (after-reach .reach .ensures))
     (record {
-      state = s .0;
-      carried = s .1;
-      size = s .2 ∙ ap (λ n. min n (length (rootKeys ps t es fs))) (q .rows) ∙ count-bag (rootRoom (length (now (a .work)))) (rootKeys ps t es fs);
-      bag = s .3 ∙ ap (λ n. sortBy messageLe (map messageOf (take n (rootKeys ps t es fs)))) (q .rows);
+      state = s .state;
+      carried = s .carried;
+      size = b .size ∙ count-bag (rootRoom (length (now (a .work)))) (rootKeys ps t es fs);
+      bag = b .bag;
     })
 
 pub step-once-spec : {M : Type 1} → statement M
-step-once-spec = tie.close (tie.spec mark-requires reach-requires step-marked-requires (search needs) (search needs) returns)
+step-once-spec = tie.close (tie.spec mark-requires reach-requires change-all-requires root-bag-requires (search needs) returns)
