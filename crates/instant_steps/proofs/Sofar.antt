@@ -19,15 +19,18 @@ use Rattle.definition.specs.Engine.{toBag}
 use Rattle.law_base.proofs.Tests.{clash}
 use Rattle.clock.specs.Times.{latest}
 use Rattle.model_records.specs.Values.{phasesIn}
-use Rattle.spec_step.specs.Carried.{Carried, nextEnd}
+use Rattle.spec_step.specs.Carried.{nextEnd}
+use Rattle.spec_step.specs.Tables.{atomicsIn}
+use Rattle.step_due.specs.Due.{CarriedIn}
 use Rattle.spec_step.specs.TableStep.{tableNext}
 use Rattle.law_step.proofs.Carried.{now-number, next-carried}
 use Rattle.run_state.specs.declared.State.{State}
+use Rattle.run_state.specs.Held.{heldIn, endsIn, nextIn, NextPut}
 use Rattle.law_base.specs.Keys.{messageOf}
 use Rattle.instant_records.specs.Written.{stepBytes, stepSize, stepPut}
 use Rattle.instant_records.proofs.Records.{length-step}
 use Rattle.law_stores.proofs.Stores.{sets-append}
-use Rattle.instant_steps.specs.Sim.{simOf, instantOf, givenAt, Lent, Fit, Ready}
+use Rattle.instant_steps.specs.Sim.{simOf, instantOf, givenAt, Fit, Ready}
 use Rattle.instant_steps.specs.Verdicts.{ranOf, Judged}
 use Rattle.instant_steps.specs.declared.Verdict.{Verdict}
 use Rattle.instant_steps.specs.declared.Verdict.the-variants as VV
@@ -177,29 +180,31 @@ module _ {S : Type 0} (k : Simulator S) (now : ℕ) (x : Bag) (s : S) where
 -- ---- the test of the loop, and the due moments
 
 -- The next due moment is at `now` where its number is.
-pub goes-as : (phases rules tables : List ℕ) (n room now : ℕ) (x : Bag) (st : State) (ends : List ℕ) (due : ℕ) → now < latest → Ready phases tables n st ends due
-    → goesOn (simOf phases rules tables n room) now x st ≡ (eqb due now || not (isEmpty x))
+pub goes-as : (phases rules tables : List ℕ) (room now : ℕ) (x : Bag) (w : List ℕ) → now < latest → Ready phases tables w
+    → goesOn (simOf phases rules tables room) now x (heldIn w) ≡ (eqb (nextIn w) now || not (isEmpty x))
 unfolding goesOn isDue
-goes-as phases rules tables n room now x st ends due l r =
-    ap (λ b. b || not (isEmpty x)) (sym (now-number (tableNext (phasesIn phases) tables st) now l) ∙ ap (λ d. eqb d now) (sym (r .next)))
+goes-as phases rules tables room now x w l r =
+    ap (λ b. b || not (isEmpty x)) (sym (now-number (tableNext (phasesIn phases) tables (heldIn w)) now l) ∙ ap (λ d. eqb d now) (sym (r .next)))
 
-pub ready-next : (phases tables : List ℕ) (n : ℕ) (st : State) (ends : List ℕ) (due : ℕ) → Fit n tables → Carried (phasesIn phases) tables n st ends → due ≡ nextEnd tables ends
-    → Ready phases tables n st ends due
-ready-next phases tables n st ends due f h e = record { carried = h; next = e ∙ next-carried (phasesIn phases) tables n st ends h (f .in-range) (f .seated) }
+-- The least due moment, put beside those that are carried.
+pub ready-next : (phases tables w₀ w : List ℕ) (due : ℕ) → Fit tables → CarriedIn phases tables (atomicsIn tables) w₀ → due ≡ nextEnd tables (endsIn w₀) → NextPut w₀ w due
+    → Ready phases tables w
+ready-next phases tables w₀ w due f h e p =
+    let least = next-carried (phasesIn phases) tables (atomicsIn tables) (heldIn w₀) (endsIn w₀) h (f .in-range) (f .seated) in
+    record { carried = rw (p .held, p .ends) h; next = p .next ∙ rw (p .held) (e ∙ least) }
 
 -- ---- the loop
 
 -- What holds after k steps: the sizes of what is lent, a bound on the bytes counted, the due moments, and what is left of the instant.
-pub record Stepping (phases rules tables : List ℕ) (n now : ℕ) (given : Bytes) (st₀ : State) (work₀ keys₀ : List ℕ) (out₀ : Bytes) (from : ℕ)
-    (st : State) (ends work keys : List ℕ) (out : Bytes) (next used : ℕ) (flag : Bool) (k : ℕ) : Type 0 where
+pub record Stepping (phases rules tables : List ℕ) (now : ℕ) (given : Bytes) (w₀ work₀ : List ℕ) (out₀ : Bytes) (from : ℕ)
+    (w work : List ℕ) (out : Bytes) (used : ℕ) (flag : Bool) (k : ℕ) : Type 0 where
   pub few : k ≤ maxSteps
   pub words : length work ≡ length work₀
-  pub rows : length keys ≡ length keys₀
   pub size : length out ≡ length out₀
   pub bound : used ≤ from + 12300 * k
-  pub ready : Ready phases tables n st ends next
-  pub sofar : Sofar (instantOf phases rules tables n (length work₀) now given st₀)
-      (stepsAt (simOf phases rules tables n (length work₀)) (maxSteps - k) now (toBag (givenAt given k)) st) now from out₀ out k used flag
+  pub ready : Ready phases tables w
+  pub sofar : Sofar (instantOf phases rules tables (length work₀) now given w₀)
+      (stepsAt (simOf phases rules tables (length work₀)) (maxSteps - k) now (toBag (givenAt given k)) (heldIn w)) now from out₀ out k used flag
 
 -- ---- the verdicts
 
@@ -209,36 +214,36 @@ Standing VV.Jammed = ⊥
 Standing VV.Over = ⊥
 Standing VV.Stands = Unit {0}
 
-pub not-jams : VV.Jammed ≡ VV.Stands → ⊥
+not-jams : VV.Jammed ≡ VV.Stands → ⊥
 not-jams e = subst Standing (sym e) tt
 
-pub not-over : VV.Over ≡ VV.Stands → ⊥
+not-over : VV.Over ≡ VV.Stands → ⊥
 not-over e = subst Standing (sym e) tt
 
-module _ {whole rest : Instant State} {now from : ℕ} {out₀ out : Bytes} {k used : ℕ} {flag : Bool} (sofar : Sofar whole rest now from out₀ out k used flag) (st : State) (due : ℕ) where
-  pub judged-jams : rest ≡ jammed → Judged now from out₀ out st whole (record { verdict = VV.Jammed; steps = 0; used = from; due = due })
+module _ (phases tables : List ℕ) {whole rest : Instant State} {now from : ℕ} {out₀ out : Bytes} {k used : ℕ} {flag : Bool}
+    (sofar : Sofar whole rest now from out₀ out k used flag) (w : List ℕ) where
+  abbrev Verdicts : Instant State → Verdict → ℕ → ℕ → Type 0
+  Verdicts i v steps used = Judged phases tables now from out₀ out w i (record { verdict = v; steps = steps; used = used })
+
+  pub judged-jams : rest ≡ jammed → Verdicts whole VV.Jammed 0 from
   unfolding ranOf
   judged-jams e =
-      subst (λ (i : Instant State). Judged now from out₀ out st i (record { verdict = VV.Jammed; steps = 0; used = from; due = due }))
-      (sym (sofar .split ∙ ap (after (sofar .bags)) e ∙ after-jammed (sofar .bags))) (record { answer = refl; few = omega arith; recorded = tt; left = tt })
+      subst (λ (i : Instant State). Verdicts i VV.Jammed 0 from) (sym (sofar .split ∙ ap (after (sofar .bags)) e ∙ after-jammed (sofar .bags)))
+      (record { answer = refl; few = omega arith; recorded = tt; left = tt; ready = λ h. absurd (not-jams h) })
 
-  ends : rest ≡ done [] st → done (sofar .bags) st ≡ whole
-  ends e = sym (sofar .split ∙ ap (after (sofar .bags)) e ∙ after-done (sofar .bags) st)
+  ends : rest ≡ done [] (heldIn w) → done (sofar .bags) (heldIn w) ≡ whole
+  ends e = sym (sofar .split ∙ ap (after (sofar .bags)) e ∙ after-done (sofar .bags) (heldIn w))
 
-  pub judged-over : rest ≡ done [] st → flag ≡ true → Judged now from out₀ out st whole (record { verdict = VV.Over; steps = 0; used = from; due = due })
+  pub judged-over : rest ≡ done [] (heldIn w) → flag ≡ true → Verdicts whole VV.Over 0 from
   unfolding ranOf
   judged-over e f =
       let o : over (sofar .bags) ≡ true = sym (sofar .overs) ∙ f in
-      subst (λ (i : Instant State). Judged now from out₀ out st i (record { verdict = VV.Over; steps = 0; used = from; due = due })) (ends e)
-      (record { answer = rw o; few = omega arith; recorded = λ h. absurd (clash o h); left = refl })
+      subst (λ (i : Instant State). Verdicts i VV.Over 0 from) (ends e)
+      (record { answer = rw o; few = omega arith; recorded = λ h. absurd (clash o h); left = refl; ready = λ h. absurd (not-over h) })
 
-  pub judged-stands : rest ≡ done [] st → flag ≡ false → k ≤ maxSteps → Judged now from out₀ out st whole (record { verdict = VV.Stands; steps = k; used = used; due = due })
+  pub judged-stands : rest ≡ done [] (heldIn w) → flag ≡ false → k ≤ maxSteps → Ready phases tables w → Verdicts whole VV.Stands k used
   unfolding ranOf
-  judged-stands e f most =
+  judged-stands e f most r =
       let o : over (sofar .bags) ≡ false = sym (sofar .overs) ∙ f in
-      subst (λ (i : Instant State). Judged now from out₀ out st i (record { verdict = VV.Stands; steps = k; used = used; due = due })) (ends e)
-      (record { answer = rw (o, sofar .count, sofar .sized f); few = most; recorded = λ h l. sofar .put f (rw (sofar .sized f) l); left = refl })
-
--- Buffers of the same lengths are lent as well.
-pub lent-kept : {w w₀ k k₀ : ℕ} → w ≡ w₀ → k ≡ k₀ → Lent w₀ k₀ → Lent w k
-lent-kept e f h = rw (e, f) h
+      subst (λ (i : Instant State). Verdicts i VV.Stands k used) (ends e)
+      (record { answer = rw (o, sofar .count, sofar .sized f); few = most; recorded = λ h l. sofar .put f (rw (sofar .sized f) l); left = refl; ready = λ h. r })

@@ -1,53 +1,79 @@
--- The step on the tables of a call as something that takes steps, what it asks of the tables and the buffers lent, and the state with its due
+-- The step on the tables of a call as something that takes steps, what it asks of the tables and the buffer lent, and the state with its due
 -- moments. Assumes nothing.
 use mathlib.Core.Path.{_≡_}
 use Prim.Native.Nat.{ℕ, _*_, _≤_, _<_}
-use mathlib.Core.List.{List, []}
+use mathlib.Core.List.{List, [], map}
 use mathlib.Core.Bool.{cond}
 use lib.Dec.{eqb}
+use lib.ListN.{length, take}
 use Rattle.definition.specs.Bytes.{Bytes}
-use Rattle.definition.specs.Limits.{maxComponents, maxGiven, maxRoutes}
+use Rattle.definition.specs.Lists.{sortBy}
+use Rattle.definition.specs.Limits.{maxGiven, maxRoutes}
+use Rattle.definition.specs.Model.{messageLe}
 use Rattle.definition.specs.Step.{Simulator}
+use Rattle.definition.specs.Step as Definition
 use Rattle.definition.specs.Instant.{Instant, instant}
 use Rattle.definition.specs.Engine.{toBag, dueNumber}
+use Rattle.law_base.specs.Keys.{messageOf}
 use Rattle.clock.specs.Times.{latest}
 use Rattle.run_state.specs.declared.State.{State}
+use Rattle.run_state.specs.Held.{heldIn, nextIn}
 use Rattle.model_records.specs.Values.{phasesIn}
+use Rattle.spec_step.specs.Tables.{atomicsIn}
 use Rattle.spec_step.specs.Ranges.{InRange, Seated}
-use Rattle.spec_step.specs.Carried.{Carried}
-use Rattle.spec_step.specs.TableStep.{rootRoom, tableNext}
+use Rattle.spec_step.specs.TableStep.{tableNext}
+use Rattle.step_due.specs.Due.{CarriedIn}
 use Rattle.step_simulator.specs.Simulator.{tableSim}
 
--- The slices phases, rules and tables of n atomics, where a bag has room for so many messages.
-abbrev pub simOf : List ℕ → List ℕ → List ℕ → ℕ → ℕ → Simulator State
-simOf phases rules tables n room = tableSim phases rules tables n room
+-- The slices phases, rules and tables, where a bag has room for so many messages.
+abbrev pub simOf : List ℕ → List ℕ → List ℕ → ℕ → Simulator State
+simOf phases rules tables room = tableSim phases rules tables (atomicsIn tables) room
 
 -- "A given bag belongs to the first of them.": what a step is given.
 abbrev pub givenAt : Bytes → ℕ → Bytes
 givenAt given step = cond (eqb step 0) given []
 
--- The instant at `now` with the given messages, from a state.
-abbrev pub instantOf : List ℕ → List ℕ → List ℕ → ℕ → ℕ → ℕ → Bytes → State → Instant State
-instantOf phases rules tables n room now given st = instant (simOf phases rules tables n room) now (toBag given) st
+-- The step at `now` with the given messages, from the words of a state.
+abbrev pub stepOf : List ℕ → List ℕ → List ℕ → ℕ → ℕ → Bytes → List ℕ → Definition.Stepped State
+stepOf phases rules tables room now given w = simOf phases rules tables room .step now (toBag given) (heldIn w)
 
--- The words lent for an atomic's bag, no more than the largest one needs, and for the root's output bag.
-abbrev pub Lent : ℕ → ℕ → Type 0
-Lent work keys = (work ≤ maxGiven * maxRoutes) × (keys ≡ rootRoom work)
+-- The instant.
+abbrev pub instantOf : List ℕ → List ℕ → List ℕ → ℕ → ℕ → Bytes → List ℕ → Instant State
+instantOf phases rules tables room now given w = instant (simOf phases rules tables room) now (toBag given) (heldIn w)
 
--- Tables of n atomics whose words are in range.
-pub record Fit (n : ℕ) (tables : List ℕ) : Type 0 where
-  pub few : n ≤ maxComponents
+-- ---- what is asked
+
+-- Tables whose words are in range, with a position for each atomic.
+pub record Fit (tables : List ℕ) : Type 0 where
   pub in-range : InRange tables
-  pub seated : Seated n tables
+  pub seated : Seated (atomicsIn tables) tables
 
--- The due moments of n atomics of a state are carried, and `due` is the least of them.
-pub record Ready (phases tables : List ℕ) (n : ℕ) (st : State) (ends : List ℕ) (due : ℕ) : Type 0 where
-  pub carried : Carried (phasesIn phases) tables n st ends
-  pub next : due ≡ dueNumber (tableNext (phasesIn phases) tables st)
+-- The words of a state carry its due moments and the least of them.
+pub record Ready (phases tables w : List ℕ) : Type 0 where
+  pub carried : CarriedIn phases tables (atomicsIn tables) w
+  pub next : nextIn w ≡ dueNumber (tableNext (phasesIn phases) tables (heldIn w))
 
--- What the steps at `now` ask: words for the bags, a moment that another may follow, tables in range, and the state's due moments.
-pub record Steppable (phases tables : List ℕ) (n now : ℕ) (st : State) (ends : List ℕ) (due work keys : ℕ) : Type 0 where
-  pub lent : Lent work keys
+-- What a step at `now` asks: a moment that another may follow, tables in range, and the state's due moments.
+pub record Steppable (phases tables : List ℕ) (now : ℕ) (w : List ℕ) : Type 0 where
   pub moment : now < latest
-  pub fit : Fit n tables
-  pub ready : Ready phases tables n st ends due
+  pub fit : Fit tables
+  pub ready : Ready phases tables w
+
+-- The words lent for a bag are no more than the largest one needs.
+abbrev pub Lent : ℕ → Type 0
+Lent work = work ≤ maxGiven * maxRoutes
+
+-- What the steps at `now` ask that put their records from `from` on.
+pub record CanRun (phases tables : List ℕ) (now : ℕ) (w : List ℕ) (work from out : ℕ) : Type 0 where
+  pub lent : Lent work
+  pub steppable : Steppable phases tables now w
+  pub within : from ≤ out
+
+-- ---- what a step leaves
+
+-- The state, ready for another step, and the root's bag, sorted, in the first `count` words of `work`.
+pub record Stepped (phases tables w work : List ℕ) (count : ℕ) (r : Definition.Stepped State) : Type 0 where
+  pub state : heldIn w ≡ r .state
+  pub ready : Ready phases tables w
+  pub size : count ≡ length (r .out)
+  pub bag : map messageOf (take count work) ≡ sortBy messageLe (r .out)

@@ -1,6 +1,7 @@
 -- What the code's pass over an instant answers, by what the definition says that the instant leaves. Assumes nothing.
 use mathlib.Core.Path.{_≡_}
 use mathlib.Core.Bool.{false, cond}
+use mathlib.Core.List.{List}
 use Prim.Native.Nat.{ℕ, _+_, _≤_}
 use lib.ListN.{length}
 use lib.Seq.{sets}
@@ -8,16 +9,17 @@ use Rattle.definition.specs.Bytes.{Bytes}
 use Rattle.definition.specs.Limits.{maxSteps}
 use Rattle.definition.specs.Instant.{Instant, done, jammed, over, instantTrace}
 use Rattle.run_state.specs.declared.State.{State}
+use Rattle.run_state.specs.Held.{heldIn}
+use Rattle.instant_steps.specs.Sim.{Ready}
 use Rattle.instant_steps.specs.declared.Ran.{Ran}
 use Rattle.instant_steps.specs.declared.Verdict.the-variants as VV
 
--- 13 goes before 14: the verdict, and for an instant that may stand its steps and where its records end. When the state is next due is said
--- apart from this.
-unfoldable pub ranOf : ℕ → ℕ → Instant State → ℕ → Ran
-ranOf now from jammed due = record { verdict = VV.Jammed; steps = 0; used = from; due = due }
-ranOf now from (done xs s) due =
-    cond (over xs) (record { verdict = VV.Over; steps = 0; used = from; due = due })
-    (record { verdict = VV.Stands; steps = length xs; used = from + length (instantTrace now xs); due = due })
+-- 13 goes before 14: the verdict, and for an instant that may stand its steps and where its records end.
+unfoldable pub ranOf : ℕ → ℕ → Instant State → Ran
+ranOf now from jammed = record { verdict = VV.Jammed; steps = 0; used = from }
+ranOf now from (done xs s) =
+    cond (over xs) (record { verdict = VV.Over; steps = 0; used = from })
+    (record { verdict = VV.Stands; steps = length xs; used = from + length (instantTrace now xs) })
 
 -- The records of an instant that may stand are in the buffer from `from` on, where all of them fit there. Otherwise its content
 -- behind `from` is left open.
@@ -30,9 +32,10 @@ abbrev pub Left : Instant State → State → Type 0
 Left jammed st = Unit {0}
 Left (done xs s) st = st ≡ s
 
--- The answer, the buffer and the state; at most 1,024 steps are counted.
-pub record Judged (now from : ℕ) (out₀ out : Bytes) (st : State) (i : Instant State) (r : Ran) : Type 0 where
-  pub answer : r ≡ ranOf now from i (r .due)
+-- The answer, the buffer and the state, which is ready for another instant where this one stands; at most 1,024 steps are counted.
+pub record Judged (phases tables : List ℕ) (now from : ℕ) (out₀ out : Bytes) (w : List ℕ) (i : Instant State) (r : Ran) : Type 0 where
+  pub answer : r ≡ ranOf now from i
   pub few : r .steps ≤ maxSteps
   pub recorded : Recorded now from out₀ out i
-  pub left : Left i st
+  pub left : Left i (heldIn w)
+  pub ready : r .verdict ≡ VV.Stands → Ready phases tables w

@@ -2,23 +2,21 @@
 // its bytes are counted in any case, so that one function serves a first pass into a small scratch and a second one into the trace.
 ghost use mathlib.Core.Path.{_≡_};
 ghost use mathlib.Core.Bool.{_||_, not};
-ghost use Prim.Native.Nat.{_≤_};
 ghost use lib.Dec.{eqb};
 ghost use lib.ListN.{length};
 ghost use Rattle.definition.specs.Lists.{isEmpty};
 ghost use Rattle.definition.specs.Engine.{toBag};
-ghost use Rattle.run_state.specs.Held.{held};
-ghost use Rattle.instant_steps.specs.Sim.{instantOf, givenAt, Ready, Steppable};
+ghost use Rattle.instant_steps.specs.Sim.{instantOf, stepOf, givenAt, Steppable, Stepped, CanRun};
 ghost use Rattle.instant_steps.specs.Verdicts.{Judged};
-ghost use Rattle.instant_steps.specs.declared.Verdict.the-variants as VV;
 use clock::Moment;
 use instant_records::MAX_ROOT_BAG;
 use instant_records::put_step;
-use limits::MAX_COMPONENTS;
 use limits::MESSAGE_SIZE;
+use run_state::STATE_SIZE;
 use step_due::next_end;
 use step_simulator::step_once;
 use table_words::TABLE_SIZE;
+use table_words::atomics_in;
 
 // "at most 1,024 in all"
 pub const MAX_STEPS: u64 = 1024;
@@ -30,12 +28,22 @@ pub enum Verdict {
     Stands,
 }
 
-// The verdict on an instant; where it stands its steps, where its records end, and when the state after it is next due.
+// The verdict on an instant; where it stands its steps, and where its records end.
 pub struct Ran {
     pub verdict: Verdict,
     pub steps: u64,
     pub used: usize,
-    pub due: u64,
+}
+
+// An instant that does not stand counts nothing.
+fn undone(verdict: Verdict, from: usize) -> Ran
+    ensures { λ r. ⌜ r ≡ record { verdict = verdict; steps = 0; used = from } ⌝ }
+{
+    Ran {
+        verdict,
+        steps: 0,
+        used: from,
+    }
 }
 
 // "A step is taken if something is due or the given bag is not empty"
@@ -52,74 +60,62 @@ fn given_at<'a>(given: &'a [u8], step: u64) -> &'a [u8]
     if step == 0 { given } else { &given[..0] }
 }
 
-// The instant at a moment with the given messages, its records put from `from` on; `due` is when the state is next due. The state is
-// changed in place: where the instant does not stand, what it holds afterwards is left open.
+// One step, and when the state is next due after it.
+fn take_step(
+    phases: &[u8],
+    rules: &[u8],
+    tables: &[u16; TABLE_SIZE],
+    state: &mut [u64; STATE_SIZE],
+    at: Moment,
+    given: &[u8],
+    work: &mut [u32],
+) -> usize
+    requires { ⌜ Steppable (now phases) (now tables) (at .0) (now state) ⌝ }
+    ensures { λ r. ⌜ Stepped (now (phases .entry)) (now (tables .entry)) (now (state .exit)) (now (work .exit)) r
+        (stepOf (now (phases .entry)) (now (rules .entry)) (now (tables .entry)) (length (now (work .entry))) (at .0) (now (given .entry)) (now (state .entry))) ⌝ }
+{
+    let n = atomics_in(tables);
+    let count = step_once(phases, rules, tables, n, state, at, given, work);
+    run_state::put_next(state, next_end(tables, state));
+    count
+}
+
+// The instant at a moment with the given messages, its records put from `from` on. The state is changed in place: where the instant does not
+// stand, what it holds afterwards is left open.
 pub fn instant(
     phases: &[u8],
     rules: &[u8],
     tables: &[u16; TABLE_SIZE],
-    n: u8,
     at: Moment,
     given: &[u8],
-    phase: &mut [u8; MAX_COMPONENTS],
-    last: &mut [u64; MAX_COMPONENTS],
-    ends: &mut [u64; MAX_COMPONENTS],
-    due: u64,
+    state: &mut [u64; STATE_SIZE],
     work: &mut [u32],
-    keys: &mut [u32],
     out: &mut [u8],
     from: usize,
 ) -> Ran
-    requires { ⌜ Steppable (now phases) (now tables) n (at .0) (held (now phase) (now last)) (now ends) due (length (now work)) (length (now keys))
-        × (from ≤ length (now out)) ⌝ }
-    ensures { λ r. ⌜ Judged (at .0) from (now (out .entry)) (now (out .exit)) (held (now (phase .exit)) (now (last .exit)))
-        (instantOf (now (phases .entry)) (now (rules .entry)) (now (tables .entry)) n (length (now (work .entry)))
-        (at .0) (now (given .entry)) (held (now (phase .entry)) (now (last .entry)))) r
-        × (r .verdict ≡ VV.Stands → Ready (now (phases .entry)) (now (tables .entry)) n (held (now (phase .exit)) (now (last .exit))) (now (ends .exit)) (r .due)) ⌝ }
+    requires { ⌜ CanRun (now phases) (now tables) (at .0) (now state) (length (now work)) from (length (now out)) ⌝ }
+    ensures { λ r. ⌜ Judged (now (phases .entry)) (now (tables .entry)) (at .0) from (now (out .entry)) (now (out .exit)) (now (state .exit))
+        (instantOf (now (phases .entry)) (now (rules .entry)) (now (tables .entry)) (length (now (work .entry))) (at .0) (now (given .entry)) (now (state .entry))) r ⌝ }
 {
-    let mut next = due;
     let mut used = from;
     let mut over = false;
     let mut k: u64 = 0;
-    while goes_on(next, at, given_at(given, k)) {
+    while goes_on(run_state::next_due(state), at, given_at(given, k)) {
         if k == MAX_STEPS {
-            return Ran {
-                verdict: Verdict::Jammed,
-                steps: 0,
-                used: from,
-                due,
-            };
+            return undone(Verdict::Jammed, from);
         }
-        let count = step_once(
-            phases,
-            rules,
-            tables,
-            n,
-            phase,
-            last,
-            ends,
-            at,
-            given_at(given, k),
-            work,
-            keys,
-        );
+        let part = given_at(given, k);
+        let count = take_step(phases, rules, tables, state, at, part, work);
         over = over | (MAX_ROOT_BAG < count);
-        used = put_step(out, used, at, k, keys, count);
-        next = next_end(tables, ends);
+        used = put_step(out, used, at, k, work, count);
         k = k + 1;
     }
     if over {
-        return Ran {
-            verdict: Verdict::Over,
-            steps: 0,
-            used: from,
-            due,
-        };
+        return undone(Verdict::Over, from);
     }
     Ran {
         verdict: Verdict::Stands,
         steps: k,
         used,
-        due: next,
     }
 }

@@ -74,7 +74,7 @@ module _ (b d keys : List ℕ) (k : ℕ) (f : Front (length (take (rootRoom (len
   root-sorted exit e = record {
     size = f .position ∙ ap (λ n. min n (length keys)) lent;
     bag =
-      ap (map messageOf) (front-sorted k (k / 2) whole exit sort-fits e ∙ ap (sortBy leb) front) ∙ sort-messages (take quarter keys);
+        ap (map messageOf) (front-sorted k (k / 2) whole exit sort-fits e ∙ ap (sortBy leb) front) ∙ sort-messages (take quarter keys);
   }
     where
       front : take k whole ≡ take quarter keys
@@ -124,3 +124,10 @@ module _ (ps : List Phase) (t : List ℕ) (rs : List Rule) (n room now : ℕ) (x
 -- what has room of a bag
 pub count-bag : (room : ℕ) (ks : List ℕ) → min room (length ks) ≡ length (map messageOf (take room ks))
 count-bag room ks = sym (length-map (take room ks) messageOf ∙ length-take room ks)
+
+pub out-few : (ps : List Phase) (t : List ℕ) (rs : List Rule) (n room now : ℕ) (x : Bag) (st : State) → length (tableStep ps t rs n room now x st .out) ≤ rootRoom room
+unfolding tableStep
+out-few ps t rs n room now x st =
+    let es = marks ps t n now st in
+    let ks = rootKeys ps t es (reached t es x) in
+    omega (arith, count-bag (rootRoom room) ks)
