@@ -8,7 +8,7 @@ use native.Mathlib.Omega.{arith}
 use lib.Dec.{eqb, ltb}
 use lib.ListN.{length, length-append, take}
 use lib.Seq.{length-take-le}
-use borrow.Author.Tests.{ltb-true, ltb-false, eqb-false}
+use borrow.Author.Tests.{ltb-true, ltb-false}
 use Rattle.definition.specs.Bytes.{Bytes, refused}
 use Rattle.definition.specs.Lists.{concat}
 use Rattle.definition.specs.Limits.{maxSteps}
@@ -89,55 +89,55 @@ Said now i r VV.Jammed = i ≡ jammed
 Said now i r VV.Over = Overs i
 Said now i r VV.Stands = May now i r
 
-said : (now : ℕ) (i : Instant State) (due : ℕ) → Said now i (ranOf now 0 i due) (ranOf now 0 i due .verdict)
+said : (now : ℕ) (i : Instant State) → Said now i (ranOf now 0 i) (ranOf now 0 i .verdict)
 unfolding ranOf
-said now jammed due = refl
-said now (done xs s) due = go (over xs) refl
+said now jammed = refl
+said now (done xs s) = go (over xs) refl
   where
     unfit : Ran
-    unfit = record { verdict = VV.Over; steps = 0; used = 0; due = due }
+    unfit = record { verdict = VV.Over; steps = 0; used = 0 }
 
     stands : Ran
-    stands = record { verdict = VV.Stands; steps = length xs; used = 0 + length (instantTrace now xs); due = due }
+    stands = record { verdict = VV.Stands; steps = length xs; used = 0 + length (instantTrace now xs) }
 
     go : (b : Bool) → over xs ≡ b → Said now (done xs s) (cond b unfit stands) (cond b unfit stands .verdict)
     go true e = record { bags = xs; state = s; same = refl; unfit = e }
     go false e = record { bags = xs; end = s; same = refl; fit = e; steps = refl; used = omega arith }
 
-told : (now : ℕ) (i : Instant State) (r : Ran) → r ≡ ranOf now 0 i (r .due) → (v : Verdict) → r .verdict ≡ v → Said now i r v
-told now i r e v h = subst (λ (w : Verdict). Said now i r w) h (subst (λ (q : Ran). Said now i q (q .verdict)) (sym e) (said now i (r .due)))
+told : (now : ℕ) (i : Instant State) (r : Ran) → r ≡ ranOf now 0 i → (v : Verdict) → r .verdict ≡ v → Said now i r v
+told now i r e v h = subst (λ (w : Verdict). Said now i r w) h (subst (λ (q : Ran). Said now i q (q .verdict)) (sym e) (said now i))
 
 -- ---- where the instant ends
 
-module _ (now : ℕ) (p : Progress) (due : ℕ) (st₀ : State) (trace : Bytes) (h : p .used ≤ length trace) where
+module _ (now : ℕ) (p : Progress) (st₀ : State) (trace : Bytes) (h : p .used ≤ length trace) where
   abbrev left : ℕ
   left = length trace - p .used
 
   abbrev undone : ℕ → Ended
-  undone m = record { number = m; progress = p; due = due }
+  undone m = record { number = m; progress = p }
 
   module _ (i : Instant State) where
-    stops : (m : ℕ) → (m ≡ 0 → ⊥) → refused m ≡ tried (length trace) now (progressOf trace st₀ p) i → Decided now p due st₀ trace i (undone m)
-    stops m z e = record { hindered = λ _. record { same = e; progress = refl; still-due = refl }; stands = λ q. absurd (z q) }
+    stops : (m : ℕ) → (m ≡ 0 → ⊥) → refused m ≡ tried (length trace) now (progressOf trace st₀ p) i → Decided now p st₀ trace i (undone m)
+    stops m z e = record { hindered = λ _. record { same = e; progress = refl }; stands = λ q. absurd (z q) }
 
-    decided-jams : i ≡ jammed → Decided now p due st₀ trace i (undone 13)
+    decided-jams : i ≡ jammed → Decided now p st₀ trace i (undone 13)
     decided-jams e = stops 13 (λ z. omega arith) (rw e (sym (tried-jams (length trace) now (progressOf trace st₀ p))))
 
-    decided-over : Overs i → Decided now p due st₀ trace i (undone 14)
+    decided-over : Overs i → Decided now p st₀ trace i (undone 14)
     decided-over o = stops 14 (λ z. omega arith) (rw (o .same) (sym (tried-over (length trace) now (progressOf trace st₀ p) (o .bags) (o .state) (o .unfit))))
 
     sized : (ran : Ran) (m : May now i ran) → length (progressOf trace st₀ p .trace ++ instantTrace now (m .bags)) ≡ p .used + ran .used
     unfolding progressOf
     sized ran m = omega (arith, length-append (take (p .used) trace) (instantTrace now (m .bags)), length-take-le (p .used) trace h, m .used)
 
-    decided-full : (ran : Ran) → May now i ran → left < ran .used → Decided now p due st₀ trace i (undone 15)
+    decided-full : (ran : Ran) → May now i ran → left < ran .used → Decided now p st₀ trace i (undone 15)
     decided-full ran m l =
         let some : length (m .bags) ≡ 0 → ⊥ = λ z. omega (arith, m .used, ap length (no-records now (m .bags) z)) in
         stops 15 (λ z. omega arith)
         (rw (m .same) (sym (tried-full (length trace) now (progressOf trace st₀ p) (m .bags) (m .end) (m .fit) some (omega (arith, sized ran m)))))
 
     decided-stands : (ran : Ran) → May now i ran → ran .steps ≤ maxSteps → ran .used ≤ left
-        → Decided now p due st₀ trace i (record { number = 0; progress = afterOf now p (ran .steps) (ran .used); due = ran .due })
+        → Decided now p st₀ trace i (record { number = 0; progress = afterOf now p (ran .steps) (ran .used) })
     decided-stands ran m few l = record {
       hindered = λ z. absurd (z refl);
       stands = λ _. record {
@@ -151,21 +151,21 @@ module _ (now : ℕ) (p : Progress) (due : ℕ) (st₀ : State) (trace : Bytes) 
       };
     }
 
-    module _ (ran : Ran) (e : ran ≡ ranOf now 0 i (ran .due)) (few : ran .steps ≤ maxSteps) where
-      by : (v : Verdict) → ran .verdict ≡ v → Decided now p due st₀ trace i (endedBy left now p due ran)
+    module _ (ran : Ran) (e : ran ≡ ranOf now 0 i) (few : ran .steps ≤ maxSteps) where
+      by : (v : Verdict) → ran .verdict ≡ v → Decided now p st₀ trace i (endedBy left now p ran)
       unfolding endedBy hindranceOf
       by VV.Jammed q = rw q (decided-jams (told now i ran e VV.Jammed q))
       by VV.Over q = rw q (decided-over (told now i ran e VV.Over q))
       by VV.Stands q = rw q (go (ltb left (ran .used)) refl)
         where
           go : (b : Bool) → ltb left (ran .used) ≡ b
-              → Decided now p due st₀ trace i
-              (cond (eqb (cond b 15 0) 0) (record { number = 0; progress = afterOf now p (ran .steps) (ran .used); due = ran .due }) (record { number = cond b 15 0; progress = p; due = due }))
+              → Decided now p st₀ trace i
+              (cond (eqb (cond b 15 0) 0) (record { number = 0; progress = afterOf now p (ran .steps) (ran .used) }) (record { number = cond b 15 0; progress = p }))
           go true f = decided-full ran (told now i ran e VV.Stands q) (ltb-true left (ran .used) f)
           go false f = decided-stands ran (told now i ran e VV.Stands q) few (ltb-false left (ran .used) f)
 
-      pub decided : (r : Ended) → r ≡ endedBy left now p due ran → Decided now p due st₀ trace i r
-      decided r f = subst (Decided now p due st₀ trace i) (sym f) (by (ran .verdict) refl)
+      pub decided : (r : Ended) → r ≡ endedBy left now p ran → Decided now p st₀ trace i r
+      decided r f = subst (Decided now p st₀ trace i) (sym f) (by (ran .verdict) refl)
 
 -- Nothing hinders an instant only where its records have room.
 pub no-hindrance : (room : ℕ) (ran : Ran) → hindranceOf room ran ≡ 0 → ran .used ≤ room
@@ -180,14 +180,3 @@ no-hindrance room ran e = by (ran .verdict) refl
         go : (b : Bool) → ltb room (ran .used) ≡ b → _≡_ {A = ℕ} (cond b 15 0) 0 → ran .used ≤ room
         go true f g = absurd (omega arith)
         go false f g = ltb-false room (ran .used) f
-
--- An instant that stands is next due where its pass says.
-pub ended-due : (room now : ℕ) (p : Progress) (due : ℕ) (ran : Ran) (r : Ended) → r ≡ endedBy room now p due ran → r .number ≡ 0 → r .due ≡ ran .due
-unfolding endedBy
-ended-due room now p due ran r e z = go (eqb (hindranceOf room ran) 0) refl e
-  where
-    go : (b : Bool) → eqb (hindranceOf room ran) 0 ≡ b
-        → r ≡ cond b (record { number = 0; progress = afterOf now p (ran .steps) (ran .used); due = ran .due }) (record { number = hindranceOf room ran; progress = p; due = due })
-        → r .due ≡ ran .due
-    go true f g = ap (λ (d : Ended). d .due) g
-    go false f g = absurd (eqb-false (hindranceOf room ran) 0 f (sym (ap (λ (d : Ended). d .number) g) ∙ z))

@@ -15,8 +15,7 @@ use Rattle.definition.specs.Instant.{Instant, done, instantTrace}
 use Rattle.definition.specs.Advance.{tried}
 use Rattle.law_base.proofs.Turns.{tried-none, tried-stands}
 use Rattle.run_state.specs.declared.State.{State}
-use Rattle.model_records.specs.Values.{phasesIn}
-use Rattle.spec_step.specs.Carried.{Carried}
+use Rattle.run_state.specs.Held.{heldIn}
 use Rattle.law_stores.proofs.Stores.{take-sets, drop-sets}
 use Rattle.instant_steps.specs.Sim.{Ready}
 use Rattle.instant_steps.specs.Verdicts.{ranOf, Recorded, Left}
@@ -25,21 +24,23 @@ use Rattle.instant_steps.specs.declared.Verdict.the-variants as VV
 use Rattle.instant_attempt.specs.Progress.{progressOf, triedOf, Tried}
 use Rattle.instant_attempt.specs.Pass.{afterOf, Hindered, Stands, Decided}
 use Rattle.instant_attempt.specs.declared.Progress.{Progress}
+use Rattle.instant_attempt.specs.declared.Turn.{Turn}
 use Rattle.instant_attempt.specs.declared.Ended.{Ended}
 use Rattle.instant_attempt.proofs.Passes.{no-records}
 
 -- ---- a number leaves the instant undone
 
-pub hindered-tried : (now : ℕ) (p : Progress) (due : ℕ) (st₀ st : State) (trace : Bytes) (i : Instant State) (r : Ended)
-    → p .used ≤ length trace → (r .number ≡ 0 → ⊥) → Hindered now p due st₀ trace i r → st ≡ st₀ → Tried now p st₀ st trace trace i r
-hindered-tried now p due st₀ st trace i r l z h back =
-    let e : r .progress ≡ p = h .progress in record {
+pub hindered-tried : (phases tables : List ℕ) (turn : Turn) (w₀ w : List ℕ) (trace : Bytes) (i : Instant State) (r : Ended) → turn .progress .used ≤ length trace
+    → (r .number ≡ 0 → ⊥) → Hindered (turn .at .0) (turn .progress) (heldIn w₀) trace i r → Ready phases tables w₀ → w ≡ w₀ → Tried phases tables turn w₀ w trace trace i r
+hindered-tried phases tables turn w₀ w trace i r l z h ready back =
+    let e : r .progress ≡ turn .progress = h .progress in record {
       same = rw (ne-eqb (r .number) 0 z) (h .same);
       beyond = rw e (record { within = l; size = refl; same = refl });
       undone = λ _. record { progress = e; state = back; bytes = refl };
       more = rw e (omega arith);
       instants = rw e (omega arith);
       steps = rw e (omega arith);
+      ready = rw back ready;
     }
 
 -- ---- it stands
@@ -84,29 +85,29 @@ module _ {now : ℕ} {p : Progress} {room : ℕ} {i : Instant State} {q : Progre
   pub again : (trace trace′ : Bytes) → length trace ≡ room → Recorded now (p .used) trace trace′ i → trace′ ≡ sets trace (p .used) recs
   again trace trace′ e w = subst (Recorded now (p .used) trace trace′) (s .same) w (s .fit) (omega (arith, s .within))
 
-  pub verdict-again : (from : ℕ) (ran : Ran) → ran ≡ ranOf now from i (ran .due) → ran .verdict ≡ VV.Stands
+  pub verdict-again : (from : ℕ) (ran : Ran) → ran ≡ ranOf now from i → ran .verdict ≡ VV.Stands
   unfolding ranOf
   verdict-again from ran e =
-      let f : ranOf now from (done (s .bags) (s .end)) (ran .due) .verdict ≡ VV.Stands = rw (s .fit) in
-      ap (λ (d : Ran). d .verdict) (e ∙ ap (λ (j : Instant State). ranOf now from j (ran .due)) (s .same)) ∙ f
+      let f : ranOf now from (done (s .bags) (s .end)) .verdict ≡ VV.Stands = rw (s .fit) in
+      ap (λ (d : Ran). d .verdict) (e ∙ ap (λ (j : Instant State). ranOf now from j) (s .same)) ∙ f
 
-pub decided-more : (now : ℕ) (p : Progress) (due : ℕ) (st₀ : State) (trace : Bytes) (i : Instant State) (r : Ended) → Decided now p due st₀ trace i r → p .used ≤ r .progress .used
-decided-more now p due st₀ trace i r e = go (eqb (r .number) 0) refl
+pub decided-more : {now : ℕ} {p : Progress} {st₀ : State} {trace : Bytes} {i : Instant State} {r : Ended} → Decided now p st₀ trace i r → p .used ≤ r .progress .used
+decided-more {p = p} {r = r} e = go (eqb (r .number) 0) refl
   where
     go : (b : Bool) → eqb (r .number) 0 ≡ b → p .used ≤ r .progress .used
     go true f = omega (arith, used-of (e .stands (eqb-true (r .number) 0 f)))
     go false f = rw (e .hindered (eqb-false (r .number) 0 f) .progress) (omega arith)
 
--- ---- the due moments of the state put back
-
-pub ready-back : (phases tables : List ℕ) (n : ℕ) (st₀ st : State) (ends₀ ends : List ℕ) (due : ℕ) → Ready phases tables n st₀ ends₀ due → st ≡ st₀
-    → Carried (phasesIn phases) tables n st₀ ends → Ready phases tables n st ends due
-ready-back phases tables n st₀ st ends₀ ends due r e h = record { carried = rw e h; next = rw e (r .next) }
-
 -- ---- its records are in the trace
 
-module _ {now : ℕ} {p : Progress} (st₀ st : State) (trace trace′ : Bytes) {i : Instant State} (r : Ended) (s : Stands now p (length trace) i (r .progress))
-    (zero : r .number ≡ 0) (idle : length (s .bags) ≡ 0 → s .end ≡ st₀) (left : st ≡ s .end) (put : trace′ ≡ sets trace (p .used) (recs s)) where
+module _ {now : ℕ} {p : Progress} (w₀ w : List ℕ) (trace trace′ : Bytes) {i : Instant State} (r : Ended) (s : Stands now p (length trace) i (r .progress))
+    (zero : r .number ≡ 0) (idle : length (s .bags) ≡ 0 → s .end ≡ heldIn w₀) (left : heldIn w ≡ s .end) (put : trace′ ≡ sets trace (p .used) (recs s)) where
+  abbrev st₀ : State
+  st₀ = heldIn w₀
+
+  abbrev st : State
+  st = heldIn w
+
   abbrev ys : Bytes
   ys = instantTrace now (s .bags)
 
@@ -149,8 +150,11 @@ module _ {now : ℕ} {p : Progress} (st₀ st : State) (trace trace′ : Bytes) 
       go true = (omega arith, omega arith)
       go false = (omega arith, omega (arith, s .few))
 
-  pub stands-tried : Tried now p st₀ st trace trace′ i r
-  stands-tried =
+  abbrev turn : Turn
+  turn = record { at = record { 0 = now }; progress = p }
+
+  pub stands-tried : (phases tables : List ℕ) → Ready phases tables w → Tried phases tables turn w₀ w trace trace′ i r
+  stands-tried phases tables ready =
       let u = used-of s in record {
         same = same;
         beyond = record {
@@ -162,4 +166,5 @@ module _ {now : ℕ} {p : Progress} (st₀ st : State) (trace trace′ : Bytes) 
         more = omega (arith, u);
         instants = counts .0;
         steps = counts .1;
+        ready = ready;
       }

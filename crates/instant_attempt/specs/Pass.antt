@@ -11,6 +11,7 @@ use Rattle.definition.specs.Model.{Bag}
 use Rattle.definition.specs.Instant.{Instant, done, over, instantTrace}
 use Rattle.definition.specs.Advance.{tried}
 use Rattle.run_state.specs.declared.State.{State}
+use Rattle.run_state.specs.Held.{heldIn}
 use Rattle.instant_steps.specs.Sim.{Ready}
 use Rattle.instant_steps.specs.Verdicts.{Recorded, Left}
 use Rattle.instant_steps.specs.declared.Ran.{Ran}
@@ -18,6 +19,7 @@ use Rattle.instant_steps.specs.declared.Verdict.{Verdict}
 use Rattle.instant_steps.specs.declared.Verdict.the-variants as VV
 use Rattle.instant_attempt.specs.Progress.{progressOf}
 use Rattle.instant_attempt.specs.declared.Progress.{Progress}
+use Rattle.instant_attempt.specs.declared.Turn.{Turn}
 use Rattle.instant_attempt.specs.declared.Ended.{Ended}
 
 -- ---- the answer
@@ -39,16 +41,15 @@ afterOf now p steps size =
     (record { opening = record { 0 = now + 1 }; instants = p .instants + 1; steps = p .steps + steps; used = p .used + size })
 
 -- Where the instant ends, by its first pass.
-unfoldable pub endedBy : ℕ → ℕ → Progress → ℕ → Ran → Ended
-endedBy room now p due ran =
-    cond (eqb (hindranceOf room ran) 0) (record { number = 0; progress = afterOf now p (ran .steps) (ran .used); due = ran .due })
-    (record { number = hindranceOf room ran; progress = p; due = due })
+unfoldable pub endedBy : ℕ → ℕ → Progress → Ran → Ended
+endedBy room now p ran =
+    cond (eqb (hindranceOf room ran) 0) (record { number = 0; progress = afterOf now p (ran .steps) (ran .used) })
+    (record { number = hindranceOf room ran; progress = p })
 
 -- A number leaves the instant undone.
-pub record Hindered (now : ℕ) (p : Progress) (due : ℕ) (st₀ : State) (trace : Bytes) (i : Instant State) (r : Ended) : Type 0 where
+pub record Hindered (now : ℕ) (p : Progress) (st₀ : State) (trace : Bytes) (i : Instant State) (r : Ended) : Type 0 where
   pub same : refused (r .number) ≡ tried (length trace) now (progressOf trace st₀ p) i
   pub progress : r .progress ≡ p
-  pub still-due : r .due ≡ due
 
 -- The instant stands: its bags and the state that it leaves, room for its records, and the progress q with it.
 pub record Stands (now : ℕ) (p : Progress) (room : ℕ) (i : Instant State) (q : Progress) : Type 0 where
@@ -61,8 +62,8 @@ pub record Stands (now : ℕ) (p : Progress) (room : ℕ) (i : Instant State) (q
   pub progress : q ≡ afterOf now p (length bags) (length (instantTrace now bags))
 
 -- Where the instant ends: undone by a number, or standing.
-pub record Decided (now : ℕ) (p : Progress) (due : ℕ) (st₀ : State) (trace : Bytes) (i : Instant State) (r : Ended) : Type 0 where
-  pub hindered : (r .number ≡ 0 → ⊥) → Hindered now p due st₀ trace i r
+pub record Decided (now : ℕ) (p : Progress) (st₀ : State) (trace : Bytes) (i : Instant State) (r : Ended) : Type 0 where
+  pub hindered : (r .number ≡ 0 → ⊥) → Hindered now p st₀ trace i r
   pub stands : r .number ≡ 0 → Stands now p (length trace) i (r .progress)
 
 -- ---- the state and the scratch
@@ -72,17 +73,14 @@ abbrev pub inScratch : Progress → ℕ → Ended → Bool
 inScratch p size r = eqb (r .number) 0 && leb (r .progress .used - p .used) size
 
 -- The state is the instant's, and its records are in the scratch.
-pub record Kept (phases tables : List ℕ) (n now : ℕ) (st : State) (ends scratch₀ scratch : List ℕ) (i : Instant State) (r : Ended) : Type 0 where
-  pub left : Left i st
+pub record Kept (phases tables : List ℕ) (now : ℕ) (w scratch₀ scratch : List ℕ) (i : Instant State) : Type 0 where
+  pub left : Left i (heldIn w)
   pub recorded : Recorded now 0 scratch₀ scratch i
-  pub ready : Ready phases tables n st ends (r .due)
+  pub ready : Ready phases tables w
 
--- The state is the one before the instant.
-pub record Back (phases tables : List ℕ) (n : ℕ) (st₀ st : State) (ends : List ℕ) (due : ℕ) : Type 0 where
-  pub state : st ≡ st₀
-  pub ready : Ready phases tables n st ends due
-
--- What a pass leaves, by whether its records are in the scratch.
-pub record Leaves (phases tables : List ℕ) (n now : ℕ) (p : Progress) (due : ℕ) (st₀ st : State) (ends scratch₀ scratch : List ℕ) (i : Instant State) (r : Ended) : Type 0 where
-  pub kept : inScratch p (length scratch) r ≡ true → Kept phases tables n now st ends scratch₀ scratch i r
-  pub back : inScratch p (length scratch) r ≡ false → Back phases tables n st₀ st ends due
+-- Where the instant of a turn ends by its first pass, and what the pass leaves: by whether its records are in the scratch, the instant's
+-- state or the one before it.
+pub record Passed (phases tables : List ℕ) (turn : Turn) (w₀ w scratch₀ scratch trace : List ℕ) (i : Instant State) (r : Ended) : Type 0 where
+  pub decided : Decided (turn .at .0) (turn .progress) (heldIn w₀) trace i r
+  pub kept : inScratch (turn .progress) (length scratch) r ≡ true → Kept phases tables (turn .at .0) w scratch₀ scratch i
+  pub back : inScratch (turn .progress) (length scratch) r ≡ false → w ≡ w₀

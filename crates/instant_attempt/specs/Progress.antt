@@ -1,5 +1,6 @@
 -- How far a call of the code has come with its lent state, as the definitions have it: the records written are the front of the lent trace. Assumes nothing.
 use mathlib.Core.Path.{_≡_}
+use mathlib.Core.List.{List}
 use mathlib.Core.Bool.{cond}
 use Prim.Native.Nat.{ℕ, _+_, _≤_, _<_}
 use lib.Dec.{eqb}
@@ -11,7 +12,10 @@ use Rattle.definition.specs.Advance.{tried}
 use Rattle.definition.specs.Advance as Definition
 use Rattle.clock.specs.Times.{latest}
 use Rattle.run_state.specs.declared.State.{State}
+use Rattle.run_state.specs.Held.{heldIn}
+use Rattle.instant_steps.specs.Sim.{Lent, Ready, Steppable}
 use Rattle.instant_attempt.specs.declared.Progress.{Progress}
+use Rattle.instant_attempt.specs.declared.Turn.{Turn}
 use Rattle.instant_attempt.specs.declared.Ended.{Ended}
 
 unfoldable pub progressOf : Bytes → State → Progress → Definition.Progress State
@@ -46,18 +50,25 @@ pub record Beyond (trace₀ trace : Bytes) (used : ℕ) : Type 0 where
   pub size : length trace ≡ length trace₀
   pub same : drop used trace ≡ drop used trace₀
 
+-- What an instant asks that is tried: words for the bags, a moment that another may follow, tables in range, the state's due moments, and room.
+pub record CanTry (phases tables : List ℕ) (turn : Turn) (w : List ℕ) (work trace : ℕ) : Type 0 where
+  pub lent : Lent work
+  pub steppable : Steppable phases tables (turn .at .0) w
+  pub room : Room (turn .progress) trace
+
 -- Nothing has changed.
-pub record Undone (p : Progress) (st₀ st : State) (trace₀ trace : Bytes) (r : Ended) : Type 0 where
+pub record Undone (p : Progress) (w₀ w : List ℕ) (trace₀ trace : Bytes) (r : Ended) : Type 0 where
   pub progress : r .progress ≡ p
-  pub state : st ≡ st₀
+  pub state : w ≡ w₀
   pub bytes : trace ≡ trace₀
 
--- An instant i at `now`, tried from p with the state and the trace as they were lent: the definition's progress or number, and the whole
--- trace. An undone instant leaves the state, and every byte of the trace, as it was.
-pub record Tried (now : ℕ) (p : Progress) (st₀ st : State) (trace₀ trace : Bytes) (i : Instant State) (r : Ended) : Type 0 where
-  pub same : triedOf trace st r ≡ tried (length trace₀) now (progressOf trace₀ st₀ p) i
+-- An instant i, tried in a turn with the state and the trace as they were lent: the definition's progress or number, the whole trace, and a
+-- state that is ready for another instant. An undone instant leaves the state, and every byte of the trace, as it was.
+pub record Tried (phases tables : List ℕ) (turn : Turn) (w₀ w : List ℕ) (trace₀ trace : Bytes) (i : Instant State) (r : Ended) : Type 0 where
+  pub same : triedOf trace (heldIn w) r ≡ tried (length trace₀) (turn .at .0) (progressOf trace₀ (heldIn w₀) (turn .progress)) i
   pub beyond : Beyond trace₀ trace (r .progress .used)
-  pub undone : (r .number ≡ 0 → ⊥) → Undone p st₀ st trace₀ trace r
-  pub more : p .used ≤ r .progress .used
-  pub instants : r .progress .instants ≤ p .instants + 1
-  pub steps : r .progress .steps ≤ p .steps + maxSteps
+  pub undone : (r .number ≡ 0 → ⊥) → Undone (turn .progress) w₀ w trace₀ trace r
+  pub more : turn .progress .used ≤ r .progress .used
+  pub instants : r .progress .instants ≤ turn .progress .instants + 1
+  pub steps : r .progress .steps ≤ turn .progress .steps + maxSteps
+  pub ready : Ready phases tables w

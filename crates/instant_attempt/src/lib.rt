@@ -3,17 +3,14 @@ ghost use mathlib.Core.Path.{_≡_};
 ghost use Prim.Native.Nat.{_+_, _≤_};
 ghost use lib.ListN.{length, take};
 ghost use lib.Seq.{sets};
-ghost use Rattle.run_state.specs.Held.{held};
-ghost use Rattle.model_records.specs.Values.{phasesIn};
-ghost use Rattle.spec_step.specs.Carried.{Carried};
-ghost use Rattle.instant_steps.specs.Sim.{instantOf, Fit, Ready, Steppable};
-ghost use Rattle.instant_attempt.specs.Progress.{Room, Counted, Tried};
-ghost use Rattle.instant_attempt.specs.Pass.{hindranceOf, afterOf, endedBy, Decided, Leaves};
+ghost use Rattle.instant_steps.specs.Sim.{instantOf};
+ghost use Rattle.instant_attempt.specs.Progress.{Counted, CanTry, Tried};
+ghost use Rattle.instant_attempt.specs.Pass.{hindranceOf, afterOf, endedBy, Passed};
 use clock::Moment;
 use instant_steps::Ran;
 use instant_steps::Verdict;
 use instant_steps::instant;
-use limits::MAX_COMPONENTS;
+use run_state::STATE_SIZE;
 use table_words::TABLE_SIZE;
 
 // The numbers of the row "each instant".
@@ -31,11 +28,16 @@ pub struct Progress {
     pub used: usize,
 }
 
-// A number, 0 where nothing hinders, how far the call has come, and when the state is next due.
+// The moment of an instant, and how far the call has come before it.
+pub struct Turn {
+    pub at: Moment,
+    pub progress: Progress,
+}
+
+// A number, 0 where nothing hinders, and how far the call has come.
 pub struct Ended {
     pub number: u64,
     pub progress: Progress,
-    pub due: u64,
 }
 
 // The number that leaves an instant undone, by its first pass and the bytes that the trace has left, or 0.
@@ -68,23 +70,22 @@ fn after(at: Moment, p: Progress, steps: u64, size: usize) -> Progress
     }
 }
 
-// Where an instant ends, by its first pass.
-fn ended_by(room: usize, at: Moment, p: Progress, due: u64, ran: Ran) -> Ended
-    requires { ⌜ Counted (at .0) p (ran .steps) room ⌝ }
-    ensures { λ r. ⌜ r ≡ endedBy room (at .0) p due ran ⌝ }
+// Where an instant ends, by its first pass and the bytes that the trace has left.
+fn ended_by(room: usize, turn: Turn, ran: Ran) -> Ended
+    requires { ⌜ Counted (turn .at .0) (turn .progress) (ran .steps) room ⌝ }
+    ensures { λ r. ⌜ r ≡ endedBy room (turn .at .0) (turn .progress) ran ⌝ }
 {
+    let p = turn.progress;
     let number = hindrance(room, ran);
     if number != 0 {
         return Ended {
             number,
             progress: p,
-            due,
         };
     }
     Ended {
         number: 0,
-        progress: after(at, p, ran.steps, ran.used),
-        due: ran.due,
+        progress: after(turn.at, p, ran.steps, ran.used),
     }
 }
 
@@ -100,121 +101,70 @@ fn copy(from: &[u8], n: usize, to: &mut [u8], at: usize)
     }
 }
 
-// The state as it was before the instant, and its due moments.
-fn put_back(
-    phases: &[u8],
-    tables: &[u16; TABLE_SIZE],
-    n: u8,
-    old_phase: &[u8; MAX_COMPONENTS],
-    old_last: &[u64; MAX_COMPONENTS],
-    phase: &mut [u8; MAX_COMPONENTS],
-    last: &mut [u64; MAX_COMPONENTS],
-    ends: &mut [u64; MAX_COMPONENTS],
-)
-    requires { ⌜ Fit n (now tables) ⌝ }
-    ensures { λ _. ⌜ (held (now (phase .exit)) (now (last .exit)) ≡ held (now («old_phase» .entry)) (now («old_last» .entry)))
-        × Carried (phasesIn (now (phases .entry))) (now (tables .entry)) n (held (now («old_phase» .entry)) (now («old_last» .entry))) (now (ends .exit)) ⌝ }
-{
-    *phase = *old_phase;
-    *last = *old_last;
-    step_due::put_ends(phases, tables, n, old_phase, old_last, ends);
-}
-
 // The first pass over an instant, its records into the scratch, and where the instant ends. The old state is put back where a number
 // leaves the instant undone, and where its records are too many for the scratch.
 fn first_pass(
     phases: &[u8],
     rules: &[u8],
     tables: &[u16; TABLE_SIZE],
-    n: u8,
-    at: Moment,
+    turn: Turn,
     given: &[u8],
-    p: Progress,
-    phase: &mut [u8; MAX_COMPONENTS],
-    last: &mut [u64; MAX_COMPONENTS],
-    ends: &mut [u64; MAX_COMPONENTS],
-    due: u64,
+    state: &mut [u64; STATE_SIZE],
     work: &mut [u32],
-    keys: &mut [u32],
     scratch: &mut [u8],
     trace: &[u8],
 ) -> Ended
-    requires { ⌜ Steppable (now phases) (now tables) n (at .0) (held (now phase) (now last)) (now ends) due (length (now work)) (length (now keys))
-        × Room p (length (now trace)) ⌝ }
-    ensures { λ r. ⌜ Decided (at .0) p due (held (now (phase .entry)) (now (last .entry))) (now (trace .entry))
-        (instantOf (now (phases .entry)) (now (rules .entry)) (now (tables .entry)) n (length (now (work .entry)))
-        (at .0) (now (given .entry)) (held (now (phase .entry)) (now (last .entry)))) r
-        × Leaves (now (phases .entry)) (now (tables .entry)) n (at .0) p due (held (now (phase .entry)) (now (last .entry))) (held (now (phase .exit)) (now (last .exit)))
-        (now (ends .exit)) (now (scratch .entry)) (now (scratch .exit))
-        (instantOf (now (phases .entry)) (now (rules .entry)) (now (tables .entry)) n (length (now (work .entry)))
-        (at .0) (now (given .entry)) (held (now (phase .entry)) (now (last .entry)))) r ⌝ }
+    requires { ⌜ CanTry (now phases) (now tables) turn (now state) (length (now work)) (length (now trace)) ⌝ }
+    ensures { λ r. ⌜ Passed (now (phases .entry)) (now (tables .entry)) turn (now (state .entry)) (now (state .exit)) (now (scratch .entry)) (now (scratch .exit)) (now (trace .entry))
+        (instantOf (now (phases .entry)) (now (rules .entry)) (now (tables .entry)) (length (now (work .entry))) (turn .at .0) (now (given .entry)) (now (state .entry))) r ⌝ }
 {
-    let old_phase = *phase;
-    let old_last = *last;
+    let old = *state;
+    let p = turn.progress;
     let ran = instant(
         phases,
         rules,
         tables,
-        n,
-        at,
+        turn.at,
         given,
-        phase,
-        last,
-        ends,
-        due,
+        state,
         work,
-        keys,
         scratch,
         0,
     );
-    let e = ended_by(trace.len() - p.used, at, p, due, ran);
+    let e = ended_by(trace.len() - p.used, turn, ran);
     if (e.number == 0) & (e.progress.used - p.used <= scratch.len()) {
         return e;
     }
-    put_back(phases, tables, n, &old_phase, &old_last, phase, last, ends);
+    *state = old;
     e
 }
 
-// The instant at a moment; `due` is when the state is next due. Where the records of the first pass fit into the scratch they are
-// copied, and otherwise a second pass, from the old state, puts them into the trace.
+// The instant of a turn. Where the records of the first pass fit into the scratch they are copied, and otherwise a second pass, from the
+// old state, puts them into the trace.
 pub fn attempt(
     phases: &[u8],
     rules: &[u8],
     tables: &[u16; TABLE_SIZE],
-    n: u8,
-    at: Moment,
+    turn: Turn,
     given: &[u8],
-    p: Progress,
-    phase: &mut [u8; MAX_COMPONENTS],
-    last: &mut [u64; MAX_COMPONENTS],
-    ends: &mut [u64; MAX_COMPONENTS],
-    due: u64,
+    state: &mut [u64; STATE_SIZE],
     work: &mut [u32],
-    keys: &mut [u32],
     scratch: &mut [u8],
     trace: &mut [u8],
 ) -> Ended
-    requires { ⌜ Steppable (now phases) (now tables) n (at .0) (held (now phase) (now last)) (now ends) due (length (now work)) (length (now keys))
-        × Room p (length (now trace)) ⌝ }
-    ensures { λ r. ⌜ Tried (at .0) p (held (now (phase .entry)) (now (last .entry))) (held (now (phase .exit)) (now (last .exit))) (now (trace .entry)) (now (trace .exit))
-        (instantOf (now (phases .entry)) (now (rules .entry)) (now (tables .entry)) n (length (now (work .entry)))
-        (at .0) (now (given .entry)) (held (now (phase .entry)) (now (last .entry)))) r
-        × Ready (now (phases .entry)) (now (tables .entry)) n (held (now (phase .exit)) (now (last .exit))) (now (ends .exit)) (r .due) ⌝ }
+    requires { ⌜ CanTry (now phases) (now tables) turn (now state) (length (now work)) (length (now trace)) ⌝ }
+    ensures { λ r. ⌜ Tried (now (phases .entry)) (now (tables .entry)) turn (now (state .entry)) (now (state .exit)) (now (trace .entry)) (now (trace .exit))
+        (instantOf (now (phases .entry)) (now (rules .entry)) (now (tables .entry)) (length (now (work .entry))) (turn .at .0) (now (given .entry)) (now (state .entry))) r ⌝ }
 {
+    let p = turn.progress;
     let e = first_pass(
         phases,
         rules,
         tables,
-        n,
-        at,
+        turn,
         given,
-        p,
-        phase,
-        last,
-        ends,
-        due,
+        state,
         work,
-        keys,
         scratch,
         trace,
     );
@@ -226,26 +176,16 @@ pub fn attempt(
         copy(scratch, size, trace, p.used);
         return e;
     }
-    let again = instant(
+    let _second = instant(
         phases,
         rules,
         tables,
-        n,
-        at,
+        turn.at,
         given,
-        phase,
-        last,
-        ends,
-        due,
+        state,
         work,
-        keys,
         trace,
         p.used,
     );
-    let progress = e.progress;
-    Ended {
-        number: 0,
-        progress,
-        due: again.due,
-    }
+    e
 }
