@@ -22,13 +22,14 @@ use Rattle.law_base.proofs.Tests.{clash}
 use Rattle.law_base.proofs.Turns.{last-turn, more-turn}
 use Rattle.clock.specs.Times.{latest}
 use Rattle.run_state.specs.declared.State.{State}
+use Rattle.run_state.specs.Held.{heldIn}
 use Rattle.law_step.proofs.Carried.{before-number, moment-number}
 use Rattle.instant_steps.specs.Sim.{Ready}
 use Rattle.instant_steps.proofs.Steps.{bag-none}
 use Rattle.instant_attempt.specs.Progress.{progressOf, triedOf, Beyond, Tried}
 use Rattle.instant_attempt.specs.declared.Progress.{Progress}
 use Rattle.instant_attempt.specs.declared.Ended.{Ended}
-use Rattle.instant_loop.specs.Ends.{advancingOf, givenTo, endedOf, finishedOf}
+use Rattle.instant_loop.specs.Ends.{advancingOf, givenTo, endedOf, Advanced, finishedOf}
 
 -- ---- the next moment
 
@@ -79,14 +80,14 @@ goes-no on p m = refl
 
 -- ---- one turn of the code
 
-abbrev reopened : ℕ → Progress → ℕ → Ended
-reopened t g due = record { number = 0; progress = record { opening = record { 0 = suc t }; instants = g .instants; steps = g .steps; used = g .used }; due = due }
+abbrev reopened : ℕ → Progress → Ended
+reopened t g = record { number = 0; progress = record { opening = record { 0 = suc t }; instants = g .instants; steps = g .steps; used = g .used } }
 
-succeeded-as : (t : ℕ) (trace : Bytes) (st : State) (g : Progress) (due : ℕ) → succeeded t (progressOf trace st g) ≡ endedOf trace st (reopened t g due)
+succeeded-as : (t : ℕ) (trace : Bytes) (st : State) (g : Progress) → succeeded t (progressOf trace st g) ≡ endedOf trace st (reopened t g)
 unfolding succeeded progressOf
-succeeded-as t trace st g due = refl
+succeeded-as t trace st g = refl
 
-finished-ok : (t : ℕ) (e : Ended) → eqb (e .number) 0 ≡ true → finishedOf t e ≡ reopened t (e .progress) (e .due)
+finished-ok : (t : ℕ) (e : Ended) → eqb (e .number) 0 ≡ true → finishedOf t e ≡ reopened t (e .progress)
 unfolding finishedOf
 finished-ok t e q = rw q
 
@@ -104,14 +105,24 @@ state-in : (trace : Bytes) (st : State) (g : Progress) → progressOf trace st g
 unfolding progressOf
 state-in trace st g = refl
 
--- An undone instant leaves the progress as it was.
-left-as : (now : ℕ) (g : Progress) (st st′ : State) (trace trace′ : Bytes) (i : Instant State) (e : Ended) → Tried now g st st′ trace trace′ i e → (e .number ≡ 0 → ⊥)
-    → progressOf trace st g ≡ progressOf trace′ st′ (e .progress)
-left-as now g st st′ trace trace′ i e a z =
-    let u = a .undone z in
-    ap (λ (b : Bytes). progressOf b st g) (sym (u .bytes)) ∙ ap₂ (progressOf trace′) (sym (u .state)) (sym (u .progress))
+-- An instant at v after the progress g, tried.
+abbrev pub TriedAt : List ℕ → List ℕ → ℕ → Progress → List ℕ → List ℕ → Bytes → Bytes → Instant State → Ended → Type 0
+TriedAt phases tables v g ws ws′ trace trace′ i e = Tried phases tables (record { at = record { 0 = v }; progress = g }) ws ws′ trace trace′ i e
 
-module _ (k : Simulator State) (t : ℕ) (x : Bag) (g : Progress) (st st′ : State) (trace trace′ : Bytes) (e : Ended) (m : ℕ) where
+-- An undone instant leaves the progress as it was.
+left-as : {phases tables : List ℕ} (v : ℕ) (g : Progress) (ws ws′ : List ℕ) (trace trace′ : Bytes) (i : Instant State) (e : Ended) → TriedAt phases tables v g ws ws′ trace trace′ i e
+    → (e .number ≡ 0 → ⊥) → progressOf trace (heldIn ws) g ≡ progressOf trace′ (heldIn ws′) (e .progress)
+left-as v g ws ws′ trace trace′ i e a z =
+    let u = a .undone z in
+    ap (λ (b : Bytes). progressOf b (heldIn ws) g) (sym (u .bytes)) ∙ ap₂ (progressOf trace′) (ap heldIn (sym (u .state))) (sym (u .progress))
+
+module _ (phases tables : List ℕ) (k : Simulator State) (t : ℕ) (x : Bag) (g : Progress) (ws ws′ : List ℕ) (trace trace′ : Bytes) (e : Ended) (m : ℕ) where
+  abbrev st : State
+  st = heldIn ws
+
+  abbrev st′ : State
+  st′ = heldIn ws′
+
   abbrev p : Definition.Progress State
   p = progressOf trace st g
 
@@ -119,7 +130,7 @@ module _ (k : Simulator State) (t : ℕ) (x : Bag) (g : Progress) (st st′ : St
   p′ = progressOf trace′ st′ (e .progress)
 
   -- The last turn: t with the bag.
-  pub turn-last : Tried t g st st′ trace trace′ (instant k t x st) e → isBefore (k .next st) t ≡ false
+  pub turn-last : TriedAt phases tables t g ws ws′ trace trace′ (instant k t x st) e → isBefore (k .next st) t ≡ false
       → advancing k (length trace) t x (suc m) p ≡ endedOf trace′ st′ (finishedOf t e)
   turn-last a b =
       last-turn k (length trace) t x m p (subst (λ (s : State). isBefore (k .next s) t ≡ false) (sym (state-in trace st g)) b)
@@ -129,13 +140,13 @@ module _ (k : Simulator State) (t : ℕ) (x : Bag) (g : Progress) (st st′ : St
       go : (b : Bool) → eqb (e .number) 0 ≡ b → continued (succeeded t) p (triedOf trace′ st′ e) ≡ endedOf trace′ st′ (finishedOf t e)
       go true q =
           ap (continued (succeeded t) p) (tried-ok trace′ st′ e q) ∙ goes-ok (succeeded t) p p′
-          ∙ succeeded-as t trace′ st′ (e .progress) (e .due) ∙ ap (endedOf trace′ st′) (sym (finished-ok t e q))
+          ∙ succeeded-as t trace′ st′ (e .progress) ∙ ap (endedOf trace′ st′) (sym (finished-ok t e q))
       go false q =
           ap (continued (succeeded t) p) (tried-no trace′ st′ e q) ∙ goes-no (succeeded t) p (e .number)
-          ∙ ap (ended (e .number)) (left-as t g st st′ trace trace′ (instant k t x st) e a (eqb-false (e .number) 0 q)) ∙ ap (endedOf trace′ st′) (sym (finished-no t e q))
+          ∙ ap (ended (e .number)) (left-as t g ws ws′ trace trace′ (instant k t x st) e a (eqb-false (e .number) 0 q)) ∙ ap (endedOf trace′ st′) (sym (finished-no t e q))
 
   -- An instant before t, with no bag.
-  module _ (u : ℕ) (y : Bag) (none : y ≡ []) (a : Tried u g st st′ trace trace′ (instant k u y st) e)
+  module _ (u : ℕ) (y : Bag) (none : y ≡ []) (a : TriedAt phases tables u g ws ws′ trace trace′ (instant k u y st) e)
       (b : (isBefore (k .next st) t ≡ true) × (ticks (k .next st) ≡ u)) where
     abbrev on : Definition.Progress State → Definition.Ended State
     on q = advancing k (length trace) t x m q
@@ -155,7 +166,7 @@ module _ (k : Simulator State) (t : ℕ) (x : Bag) (g : Progress) (st st′ : St
     pub turn-stop : (e .number ≡ 0 → ⊥) → advancing k (length trace) t x (suc m) p ≡ endedOf trace′ st′ e
     turn-stop z =
         turn ∙ ap (continued on p) (tried-no trace′ st′ e (ne-eqb (e .number) 0 z)) ∙ goes-no on p (e .number)
-        ∙ ap (ended (e .number)) (left-as u g st st′ trace trace′ (instant k u y st) e a z)
+        ∙ ap (ended (e .number)) (left-as u g ws ws′ trace trace′ (instant k u y st) e a z)
 
 -- ---- the trace through two changes
 
@@ -193,51 +204,57 @@ not-false false h = absurd (clash refl h)
 
 -- ---- a turn inside the loop: `whole` is what the call gives, and the turns left give it from here
 
-module _ (k : Simulator State) (t : ℕ) (x : Bag) (whole : Definition.Ended State) (trace₀ trace : Bytes) (st : State) (g : Progress) (left : ℕ) (h : 0 < left)
-    (from-here : advancing k (length trace₀) t x left (progressOf trace st g) ≡ whole) (b : Beyond trace₀ trace (g .used)) where
-  here : advancing k (length trace) t x (suc (left - 1)) (progressOf trace st g) ≡ whole
+module _ (phases tables : List ℕ) (k : Simulator State) (t : ℕ) (x : Bag) (whole : Definition.Ended State) (trace₀ trace : Bytes) (ws : List ℕ) (g : Progress) (left : ℕ)
+    (h : 0 < left) (from-here : advancing k (length trace₀) t x left (progressOf trace (heldIn ws) g) ≡ whole) (b : Beyond trace₀ trace (g .used)) where
+  abbrev old : State
+  old = heldIn ws
+
+  here : advancing k (length trace) t x (suc (left - 1)) (progressOf trace old g) ≡ whole
   here =
       let q : suc (left - 1) ≡ left = omega arith in
-      ap₂ (λ (m room : ℕ). advancing k room t x m (progressOf trace st g)) q (b .size) ∙ from-here
+      ap₂ (λ (m room : ℕ). advancing k room t x m (progressOf trace old g)) q (b .size) ∙ from-here
 
-  module _ (trace′ : Bytes) (st′ : State) (e : Ended) (v : ℕ) (next : v ≡ nextOf (k .next st) t) where
-    pub ends-last : Tried t g st st′ trace trace′ (instant k t x st) e → t ≤ v → (f : Ended) → f ≡ finishedOf t e
-        → (endedOf trace′ st′ f ≡ whole) × Beyond trace₀ trace′ (f .progress .used)
+  module _ (trace′ : Bytes) (ws′ : List ℕ) (e : Ended) (v : ℕ) (next : v ≡ nextOf (k .next old) t) where
+    abbrev new : State
+    new = heldIn ws′
+
+    pub ends-last : TriedAt phases tables t g ws ws′ trace trace′ (instant k t x old) e → t ≤ v → (f : Ended) → f ≡ finishedOf t e
+        → Advanced trace₀ trace′ ws′ f whole
     ends-last a l f w =
-        let s = turn-last k t x g st st′ trace trace′ e (left - 1) a (not-before (k .next st) t v next l) in
+        let s = turn-last phases tables k t x g ws ws′ trace trace′ e (left - 1) a (not-before (k .next old) t v next l) in
         let d = beyond-on trace₀ trace trace′ (g .used) (e .progress .used) (a .more) b (a .beyond) in
-        (ap (endedOf trace′ st′) w ∙ sym s ∙ here, subst (Beyond trace₀ trace′) (sym (ap (λ (z : Ended). z .progress .used) w ∙ used-as t e)) d)
+        record { same = ap (endedOf trace′ new) w ∙ sym s ∙ here; beyond = subst (Beyond trace₀ trace′) (sym (ap (λ (z : Ended). z .progress .used) w ∙ used-as t e)) d }
 
-    module _ (y : Bag) (none : y ≡ []) (a : Tried v g st st′ trace trace′ (instant k v y st) e) (l : v < t) where
-      pub ends-stop : (e .number ≡ 0 → ⊥) → (endedOf trace′ st′ e ≡ whole) × Beyond trace₀ trace′ (e .progress .used)
-      ends-stop z = (
-        sym (turn-stop k t x g st st′ trace trace′ e (left - 1) v y none a (is-before (k .next st) t v next l) z) ∙ here,
-        beyond-on trace₀ trace trace′ (g .used) (e .progress .used) (a .more) b (a .beyond),
-      )
+    module _ (y : Bag) (none : y ≡ []) (a : TriedAt phases tables v g ws ws′ trace trace′ (instant k v y old) e) (l : v < t) where
+      pub ends-stop : (e .number ≡ 0 → ⊥) → Advanced trace₀ trace′ ws′ e whole
+      ends-stop z = record {
+        same = sym (turn-stop phases tables k t x g ws ws′ trace trace′ e (left - 1) v y none a (is-before (k .next old) t v next l) z) ∙ here;
+        beyond = beyond-on trace₀ trace trace′ (g .used) (e .progress .used) (a .more) b (a .beyond);
+      }
 
-      pub goes-on : e .number ≡ 0 → Beyond trace₀ trace′ (e .progress .used) × (advancing k (length trace₀) t x (left - 1) (progressOf trace′ st′ (e .progress)) ≡ whole)
+      pub goes-on : e .number ≡ 0 → Beyond trace₀ trace′ (e .progress .used) × (advancing k (length trace₀) t x (left - 1) (progressOf trace′ new (e .progress)) ≡ whole)
       goes-on z = (
         beyond-on trace₀ trace trace′ (g .used) (e .progress .used) (a .more) b (a .beyond),
-        ap (λ (room : ℕ). advancing k room t x (left - 1) (progressOf trace′ st′ (e .progress))) (sym (b .size))
-            ∙ sym (turn-more k t x g st st′ trace trace′ e (left - 1) v y none a (is-before (k .next st) t v next l) z) ∙ here,
+        ap (λ (room : ℕ). advancing k room t x (left - 1) (progressOf trace′ new (e .progress))) (sym (b .size))
+            ∙ sym (turn-more phases tables k t x g ws ws′ trace trace′ e (left - 1) v y none a (is-before (k .next old) t v next l) z) ∙ here,
       )
 
     -- The turn as the code takes it: the bag is given at t alone, and the call ends at t, or where a number leaves the instant undone.
-    module _ (bag : Bytes) (whole-bag : x ≡ toBag bag) (a : Tried v g st st′ trace trace′ (instant k v (toBag (givenTo bag v t)) st) e) where
+    module _ (bag : Bytes) (whole-bag : x ≡ toBag bag) (a : TriedAt phases tables v g ws ws′ trace trace′ (instant k v (toBag (givenTo bag v t)) old) e) where
       before : v < t → toBag (givenTo bag v t) ≡ []
       before l = rw (lt-ltb v t l) (bag-none bag)
 
-      last-as : v ≡ t → Tried t g st st′ trace trace′ (instant k t x st) e
+      last-as : v ≡ t → TriedAt phases tables t g ws ws′ trace trace′ (instant k t x old) e
       last-as q =
           let b : givenTo bag t t ≡ bag = rw (le-ltb t t (omega arith)) in
-          subst (λ (y : Bag). Tried t g st st′ trace trace′ (instant k t y st) e) (ap toBag b ∙ sym whole-bag)
-          (subst (λ (w : ℕ). Tried w g st st′ trace trace′ (instant k w (toBag (givenTo bag w t)) st) e) q a)
+          subst (λ (y : Bag). TriedAt phases tables t g ws ws′ trace trace′ (instant k t y old) e) (ap toBag b ∙ sym whole-bag)
+          (subst (λ (w : ℕ). TriedAt phases tables w g ws ws′ trace trace′ (instant k w (toBag (givenTo bag w t)) old) e) q a)
 
       pub ends-turn : v ≤ t → (not (eqb (e .number) 0) || leb t v) ≡ true → (f : Ended) → f ≡ finishedOf t e
-          → (endedOf trace′ st′ f ≡ whole) × Beyond trace₀ trace′ (f .progress .used)
+          → Advanced trace₀ trace′ ws′ f whole
       ends-turn m h f w = go (leb t v) refl
         where
-          go : (b : Bool) → leb t v ≡ b → (endedOf trace′ st′ f ≡ whole) × Beyond trace₀ trace′ (f .progress .used)
+          go : (b : Bool) → leb t v ≡ b → Advanced trace₀ trace′ ws′ f whole
           go true q = let l = leb-true t v q in ends-last (last-as (omega arith)) l f w
           go false q =
               let o : not (eqb (e .number) 0) ≡ true = or-left (not (eqb (e .number) 0)) (leb t v) h q in
@@ -246,7 +263,7 @@ module _ (k : Simulator State) (t : ℕ) (x : Bag) (whole : Definition.Ended Sta
               rw (w, finished-no t e z) (ends-stop (toBag (givenTo bag v t)) (before l) a l (eqb-false (e .number) 0 z))
 
       pub goes-turn : (not (eqb (e .number) 0) || leb t v) ≡ false
-          → Beyond trace₀ trace′ (e .progress .used) × (advancing k (length trace₀) t x (left - 1) (progressOf trace′ st′ (e .progress)) ≡ whole)
+          → Beyond trace₀ trace′ (e .progress .used) × (advancing k (length trace₀) t x (left - 1) (progressOf trace′ new (e .progress)) ≡ whole)
       goes-turn h =
           let q = or-no (not (eqb (e .number) 0)) (leb t v) h in
           let z : e .number ≡ 0 = eqb-true (e .number) 0 (not-false (eqb (e .number) 0) (q .0)) in
@@ -257,15 +274,14 @@ module _ (k : Simulator State) (t : ℕ) (x : Bag) (whole : Definition.Ended Sta
 
 -- What holds with so many turns left: the sizes of what is lent, numbers with room for the turns left, the trace beyond the records, the turns
 -- left from here, and the due moments.
-pub record Turning (phases rules tables : List ℕ) (n t : ℕ) (bag : Bytes) (g₀ : Progress) (st₀ : State) (work₀ keys₀ scratch₀ : List ℕ) (trace₀ : Bytes)
-    (g : Progress) (st : State) (ends work keys scratch : List ℕ) (trace : Bytes) (due left : ℕ) : Type 0 where
+pub record Turning (phases rules tables : List ℕ) (t : ℕ) (bag : Bytes) (g₀ : Progress) (ws₀ work₀ : List ℕ) (trace₀ : Bytes)
+    (g : Progress) (ws work : List ℕ) (trace scratch : Bytes) (left : ℕ) : Type 0 where
   pub turns : left ≤ suc t
   pub words : length work ≡ length work₀
-  pub rows : length keys ≡ length keys₀
-  pub bytes : length scratch ≡ length scratch₀
+  pub bytes : length scratch ≡ 4096
   pub instants : g .instants + left ≤ latest
   pub steps : g .steps + maxSteps * left ≤ latest
   pub beyond : Beyond trace₀ trace (g .used)
-  pub from-here : advancingOf phases rules tables n (length work₀) (length trace₀) t bag left (progressOf trace st g)
-      ≡ advancingOf phases rules tables n (length work₀) (length trace₀) t bag (suc t) (progressOf trace₀ st₀ g₀)
-  pub ready : Ready phases tables n st ends due
+  pub from-here : advancingOf phases rules tables (length work₀) (length trace₀) t bag left (progressOf trace (heldIn ws) g)
+      ≡ advancingOf phases rules tables (length work₀) (length trace₀) t bag (suc t) (progressOf trace₀ (heldIn ws₀) g₀)
+  pub ready : Ready phases tables ws

@@ -1,20 +1,23 @@
 -- Where a call of the code ends, as the definitions have it, and its whole outcome. Assumes nothing.
+use mathlib.Core.Path.{_≡_}
 use mathlib.Core.List.{List, []}
 use mathlib.Core.Bool.{cond}
 use Prim.Native.Nat.{ℕ, suc, _+_, _*_, _≤_}
 use lib.Dec.{eqb, ltb}
-use Rattle.definition.specs.Bytes.{Bytes}
-use Rattle.definition.specs.Advance.{ended, advancing}
+use lib.ListN.{length}
+use Rattle.definition.specs.Bytes.{Bytes, ok, numberAt}
+use Rattle.definition.specs.Advance.{ended, advancing, advanceFrom}
 use Rattle.definition.specs.Advance as Definition
 use Rattle.definition.specs.Limits.{maxMoment, maxSteps}
 use Rattle.definition.specs.SavedRun.{runLength}
-use Rattle.definition.specs.Engine.{Advanced, toBag}
+use Rattle.definition.specs.Engine.{toBag, advanced}
+use Rattle.definition.specs.Engine as Engine
 use Rattle.clock.specs.Times.{latest}
-use Rattle.model_records.specs.Values.{phasesIn}
-use Rattle.spec_step.specs.Carried.{Carried}
-use Rattle.instant_steps.specs.Sim.{simOf, Lent, Fit}
+use Rattle.spec_step.specs.Tables.{atomicsIn}
+use Rattle.instant_steps.specs.Sim.{simOf, Lent, Fit, Ready}
 use Rattle.run_state.specs.declared.State.{State}
-use Rattle.instant_attempt.specs.Progress.{progressOf}
+use Rattle.run_state.specs.Held.{heldIn, heldEnd}
+use Rattle.instant_attempt.specs.Progress.{progressOf, Beyond}
 use Rattle.instant_attempt.specs.declared.Progress.{Progress}
 use Rattle.instant_attempt.specs.declared.Ended.{Ended}
 use Rattle.instant_loop.specs.declared.Answer.{Answer}
@@ -22,21 +25,21 @@ use Rattle.instant_loop.specs.declared.Answer.{Answer}
 -- ---- what is asked
 
 -- What the instants up to t ask: words for the bags, tables in range, the state's due moments, and numbers with room for t + 1 instants.
-pub record Callable (phases tables : List ℕ) (n t : ℕ) (p : Progress) (st : State) (ends : List ℕ) (work keys trace : ℕ) : Type 0 where
-  pub lent : Lent work keys
+pub record Callable (phases tables : List ℕ) (t : ℕ) (p : Progress) (w : List ℕ) (work trace : ℕ) : Type 0 where
+  pub lent : Lent work
   pub moment : t ≤ maxMoment
   pub used : p .used ≤ trace
   pub instants : p .instants + suc t ≤ latest
   pub steps : p .steps + maxSteps * suc t ≤ latest
-  pub fit : Fit n tables
-  pub carried : Carried (phasesIn phases) tables n st ends
+  pub fit : Fit tables
+  pub ready : Ready phases tables w
 
 -- What a call to t asks whose instants begin with nothing done, with a run buffer of so many bytes.
-pub record Startable (tables : List ℕ) (n t work keys run : ℕ) : Type 0 where
-  pub lent : Lent work keys
+pub record Startable (tables : List ℕ) (t work run : ℕ) : Type 0 where
+  pub lent : Lent work
   pub moment : t ≤ maxMoment
-  pub fit : Fit n tables
-  pub run-fits : runLength n ≤ run
+  pub fit : Fit tables
+  pub run-fits : runLength (atomicsIn tables) ≤ run
 
 -- ---- what is answered
 
@@ -45,18 +48,27 @@ abbrev pub givenTo : Bytes → ℕ → ℕ → Bytes
 givenTo bag now t = cond (ltb now t) [] bag
 
 -- The instants of a call to t that has come so far, by the definition, in a trace of `room` bytes.
-abbrev pub advancingOf : List ℕ → List ℕ → List ℕ → ℕ → ℕ → ℕ → ℕ → Bytes → ℕ → Definition.Progress State → Definition.Ended State
-advancingOf phases rules tables n words room t bag turns p = advancing (simOf phases rules tables n words) room t (toBag bag) turns p
+abbrev pub advancingOf : List ℕ → List ℕ → List ℕ → ℕ → ℕ → ℕ → Bytes → ℕ → Definition.Progress State → Definition.Ended State
+advancingOf phases rules tables words room t bag turns p = advancing (simOf phases rules tables words) room t (toBag bag) turns p
 
 abbrev pub endedOf : Bytes → State → Ended → Definition.Ended State
 endedOf trace st e = ended (e .number) (progressOf trace st (e .progress))
+
+-- They end as the definition says, and the trace beyond the records is as lent.
+pub record Advanced (trace₀ trace : Bytes) (w : List ℕ) (r : Ended) (e : Definition.Ended State) : Type 0 where
+  pub same : endedOf trace (heldIn w) r ≡ e
+  pub beyond : Beyond trace₀ trace (r .progress .used)
 
 -- After success the open moment is one past t.
 unfoldable pub finishedOf : ℕ → Ended → Ended
 finishedOf t e =
     let g = e .progress in
-    cond (eqb (e .number) 0)
-    (record { number = 0; progress = record { opening = record { 0 = suc t }; instants = g .instants; steps = g .steps; used = g .used }; due = e .due }) e
+    cond (eqb (e .number) 0) (record { number = 0; progress = record { opening = record { 0 = suc t }; instants = g .instants; steps = g .steps; used = g .used } }) e
 
-abbrev pub outcomeOf : Bytes → Bytes → Answer → Advanced
+abbrev pub outcomeOf : Bytes → Bytes → Answer → Engine.Advanced
 outcomeOf run trace r = record { number = r .number; instants = r .instants; steps = r .steps; used = r .used; run = run; trace = trace }
+
+-- The whole call on a run buffer whose state is st.
+abbrev pub advancedBy : List ℕ → List ℕ → List ℕ → ℕ → ℕ → Bytes → Bytes → State → Bytes → Engine.Advanced
+advancedBy phases rules tables words t bag run st trace =
+    advanced run trace (ok (heldEnd (atomicsIn tables) (advanceFrom (simOf phases rules tables words) (length trace) t (toBag bag) (numberAt 8 0 run) st)))

@@ -4,22 +4,22 @@ ghost use mathlib.Core.Bool.{cond};
 ghost use Prim.Native.Nat.{suc, _≤_};
 ghost use lib.Dec.{ltb};
 ghost use lib.ListN.{length};
-ghost use Rattle.definition.specs.Bytes.{ok};
 ghost use Rattle.definition.specs.Limits.{maxMoment};
-ghost use Rattle.definition.specs.Advance.{advanceFrom};
-ghost use Rattle.definition.specs.Engine.{toBag, advanced};
-ghost use Rattle.run_state.specs.Held.{held, heldEnd};
-ghost use Rattle.instant_steps.specs.Sim.{simOf};
-ghost use Rattle.instant_attempt.specs.Progress.{progressOf, Beyond};
-ghost use Rattle.instant_loop.specs.Ends.{Callable, Startable, givenTo, advancingOf, endedOf, finishedOf, outcomeOf};
+ghost use Rattle.run_state.specs.Held.{heldIn};
+ghost use Rattle.instant_attempt.specs.Progress.{progressOf};
+ghost use Rattle.instant_loop.specs.Ends.{Callable, Startable, givenTo, advancingOf, advancedBy, Advanced, finishedOf, outcomeOf};
 use clock::Moment;
 use instant_attempt::Ended;
 use instant_attempt::Progress;
+use instant_attempt::Turn;
 use instant_attempt::attempt;
-use limits::MAX_COMPONENTS;
 use little_endian::size;
-use step_due::next_end;
+use run_state::STATE_SIZE;
 use table_words::TABLE_SIZE;
+use table_words::atomics_in;
+
+// Bytes set aside for an instant's records.
+const SCRATCH_SIZE: usize = 4096;
 
 // "Advance answers number, instants done, steps, trace bytes".
 pub struct Answer {
@@ -54,11 +54,9 @@ fn finish(t: Moment, e: Ended) -> Ended
     let opening = Moment(t.0 + 1);
     let mut progress = e.progress;
     progress.opening = opening;
-    let due = e.due;
     Ended {
         number: 0,
         progress,
-        due,
     }
 }
 
@@ -68,109 +66,76 @@ pub fn advance_on(
     phases: &[u8],
     rules: &[u8],
     tables: &[u16; TABLE_SIZE],
-    n: u8,
     t: Moment,
     bag: &[u8],
     from: Progress,
-    phase: &mut [u8; MAX_COMPONENTS],
-    last: &mut [u64; MAX_COMPONENTS],
-    ends: &mut [u64; MAX_COMPONENTS],
+    state: &mut [u64; STATE_SIZE],
     work: &mut [u32],
-    keys: &mut [u32],
-    scratch: &mut [u8],
     trace: &mut [u8],
 ) -> Ended
-    requires { ⌜ Callable (now phases) (now tables) n (t .0) from (held (now phase) (now last)) (now ends) (length (now work)) (length (now keys)) (length (now trace)) ⌝ }
-    ensures { λ r. ⌜ (endedOf (now (trace .exit)) (held (now (phase .exit)) (now (last .exit))) r
-        ≡ advancingOf (now (phases .entry)) (now (rules .entry)) (now (tables .entry)) n (length (now (work .entry)))
-        (length (now (trace .entry))) (t .0) (now (bag .entry)) (suc (t .0)) (progressOf (now (trace .entry)) (held (now (phase .entry)) (now (last .entry))) from))
-        × Beyond (now (trace .entry)) (now (trace .exit)) (r .progress .used) ⌝ }
+    requires { ⌜ Callable (now phases) (now tables) (t .0) from (now state) (length (now work)) (length (now trace)) ⌝ }
+    ensures { λ r. ⌜ Advanced (now (trace .entry)) (now (trace .exit)) (now (state .exit)) r
+        (advancingOf (now (phases .entry)) (now (rules .entry)) (now (tables .entry)) (length (now (work .entry))) (length (now (trace .entry))) (t .0)
+        (now (bag .entry)) (suc (t .0)) (progressOf (now (trace .entry)) (heldIn (now (state .entry))) from)) ⌝ }
 {
+    let mut scratch = [0u8; SCRATCH_SIZE];
     let mut p = from;
-    let mut due = next_end(tables, ends);
     let mut left = t.0 + 1;
     while 0 < left {
-        let at = next_moment(due, t);
+        let at = next_moment(run_state::next_due(state), t);
+        let given = given_to(bag, at, t);
+        let turn = Turn { at, progress: p };
         let e = attempt(
             phases,
             rules,
             tables,
-            n,
-            at,
-            given_to(bag, at, t),
-            p,
-            phase,
-            last,
-            ends,
-            due,
+            turn,
+            given,
+            state,
             work,
-            keys,
-            scratch,
+            &mut scratch,
             trace,
         );
         if (e.number != 0) | (t.0 <= at.0) {
             return finish(t, e);
         }
         p = e.progress;
-        due = e.due;
         left = left - 1;
     }
     Ended {
         number: 0,
         progress: p,
-        due,
     }
 }
 
-// The call from an open moment and a state: what stands is written into the run buffer, and the records are at the front of the trace.
-// What the lent state holds afterwards is left open.
+// The call from a loaded state: what stands is written into the run buffer, and the records are at the front of the trace. What the lent
+// state holds afterwards is left open.
 pub fn advance_from(
     phases: &[u8],
     rules: &[u8],
     tables: &[u16; TABLE_SIZE],
-    n: u8,
     run: &mut [u8],
-    opening: Moment,
-    phase: &mut [u8; MAX_COMPONENTS],
-    last: &mut [u64; MAX_COMPONENTS],
+    state: &mut [u64; STATE_SIZE],
     t: Moment,
     bag: &[u8],
     work: &mut [u32],
-    keys: &mut [u32],
-    scratch: &mut [u8],
     trace: &mut [u8],
 ) -> Answer
-    requires { ⌜ Startable (now tables) n (t .0) (length (now work)) (length (now keys)) (length (now run)) ⌝ }
-    ensures { λ r. ⌜ outcomeOf (now (run .exit)) (now (trace .exit)) r ≡ advanced (now (run .entry)) (now (trace .entry))
-        (ok (heldEnd n (advanceFrom (simOf (now (phases .entry)) (now (rules .entry)) (now (tables .entry)) n (length (now (work .entry))))
-        (length (now (trace .entry))) (t .0) (toBag (now (bag .entry))) (opening .0) (held (now (phase .entry)) (now (last .entry)))))) ⌝ }
+    requires { ⌜ Startable (now tables) (t .0) (length (now work)) (length (now run)) ⌝ }
+    ensures { λ r. ⌜ outcomeOf (now (run .exit)) (now (trace .exit)) r
+        ≡ advancedBy (now (phases .entry)) (now (rules .entry)) (now (tables .entry)) (length (now (work .entry))) (t .0) (now (bag .entry))
+        (now (run .entry)) (heldIn (now (state .entry))) (now (trace .entry)) ⌝ }
 {
     let from = Progress {
-        opening,
+        opening: run_saved::opening_of(run),
         instants: 0,
         steps: 0,
         used: 0,
     };
-    let mut ends = [0u64; MAX_COMPONENTS];
-    step_due::put_ends(phases, tables, n, phase, last, &mut ends);
-    let e = advance_on(
-        phases,
-        rules,
-        tables,
-        n,
-        t,
-        bag,
-        from,
-        phase,
-        last,
-        &mut ends,
-        work,
-        keys,
-        scratch,
-        trace,
-    );
+    instant_steps::make_ready(phases, tables, state);
+    let e = advance_on(phases, rules, tables, t, bag, from, state, work, trace);
     let p = e.progress;
-    run_saved::store(run, p.opening, size(n), phase, last);
+    run_saved::store(run, p.opening, size(atomics_in(tables)), state);
     Answer {
         number: e.number,
         instants: p.instants,

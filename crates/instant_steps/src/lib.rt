@@ -6,7 +6,8 @@ ghost use lib.Dec.{eqb};
 ghost use lib.ListN.{length};
 ghost use Rattle.definition.specs.Lists.{isEmpty};
 ghost use Rattle.definition.specs.Engine.{toBag};
-ghost use Rattle.instant_steps.specs.Sim.{instantOf, stepOf, givenAt, Steppable, Stepped, CanRun};
+ghost use Rattle.run_state.specs.Held.{heldIn};
+ghost use Rattle.instant_steps.specs.Sim.{instantOf, stepOf, givenAt, Fit, Ready, Steppable, Stepped, CanRun};
 ghost use Rattle.instant_steps.specs.Verdicts.{Judged};
 use clock::Moment;
 use instant_records::MAX_ROOT_BAG;
@@ -58,6 +59,16 @@ fn given_at<'a>(given: &'a [u8], step: u64) -> &'a [u8]
     ensures { λ r. ⌜ now r ≡ givenAt (now (given .entry)) step ⌝ }
 {
     if step == 0 { given } else { &given[..0] }
+}
+
+// A state that was just loaded: its due moments, and the least of them, are carried from here on.
+pub fn make_ready(phases: &[u8], tables: &[u16; TABLE_SIZE], state: &mut [u64; STATE_SIZE])
+    requires { ⌜ Fit (now tables) ⌝ }
+    ensures { λ _. ⌜ (heldIn (now (state .exit)) ≡ heldIn (now (state .entry))) × Ready (now (phases .entry)) (now (tables .entry)) (now (state .exit)) ⌝ }
+{
+    let n = atomics_in(tables);
+    step_due::put_ends(phases, tables, n, state);
+    run_state::put_next(state, next_end(tables, state));
 }
 
 // One step, and when the state is next due after it.

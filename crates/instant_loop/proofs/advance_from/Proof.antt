@@ -3,28 +3,31 @@ use borrow.Author.Needs.{needs}
 use native.Mathlib.Omega.{arith}
 use denote.Ref.{now}
 use mathlib.Core.Path.{_∙_, refl, ap}
-use Prim.Native.Nat.{ℕ}
+use Prim.Native.Nat.{ℕ, suc}
 use lib.ListN.{length}
 use Rattle.instant_attempt.specs.declared.Progress.{Progress}
-use Rattle.run_state.specs.Held.{held}
+use Rattle.run_state.specs.declared.State.{State}
+use Rattle.run_state.specs.Held.{heldIn}
+use Rattle.spec_step.specs.Tables.{atomicsIn}
+use Rattle.instant_attempt.specs.Progress.{progressOf}
 use Rattle.instant_steps.specs.Sim.{simOf}
 use Rattle.run_saved.specs.Runs.{runIn}
 use Rattle.definition.specs.SavedRun.{runBytes}
-use Rattle.definition.specs.Bytes.{stored}
+use Rattle.definition.specs.Bytes.{stored, numberAt}
 use Rattle.definition.specs.Engine.{toBag}
-use Rattle.definition.specs.Advance.{advanceFrom}
+use Rattle.definition.specs.Advance.{advanceFrom, advancing}
 use Rattle.instant_loop.proofs.Outcome.{outcome, begins}
 use Rattle.instant_loop.proofs.advance_from.Statement.{statement}
 use Rattle.instant_loop.proofs.advance_from.Tie as tie
 
-put-ends-requires : tie.Need-put-ends-requires
-put-ends-requires c κs =
+make-ready-requires : tie.Need-make-ready-requires
+make-ready-requires c κs =
     let start : tie.Start = search in
-    (start .pre .fit .few, start .pre .fit .in-range)
+    start .pre .fit
 
 advance-on-requires : tie.Need-advance-on-requires
 advance-on-requires c κs =
-    let filled : tie.After-put-ends = search in let start : tie.Start = search in
+    let made : tie.After-make-ready = search in let start : tie.Start = search in
     let q = start .pre in
     record {
       lent = q .lent;
@@ -33,44 +36,45 @@ advance-on-requires c κs =
       instants = omega (arith, q .moment);
       steps = omega (arith, q .moment);
       fit = q .fit;
-      carried = filled .put-ends .ensures;
+      ready = made .make-ready .ensures .1;
     }
 
-abbrev filled-of : tie.After-advance-on → tie.After-put-ends
-filled-of c = search
-
-abbrev begun : tie.After-put-ends → tie.Start
-begun c = search
-
 abbrev start-of : tie.After-advance-on → tie.Start
-start-of c = begun (filled-of c)
+start-of c = search
 
-size-requires : tie.Need-size-requires
-size-requires c κs = search needs
+atomics-in-requires : tie.Need-atomics-in-requires
+atomics-in-requires c κs =
+    let on : tie.After-advance-on = search in
+    start-of on .pre .fit .in-range .atomics
 
 store-requires : tie.Need-store-requires
 store-requires c κs =
-    let known : tie.After-size = search in let on : tie.After-advance-on = search in
+    let known : tie.After-size = search in let counted : tie.After-atomics-in = search in let on : tie.After-advance-on = search in
     let q = start-of on .pre in
-    rw (known .size .ensures) (q .fit .few, q .run-fits)
+    rw (known .size .ensures, counted .atomics-in .ensures) (q .fit .in-range .atomics, q .run-fits)
 
 returns : tie.Need-returns
 returns c =
-    let stored-run : tie.After-store = search in let known : tie.After-size = search in let on : tie.After-advance-on = search in
+    let stored-run : tie.After-store = search in let known : tie.After-size = search in let counted : tie.After-atomics-in = search in
+    let on : tie.After-advance-on = search in let made : tie.After-make-ready = search in let opened : tie.After-opening-of = search in
     let a = start-of on .args in
     let r = on .advance-on in
-    let k = simOf (now (a .phases)) (now (a .rules)) (now (a .tables)) (a .n) (length (now (a .work))) in
+    let t = now (a .tables) in
+    let trace = now (a .trace) in
+    let k = simOf (now (a .phases)) (now (a .rules)) t (length (now (a .work))) in
     let x = toBag (now (a .bag)) in
-    let old = held (now (a .phase)) (now (a .last)) in
-    let new = held (r .last .1 .1 .1 .1 .1 .1 .1 .0) (r .last .1 .1 .1 .1 .1 .1 .1 .1 .0) in
-    let first : Progress = record { opening = a .opening; instants = 0; steps = 0; used = 0 } in
+    let old = heldIn (now (a .state)) in
+    let new = heldIn (r .last .1 .1 .1 .1 .1 .1 .0) in
+    let first : Progress = record { opening = opened .opening-of .result; instants = 0; steps = 0; used = 0 } in
     let e = r .result in
-    let put = stored-run .store .ensures ∙ ap (λ (n : ℕ). stored (runBytes (runIn (e .progress .opening .0) n new)) (now (a .run))) (known .size .ensures) in
-    outcome (a .n) (now (a .run)) (stored-run .store .last .0) (now (a .trace)) (r .last .1 .1 .1 .1 .1 .1 .1 .1 .1 .1 .1 .1 .1 .0) new e
-    (advanceFrom k (length (now (a .trace))) (a .t .0) x (a .opening .0) old)
-    (r .ensures .0 ∙ begins k (length (now (a .trace))) (a .t .0) x (now (a .trace)) old first refl refl refl) (r .ensures .1) put
+    let count = known .size .ensures ∙ counted .atomics-in .ensures in
+    let put = stored-run .store .ensures ∙ ap (λ (n : ℕ). stored (runBytes (runIn (e .progress .opening .0) n new)) (now (a .run))) count in
+    let same = r .ensures .same ∙ ap (λ (s : State). advancing k (length trace) (a .t .0) x (suc (a .t .0)) (progressOf trace s first)) (made .make-ready .ensures .0) in
+    let from = begins k (length trace) (a .t .0) x trace old first refl refl refl ∙ ap (λ o. advanceFrom k (length trace) (a .t .0) x o old) (opened .opening-of .ensures) in
+    outcome (atomicsIn t) (now (a .run)) (stored-run .store .last .0) trace (r .last .1 .1 .1 .1 .1 .1 .1 .1 .0) new e
+    (advanceFrom k (length trace) (a .t .0) x (numberAt 8 0 (now (a .run))) old) (same ∙ from) (r .ensures .beyond) put
 
 pub advance-from-spec : {M : Type 1} → statement M
 advance-from-spec =
     tie.close
-    (tie.spec put-ends-requires advance-on-requires size-requires store-requires (search needs) (search needs) (search needs) (search needs) (search needs) returns)
+    (tie.spec (search needs) make-ready-requires advance-on-requires atomics-in-requires (search needs) store-requires (search needs) (search needs) (search needs) returns)
