@@ -8,13 +8,12 @@ use lib.Dec.{leb, eqb}
 use lib.ListN.{length, getD}
 use borrow.Author.Tests.{leb-true}
 use Rattle.definition.specs.Bytes.{Bytes, ok, numberAt}
-use Rattle.definition.specs.Limits.{maxComponents, maxGiven, maxRoutes, maxMoment}
-use Rattle.definition.specs.Model.{Model, atomics}
+use Rattle.definition.specs.Limits.{maxGiven, maxRoutes, maxMoment}
+use Rattle.definition.specs.Model.{Model}
 use Rattle.definition.specs.Routes.{routes}
 use Rattle.definition.specs.Pinned.Decoder.{accepted}
 use Rattle.definition.specs.SavedRun.{runLength, atomicCount, runOf, toRun, runFits}
-use Rattle.definition.specs.Advance.{advanceFrom}
-use Rattle.definition.specs.Engine.{advanceChecks, advanced, advance, toBag}
+use Rattle.definition.specs.Engine.{advanceChecks, advance}
 use Rattle.law_base.proofs.Tests.{and-left}
 use Rattle.law_flat.proofs.Checks.{advance-ok}
 use Rattle.law_bytes.proofs.Slices.{all-bytes}
@@ -25,7 +24,10 @@ use Rattle.run_state.specs.declared.State.{State}
 use Rattle.run_state.specs.Held.{entriesOf, heldEnd}
 use Rattle.spec_step.specs.Ranges.{Seated}
 use Rattle.spec_step.specs.TablesOf.{TablesOf}
-use Rattle.instant_steps.specs.Sim.{simOf, Fit}
+use Rattle.spec_step.specs.Tables.{atomicsIn}
+use Rattle.run_saved.specs.Runs.{Loaded}
+use Rattle.instant_steps.specs.Sim.{Lent}
+use Rattle.instant_loop.specs.Ends.{Startable, advancedBy}
 use Rattle.accept_tables.proofs.Accepted.{fine}
 use Rattle.call_advance.proofs.OnTables.{call-on-tables}
 
@@ -52,24 +54,25 @@ module _ (file : Bytes) (n : Counts) (bytes : (i : ℕ) → getD file i 0 < 256)
   pub most-routes : length (routes (modelOf file n)) ≤ maxRoutes
   most-routes = fine file n bytes told .few-routes
 
-  -- What the instants ask: a moment that may be advanced to, tables that fit, and a run buffer that is long enough.
-  pub checked-room : (run : Bytes) (t : ℕ) (bag : Bytes) (count : ℕ) → advanceChecks (modelOf file n) run t bag ≡ ok tt → count ≡ length (atomics (modelOf file n .components))
-      → (tables : List ℕ) → TablesOf (modelOf file n) tables → (t ≤ maxMoment) × Fit count tables × (runLength count ≤ length run)
-  unfolding atomicCount
-  checked-room run t bag count c e tables h =
-      let k = advance-ok (modelOf file n) run t bag c in
-      let fit : Fit count tables = record { few = omega (arith, e, h .few); in-range = h .in-range; seated = subst (λ k. Seated k tables) (sym e) (h .seated) } in
-      (k .not-late, fit, rw e (fits-long (modelOf file n) run (k .run-fits)))
+  module _ (run : Bytes) (t : ℕ) (bag : Bytes) (c : advanceChecks (modelOf file n) run t bag ≡ ok tt) (tables : List ℕ) (h : TablesOf (modelOf file n) tables) where
+    -- What the instants ask: words for the bags, a moment that may be advanced to, tables that fit, and a run buffer that is long enough.
+    pub startable : (work : ℕ) → Lent work → Startable tables t work (length run)
+    unfolding atomicCount
+    startable work lent =
+        let k = advance-ok (modelOf file n) run t bag c in
+        let e = h .tabled .atomic-count in record {
+          lent = lent;
+          moment = k .not-late;
+          fit = record { in-range = h .in-range; seated = subst (λ k. Seated k tables) (sym e) (h .seated) };
+          run-fits = rw e (fits-long (modelOf file n) run (k .run-fits));
+        }
 
-  -- The call by what the code has: the parts, the model's tables, the open moment and the state.
-  pub call-parts : (run : Bytes) (t : ℕ) (bag trace : Bytes) → ((i : ℕ) → getD bag i 0 < 256) → advanceChecks (modelOf file n) run t bag ≡ ok tt
-      → (count : ℕ) → count ≡ length (atomics (modelOf file n .components)) → (st : State) → entriesOf count st ≡ toRun count run .entries
-      → length (st .phase) ≡ maxComponents → length (st .last) ≡ maxComponents
-      → (tables : List ℕ) → TablesOf (modelOf file n) tables → (room : ℕ) → maxGiven * length (routes (modelOf file n)) ≤ room
-      → (ps rs : Bytes) (opening : ℕ) → ps ≡ phasesPart file n → rs ≡ rulesPart file n → opening ≡ numberAt 8 0 run
-      → advanced run trace (ok (heldEnd count (advanceFrom (simOf ps rs tables count room) (length trace) t (toBag bag) opening st))) ≡ advance file run t bag trace
-  unfolding modelOf modelIn runOf toRun atomicCount heldEnd
-  call-parts run t bag trace given c count e st same phases lasts tables h room enough ps rs opening p q o =
-      rw (p, q, o, e) (call-on-tables file run t bag trace (modelOf file n) (all-bytes file bytes) (all-bytes bag given) told c st
-      (ap (λ k. entriesOf k st) (sym e) ∙ same ∙ ap (λ k. toRun k run .entries) e) (omega (arith, h .few, phases)) (omega (arith, h .few, lasts))
-      tables (h .tabled) room enough)
+    -- The call by what the code has: the parts, the model's tables and the state.
+    pub call-parts : (trace : Bytes) → ((i : ℕ) → getD bag i 0 < 256) → (st : State) → Loaded run (atomicsIn tables) st → (room : ℕ) → maxGiven * length (routes (modelOf file n)) ≤ room
+        → (ps rs : Bytes) → ps ≡ phasesPart file n → rs ≡ rulesPart file n → advancedBy ps rs tables room t bag run st trace ≡ advance file run t bag trace
+    unfolding modelOf modelIn runOf toRun atomicCount heldEnd
+    call-parts trace given st loaded room enough ps rs p q =
+        let e = h .tabled .atomic-count in
+        rw (p, q, e) (call-on-tables file run t bag trace (modelOf file n) (all-bytes file bytes) (all-bytes bag given) told c st
+        (ap (λ k. entriesOf k st) (sym e) ∙ loaded .entries ∙ ap (λ k. toRun k run .entries) e) (omega (arith, h .few, loaded .phases)) (omega (arith, h .few, loaded .lasts))
+        tables (h .tabled) room enough)

@@ -5,7 +5,6 @@ use Prim.Native.Nat.{ℕ, _*_, _≤_}
 use lib.ListN.{length}
 use Rattle.definition.specs.Bytes.{Bytes, ok}
 use Rattle.definition.specs.Limits.{maxGiven}
-use Rattle.definition.specs.Model.{atomics}
 use Rattle.definition.specs.Routes.{routes}
 use Rattle.definition.specs.Pinned.Decoder.{accepted}
 use Rattle.definition.specs.Engine.{advanceChecks}
@@ -20,14 +19,13 @@ pub record ModelOpened (file : Bytes) (n : Counts) (tables : List ℕ) (route-co
   pub tabled : TablesOf (modelOf file n) tables
   pub counted : length (routes (modelOf file n)) ≡ route-count
 
--- The checks of run, time and bag let the call in; the model has so many atomics.
-pub record LetIn (file : Bytes) (n : Counts) (tables : List ℕ) (run : Bytes) (count t : ℕ) (bag : Bytes) : Type 0 where
+-- The checks of run, time and bag let the call in.
+pub record LetIn (file : Bytes) (n : Counts) (tables : List ℕ) (run : Bytes) (t : ℕ) (bag : Bytes) : Type 0 where
   pub model : ok (modelOf file n) ≡ accepted file
   pub tabled : TablesOf (modelOf file n) tables
   pub checks : advanceChecks (modelOf file n) run t bag ≡ ok tt
-  pub counted : count ≡ length (atomics (modelOf file n .components))
 
 -- The words lent have room for every bag of the model.
-pub record Roomy (file : Bytes) (n : Counts) (work keys : ℕ) : Type 0 where
-  pub lent : Lent work keys
+pub record Roomy (file : Bytes) (n : Counts) (work : ℕ) : Type 0 where
+  pub lent : Lent work
   pub room : maxGiven * length (routes (modelOf file n)) ≤ work

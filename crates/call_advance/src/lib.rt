@@ -8,11 +8,14 @@ ghost use Rattle.model_file.specs.Checked.{modelOf};
 ghost use Rattle.call_advance.specs.Answers.{advancedOf};
 ghost use Rattle.call_advance.specs.LetIn.{ModelOpened, LetIn, Roomy};
 use clock::Moment;
-use limits::MAX_COMPONENTS;
+use instant_loop::advance_from;
 use limits::MAX_MOMENT;
+use little_endian::size;
 use model_file::Checked;
 use model_file::Counts;
+use run_state::STATE_SIZE;
 use table_words::TABLE_SIZE;
+use table_words::atomics_in;
 
 // "Advance answers number, instants done, steps, trace bytes".
 pub struct Advanced {
@@ -22,24 +25,15 @@ pub struct Advanced {
     pub trace_bytes: u64,
 }
 
-// A route carries at most 16 messages into an atomic and 4 to the root. A model with few routes, as most have, gets small buffers, so that
-// a short call does not pay for filling large ones with zeros.
+// A route carries at most 16 messages into an atomic. A model with few routes, as most have, gets a small buffer, so that a short call does
+// not pay for filling a large one with zeros.
 const MESSAGES_IN: usize = 16;
-
-const MESSAGES_OUT: usize = 4;
 
 const FEW_ROUTES: u16 = 64;
 
-const FEW_IN: usize = MESSAGES_IN * 64;
+const FEW_WORDS: usize = MESSAGES_IN * 64;
 
-const FEW_OUT: usize = MESSAGES_OUT * 64;
-
-const MOST_IN: usize = MESSAGES_IN * 1024;
-
-const MOST_OUT: usize = MESSAGES_OUT * 1024;
-
-// Bytes set aside for an instant's records.
-const SCRATCH: usize = 4096;
+const MOST_WORDS: usize = MESSAGES_IN * 1024;
 
 fn wide16(x: u16) -> u64
     ensures { λ r. ⌜ r ≡ x ⌝ }
@@ -59,43 +53,25 @@ fn refused(number: u64) -> Advanced
     }
 }
 
-// The instants of a call that the checks let through, on the tables of the model, with buffers that have room for its routes.
+// The instants of a call that the checks let through, on the tables of the model, with a buffer that has room for its routes.
 fn advance_let_in(
     file: &[u8],
     n: Counts,
     tables: &[u16; TABLE_SIZE],
     run: &mut [u8],
-    count: usize,
     t: Moment,
     bag: &[u8],
     trace: &mut [u8],
     work: &mut [u32],
-    keys: &mut [u32],
 ) -> Advanced
-    requires { ⌜ LetIn (now file) n (now tables) (now run) count (t .0) (now bag) × Roomy (now file) n (length (now work)) (length (now keys)) ⌝ }
+    requires { ⌜ LetIn (now file) n (now tables) (now run) (t .0) (now bag) × Roomy (now file) n (length (now work)) ⌝ }
     ensures { λ r. ⌜ advancedOf r (now (run .exit)) (now (trace .exit)) ≡ advance (now (file .entry)) (now (run .entry)) (t .0) (now (bag .entry)) (now (trace .entry)) ⌝ }
 {
-    let opening = run_saved::opening_of(run);
-    let mut phase = [0u8; MAX_COMPONENTS];
-    let mut last = [0u64; MAX_COMPONENTS];
-    run_saved::load(run, count, &mut phase, &mut last);
-    let mut scratch = [0u8; SCRATCH];
-    let r = instant_loop::advance_from(
-        model_file::phases_of(file, n),
-        model_file::rules_of(file, n),
-        tables,
-        count as u8,
-        run,
-        opening,
-        &mut phase,
-        &mut last,
-        t,
-        bag,
-        work,
-        keys,
-        &mut scratch,
-        trace,
-    );
+    let mut state = [0u64; STATE_SIZE];
+    run_saved::load(run, size(atomics_in(tables)), &mut state);
+    let phases = model_file::phases_of(file, n);
+    let rules = model_file::rules_of(file, n);
+    let r = advance_from(phases, rules, tables, run, &mut state, t, bag, work, trace);
     Advanced {
         number: r.number,
         instants: r.instants,
@@ -104,33 +80,21 @@ fn advance_let_in(
     }
 }
 
+// A buffer for few routes, and one for as many as a model may have.
 fn advance_few(
     file: &[u8],
     n: Counts,
     tables: &[u16; TABLE_SIZE],
     run: &mut [u8],
-    count: usize,
     t: Moment,
     bag: &[u8],
     trace: &mut [u8],
 ) -> Advanced
-    requires { ⌜ LetIn (now file) n (now tables) (now run) count (t .0) (now bag) × (length (routes (modelOf (now file) n)) ≤ 64) ⌝ }
+    requires { ⌜ LetIn (now file) n (now tables) (now run) (t .0) (now bag) × (length (routes (modelOf (now file) n)) ≤ 64) ⌝ }
     ensures { λ r. ⌜ advancedOf r (now (run .exit)) (now (trace .exit)) ≡ advance (now (file .entry)) (now (run .entry)) (t .0) (now (bag .entry)) (now (trace .entry)) ⌝ }
 {
-    let mut work = [0u32; FEW_IN];
-    let mut keys = [0u32; FEW_OUT];
-    advance_let_in(
-        file,
-        n,
-        tables,
-        run,
-        count,
-        t,
-        bag,
-        trace,
-        &mut work,
-        &mut keys,
-    )
+    let mut work = [0u32; FEW_WORDS];
+    advance_let_in(file, n, tables, run, t, bag, trace, &mut work)
 }
 
 fn advance_many(
@@ -138,28 +102,15 @@ fn advance_many(
     n: Counts,
     tables: &[u16; TABLE_SIZE],
     run: &mut [u8],
-    count: usize,
     t: Moment,
     bag: &[u8],
     trace: &mut [u8],
 ) -> Advanced
-    requires { ⌜ LetIn (now file) n (now tables) (now run) count (t .0) (now bag) ⌝ }
+    requires { ⌜ LetIn (now file) n (now tables) (now run) (t .0) (now bag) ⌝ }
     ensures { λ r. ⌜ advancedOf r (now (run .exit)) (now (trace .exit)) ≡ advance (now (file .entry)) (now (run .entry)) (t .0) (now (bag .entry)) (now (trace .entry)) ⌝ }
 {
-    let mut work = [0u32; MOST_IN];
-    let mut keys = [0u32; MOST_OUT];
-    advance_let_in(
-        file,
-        n,
-        tables,
-        run,
-        count,
-        t,
-        bag,
-        trace,
-        &mut work,
-        &mut keys,
-    )
+    let mut work = [0u32; MOST_WORDS];
+    advance_let_in(file, n, tables, run, t, bag, trace, &mut work)
 }
 
 // The checks of run, time and bag, for an accepted model with so many routes.
@@ -190,11 +141,10 @@ fn advance_accepted(
     if !call_bag::bag_fits(bag) {
         return refused(12);
     }
-    let count = model_records::atomic_count(components);
     if route_count <= FEW_ROUTES {
-        advance_few(file, n, tables, run, count, Moment(t), bag, trace)
+        advance_few(file, n, tables, run, Moment(t), bag, trace)
     } else {
-        advance_many(file, n, tables, run, count, Moment(t), bag, trace)
+        advance_many(file, n, tables, run, Moment(t), bag, trace)
     }
 }
 

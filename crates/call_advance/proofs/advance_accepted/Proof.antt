@@ -69,7 +69,7 @@ returns-4 c =
 
 advance-few-requires : tie.Need-advance-few-requires
 advance-few-requires c κs =
-    let start : tie.Start = search in let then5 : tie.Then5 = search in let after-atomic-count : tie.After-atomic-count = search in
+    let start : tie.Start = search in let then5 : tie.Then5 = search in
     let else4 : tie.Else4 = search in let after-bag-fits : tie.After-bag-fits = search in let else3 : tie.Else3 = search in
     let else2 : tie.Else2 = search in let after-opening-of : tie.After-opening-of = search in let else1 : tie.Else1 = search in
     let after-fits2 : tie.After-fits2 = search in let after-phases-of : tie.After-phases-of = search in
@@ -83,14 +83,13 @@ advance-few-requires c κs =
         model = start .pre .model;
         tabled = start .pre .tabled;
         checks = let-in (a .file .now) (a .run .now) (a .t) (a .bag .now) (a .trace .now) m (start .pre .model) g o (else3 .if3 .left) (sym (after-bag-fits .bag-fits .ensures) ∙ not-false (after-bag-fits .bag-fits .result) (else4 .if4 .left));
-        counted = after-atomic-count .atomic-count .ensures ∙ ap (λ (s : Bytes). length (atomics (componentsIn s))) (after-components-of .components-of .ensures) ∙ count-file (a .file .now) (a .n);
       },
       omega (arith, start .pre .counted, then5 .if5 .taken),
     )
 
 advance-many-requires : tie.Need-advance-many-requires
 advance-many-requires c κs =
-    let start : tie.Start = search in let after-atomic-count : tie.After-atomic-count = search in let else4 : tie.Else4 = search in
+    let start : tie.Start = search in let else4 : tie.Else4 = search in
     let after-bag-fits : tie.After-bag-fits = search in let else3 : tie.Else3 = search in let else2 : tie.Else2 = search in
     let after-opening-of : tie.After-opening-of = search in let else1 : tie.Else1 = search in let after-fits2 : tie.After-fits2 = search in
     let after-phases-of : tie.After-phases-of = search in let after-components-of : tie.After-components-of = search in
@@ -103,12 +102,11 @@ advance-many-requires c κs =
       model = start .pre .model;
       tabled = start .pre .tabled;
       checks = let-in (a .file .now) (a .run .now) (a .t) (a .bag .now) (a .trace .now) m (start .pre .model) g o (else3 .if3 .left) (sym (after-bag-fits .bag-fits .ensures) ∙ not-false (after-bag-fits .bag-fits .result) (else4 .if4 .left));
-      counted = after-atomic-count .atomic-count .ensures ∙ ap (λ (s : Bytes). length (atomics (componentsIn s))) (after-components-of .components-of .ensures) ∙ count-file (a .file .now) (a .n);
     }
 
 pub advance-accepted-spec : {M : Type 1} → statement M
 advance-accepted-spec =
     tie.close (tie.spec (λ c κs. search needs) (λ c κs. search needs) fits-requires (λ c κs. search needs) (λ c. search needs) returns
     (λ c κs. search needs) (λ c κs. search needs) (λ c. search needs) returns-2 (λ c κs. search needs) (λ c. search needs) returns-3
-    (λ c κs. search needs) (λ c κs. search needs) (λ c. search needs) returns-4 (λ c κs. search needs) advance-few-requires advance-many-requires
+    (λ c κs. search needs) (λ c κs. search needs) (λ c. search needs) returns-4 advance-few-requires advance-many-requires
     (λ c. search needs) (λ c. search needs) (λ c. search needs) (λ c. search needs) (λ c. search needs) (λ c. search needs))

@@ -9,10 +9,10 @@ advance-let-in-requires : tie.Need-advance-let-in-requires
 advance-let-in-requires c κs =
     let bytes : tie.After-shared-slice-known = search in let start : tie.Start = search in
     let most = most-routes (start .args .file .now) (start .args .n) (λ i. bytes .shared-slice-known .given i .fits) (start .pre .model) in
-    (start .pre, record { lent = (omega arith, omega arith); room = omega (arith, most) })
+    (start .pre, record { lent = omega arith; room = omega (arith, most) })
 
 returns : tie.Need-returns
 returns c = search needs
 
 pub advance-many-spec : {M : Type 1} → statement M
-advance-many-spec = tie.close (tie.spec (search needs) (search needs) advance-let-in-requires (search needs) (search needs) returns)
+advance-many-spec = tie.close (tie.spec (search needs) advance-let-in-requires (search needs) (search needs) returns)
