@@ -1,4 +1,4 @@
--- The probe's records and marks as the code stores them. Assumes nothing.
+-- The probe's records and flags as the code stores them. Assumes nothing.
 use mathlib.Core.Path.{_≡_, refl, sym, ap, ap₂, _∙_}
 use Prim.Native.Nat.{ℕ, suc, _+_, _*_, _-_, _/_, _≤_, _<_}
 use mathlib.Core.List.{List, [], _++_, map, append-nil, map-map}
@@ -17,10 +17,11 @@ use Rattle.model_records.specs.Values.{phasesIn}
 use Rattle.law_model.proofs.Codec.{length-bytes, rows-length, rows-back}
 use Rattle.law_stores.proofs.Stores.{sets-append}
 use Rattle.spec_step.specs.Tables.{outputNode}
+use Rattle.spec_step.specs.Flags.{flagsSize}
 use Rattle.law_step.proofs.Positions.{getD-up}
 use Rattle.flat_writer.proofs.Pieces.{records-more, records-none}
 use Rattle.law_model.proofs.Writing.{phase-size}
-use Rattle.flat_probe.specs.Probe.{ownPort, probeOf, probes, probeMarks}
+use Rattle.flat_probe.specs.Probe.{ownPort, probeOf, probes, probeFlags}
 
 pub slot-puts : (c q at : ℕ) (b : Bytes) → sets (sets b at (bytesOf 1 q)) (at + 1) (bytesOf 2 (8 * c + (4 + q))) ≡ sets b at (messageBytes (ownPort c q))
 unfolding messageBytes laidOut bytesOf ownPort outputNode
@@ -96,29 +97,29 @@ probes-back b l =
     ∙ ap (λ n. map toPhase (chunks n phaseSize (x ++ []))) n
     ∙ ap (map toPhase) (rows-back phaseSize phaseBytes phase-size probes []) ∙ map-map toPhase phaseBytes probes ∙ probes-held
 
--- ---- marks
+-- ---- flags
 
-unfoldable pub marksFrom : ℕ → List ℕ
-marksFrom c = upFrom (c + 1) (maxComponents - c)
+unfoldable pub flagsFrom : ℕ → List ℕ
+flagsFrom i = upFrom (i + 1) (flagsSize - i)
 
-pub marks-more : (c : ℕ) (b : List ℕ) → c < maxComponents → sets (set b c (c + 1)) (c + 1) (marksFrom (c + 1)) ≡ sets b c (marksFrom c)
-unfolding marksFrom
-marks-more c b l = sym (ap (λ k. sets b c (upFrom (c + 1) k)) e ∙ one)
+pub flags-more : (i : ℕ) (b : List ℕ) → i < flagsSize → sets (set b i (i + 1)) (i + 1) (flagsFrom (i + 1)) ≡ sets b i (flagsFrom i)
+unfolding flagsFrom
+flags-more i b l = sym (ap (λ k. sets b i (upFrom (i + 1) k)) e ∙ one)
   where
-    e : maxComponents - c ≡ suc (maxComponents - (c + 1))
+    e : flagsSize - i ≡ suc (flagsSize - (i + 1))
     e = omega arith
 
-    one : sets b c (upFrom (c + 1) (suc (maxComponents - (c + 1)))) ≡ sets (set b c (c + 1)) (c + 1) (upFrom (c + 1 + 1) (maxComponents - (c + 1)))
+    one : sets b i (upFrom (i + 1) (suc (flagsSize - (i + 1)))) ≡ sets (set b i (i + 1)) (i + 1) (upFrom (i + 1 + 1) (flagsSize - (i + 1)))
     one =
         unfold upFrom in
-        (ap₂ (λ i j. sets (set b c (c + 1)) i (upFrom j (maxComponents - (c + 1)))) (let f : suc c ≡ c + 1 = omega arith in f) (let f : suc (c + 1) ≡ c + 1 + 1 = omega arith in f))
+        (ap₂ (λ k j. sets (set b i (i + 1)) k (upFrom j (flagsSize - (i + 1)))) (let f : suc i ≡ i + 1 = omega arith in f) (let f : suc (i + 1) ≡ i + 1 + 1 = omega arith in f))
 
-pub marks-none : (c : ℕ) (b : List ℕ) → maxComponents ≤ c → sets b c (marksFrom c) ≡ b
-unfolding marksFrom
-marks-none c b l = ap (λ k. sets b c (upFrom (c + 1) k)) (let e : maxComponents - c ≡ 0 = omega arith in e) ∙ (unfold upFrom in refl)
+pub flags-none : (i : ℕ) (b : List ℕ) → flagsSize ≤ i → sets b i (flagsFrom i) ≡ b
+unfolding flagsFrom
+flags-none i b l = ap (λ k. sets b i (upFrom (i + 1) k)) (let e : flagsSize - i ≡ 0 = omega arith in e) ∙ (unfold upFrom in refl)
 
-pub marks-all : (b : List ℕ) → length b ≡ maxComponents → sets b 0 (marksFrom 0) ≡ probeMarks
-unfolding marksFrom probeMarks
-marks-all b l =
-    let x = upFrom 1 maxComponents in
-    sets-eq x b 0 (omega (arith, length-up 1 maxComponents)) ∙ ap (λ r. x ++ r) (drop-of-length-le b {i = 0 + length x} (omega (arith, length-up 1 maxComponents))) ∙ append-nil x
+pub flags-all : (b : List ℕ) → length b ≡ flagsSize → sets b 0 (flagsFrom 0) ≡ probeFlags
+unfolding flagsFrom probeFlags
+flags-all b l =
+    let x = upFrom 1 flagsSize in
+    sets-eq x b 0 (omega (arith, length-up 1 flagsSize)) ∙ ap (λ r. x ++ r) (drop-of-length-le b {i = 0 + length x} (omega (arith, length-up 1 flagsSize))) ∙ append-nil x

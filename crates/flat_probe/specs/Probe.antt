@@ -7,6 +7,7 @@ use Rattle.definition.specs.Lists.{upFrom}
 use Rattle.definition.specs.Limits.{maxComponents, maxOutputs, portCount}
 use Rattle.definition.specs.Model.{Message, Bag, Phase}
 use Rattle.spec_step.specs.Tables.{inputNode, outputNode}
+use Rattle.spec_step.specs.Flags.{flagsSize, marksIn, reachedIn}
 
 -- ---- the probing step
 
@@ -18,12 +19,19 @@ ownPort c q = record { port = q; value = outputNode c q }
 unfoldable pub probeOf : ℕ → Phase
 probeOf c = record { advance = 0; next = 0; outputCount = maxOutputs; slot0 = ownPort c 0; slot1 = ownPort c 1; slot2 = ownPort c 2; slot3 = ownPort c 3 }
 
--- A record for each component, and its mark: the record and 1.
+-- A record for each component.
 unfoldable pub probes : List Phase
 probes = map probeOf (upFrom 0 maxComponents)
 
-unfoldable pub probeMarks : List ℕ
-probeMarks = upFrom 1 maxComponents
+-- The flags: a component's mark is its record and 1, and every component may be reached.
+unfoldable pub probeFlags : List ℕ
+probeFlags = upFrom 1 flagsSize
+
+abbrev pub probeMarks : List ℕ
+probeMarks = marksIn probeFlags
+
+abbrev pub probeReached : List ℕ
+probeReached = reachedIn probeFlags
 
 -- What the root is given.
 unfoldable pub probeGiven : Bag

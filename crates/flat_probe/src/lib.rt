@@ -1,4 +1,4 @@
-// The phase records and the marks of the probing step: each component has a record that puts out, at each of its four output ports, that
+// The phase records and the flags of the probing step: each component has a record that puts out, at each of its four output ports, that
 // port's own number as value. So a message that arrives at an end names the port where its route begins.
 ghost use mathlib.Core.Path.{_≡_};
 ghost use Prim.Native.Nat.{_+_, _*_, _≤_};
@@ -7,10 +7,12 @@ ghost use lib.Seq.{sets};
 ghost use Rattle.definition.specs.Limits.{maxComponents, phaseSize};
 ghost use Rattle.definition.specs.Records.{messageBytes, phaseBytes};
 ghost use Rattle.model_records.specs.Values.{phasesIn};
-ghost use Rattle.flat_probe.specs.Probe.{ownPort, probeOf, probes, probeMarks};
+ghost use Rattle.spec_step.specs.Flags.{flagsSize};
+ghost use Rattle.flat_probe.specs.Probe.{ownPort, probeOf, probes, probeFlags};
 use limits::MAX_COMPONENTS;
 use limits::PHASE_SIZE;
 use little_endian::put_number;
+use table_words::FLAGS_SIZE;
 
 fn wide(x: u8) -> u64
     ensures { λ r. ⌜ r ≡ x ⌝ }
@@ -58,21 +60,21 @@ pub fn put_probes(out: &mut [u8])
     }
 }
 
-fn mark(c: usize) -> u32
-    requires { ⌜ c ≤ maxComponents ⌝ }
-    ensures { λ r. ⌜ r ≡ c + 1 ⌝ }
+fn next_number(i: usize) -> u32
+    requires { ⌜ i ≤ flagsSize ⌝ }
+    ensures { λ r. ⌜ r ≡ i + 1 ⌝ }
 {
-    (c + 1) as u32
+    (i + 1) as u32
 }
 
-// The marks: each component's own record and 1.
-pub fn put_marks(marks: &mut [u32])
-    requires { ⌜ length (now marks) ≡ maxComponents ⌝ }
-    ensures { λ _. ⌜ now (marks .exit) ≡ probeMarks ⌝ }
+// The flags: each component's mark is its own record and 1; that it may be reached is any number but 0, so that the numbers go on.
+pub fn put_flags(flags: &mut [u32])
+    requires { ⌜ length (now flags) ≡ flagsSize ⌝ }
+    ensures { λ _. ⌜ now (flags .exit) ≡ probeFlags ⌝ }
 {
-    let mut c: usize = 0;
-    while c < MAX_COMPONENTS {
-        marks[c] = mark(c);
-        c = c + 1;
+    let mut i: usize = 0;
+    while i < FLAGS_SIZE {
+        flags[i] = next_number(i);
+        i = i + 1;
     }
 }

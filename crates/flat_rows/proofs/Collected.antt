@@ -15,12 +15,14 @@ use Rattle.definition.specs.Engine.{toBag}
 use Rattle.spec_step.specs.Put.{putPorts, keysOf}
 use Rattle.spec_step.specs.Tables.{inputNode, outputNode, numbersAt}
 use Rattle.spec_step.specs.TableStep.{pulledBelow, pulledInto, keysInto, rootKeys}
+use Rattle.spec_step.specs.Flags.{marksIn, reachedIn}
 use Rattle.law_step.proofs.Putting.{bag-front}
 use Rattle.law_stores.proofs.Fronts.{Front}
 use Rattle.law_stores.proofs.Stores.{take-sets}
 use Rattle.sort.proofs.Merging.{length-sort}
-use Rattle.flat_probe.specs.Probe.{probes, probeMarks, probeGiven}
+use Rattle.flat_probe.specs.Probe.{probes, probeFlags, probeGiven}
 use Rattle.flat_rows.specs.Rows.{rowOf, rowsAtPosition, rowsFrom, rowsAtRoot, rowsOf, probeRows}
+use Rattle.flat_rows.specs.Put.{Stand}
 
 -- ---- the rows of one end
 
@@ -52,27 +54,47 @@ bag-held values b after r e l =
     let p = f .position in
     record { count = omega arith; keys = f .held ∙ take-all (length b) ks l; room = omega arith }
 
-module _ (ps : List Phase) (t : List ℕ) (es : List ℕ) where
-  pub root-held : (b after : List ℕ) (r : ℕ) → (after, r) ≡ putPorts (λ q. pulledBelow ps t es es maxAncestors (outputNode 0 q)) portCount 0 (b, 0)
-      → length (rootKeys ps t es es) ≤ length b → Held (rootKeys ps t es es) after r
-  unfolding rootKeys
-  root-held b after r e l = bag-held (λ q. pulledBelow ps t es es maxAncestors (outputNode 0 q)) b after r e l
+module _ (ps : List Phase) (t flags : List ℕ) where
+  abbrev keysAt : Bag → ℕ → List ℕ
+  keysAt x i = keysInto ps t (marksIn flags) (reachedIn flags) x (getD t (numbersAt + i) 0)
+
+  abbrev keysAtRoot : List ℕ
+  keysAtRoot = rootKeys ps t (marksIn flags) (reachedIn flags)
+
+  pub root-length : length (rowsAtRoot ps t flags) ≡ length keysAtRoot
+  unfolding rowsAtRoot
+  root-length = length-map keysAtRoot (rowOf t 0)
+
+  pub root-held : (b after : List ℕ) (r : ℕ)
+      → (after, r) ≡ putPorts (λ q. pulledBelow ps t (marksIn flags) (reachedIn flags) maxAncestors (outputNode 0 q)) portCount 0 (b, 0)
+      → length (rowsAtRoot ps t flags) ≤ length b → Held keysAtRoot after r
+  root-held b after r e l = go (omega (arith, root-length))
+    where
+      go : length keysAtRoot ≤ length b → Held keysAtRoot after r
+      go l = unfold rootKeys in (bag-held (λ q. pulledBelow ps t (marksIn flags) (reachedIn flags) maxAncestors (outputNode 0 q)) b after r e (unfold rootKeys in l))
+
+  -- the rows of an end from its keys
+  pub root-rows : (after : List ℕ) (r : ℕ) → Held keysAtRoot after r → map (rowOf t 0) (take r after) ≡ rowsAtRoot ps t flags
+  unfolding rowsAtRoot
+  root-rows after r h = ap (map (rowOf t 0)) (h .keys)
 
   module _ (x : Bag) where
-    pub position-length : (i : ℕ) → length (rowsAtPosition ps t es x i) ≡ length (keysInto ps t es es x (getD t (numbersAt + i) 0))
+    pub position-length : (i : ℕ) → length (rowsAtPosition ps t flags x i) ≡ length (keysAt x i)
     unfolding rowsAtPosition
-    position-length i = length-map (keysInto ps t es es x (getD t (numbersAt + i) 0)) (rowOf t (i + 1))
+    position-length i = length-map (keysAt x i) (rowOf t (i + 1))
 
-    pub atomic-held : (i : ℕ) (b after : List ℕ) (r : ℕ) → (after, r) ≡ putPorts (λ q. pulledInto ps t es es x maxAncestors (inputNode (getD t (numbersAt + i) 0) q)) portCount 0 (b, 0)
-        → length (rowsAtPosition ps t es x i) ≤ length b → Held (keysInto ps t es es x (getD t (numbersAt + i) 0)) after r
+    pub atomic-held : (i : ℕ) (b after : List ℕ) (r : ℕ)
+        → (after, r) ≡ putPorts (λ q. pulledInto ps t (marksIn flags) (reachedIn flags) x maxAncestors (inputNode (getD t (numbersAt + i) 0) q)) portCount 0 (b, 0)
+        → length (rowsAtPosition ps t flags x i) ≤ length b → Held (keysAt x i) after r
     atomic-held i b after r e l = go (omega (arith, position-length i))
       where
-        go : length (keysInto ps t es es x (getD t (numbersAt + i) 0)) ≤ length b → Held (keysInto ps t es es x (getD t (numbersAt + i) 0)) after r
-        go l = unfold keysInto in (bag-held (λ q. pulledInto ps t es es x maxAncestors (inputNode (getD t (numbersAt + i) 0) q)) b after r e (unfold keysInto in l))
+        values : ℕ → List ℕ
+        values q = pulledInto ps t (marksIn flags) (reachedIn flags) x maxAncestors (inputNode (getD t (numbersAt + i) 0) q)
 
-    -- the rows of an end from its keys
-    pub position-rows : (i : ℕ) (after : List ℕ) (r : ℕ) → Held (keysInto ps t es es x (getD t (numbersAt + i) 0)) after r
-        → map (rowOf t (i + 1)) (take r after) ≡ rowsAtPosition ps t es x i
+        go : length (keysAt x i) ≤ length b → Held (keysAt x i) after r
+        go l = unfold keysInto in (bag-held values b after r e (unfold keysInto in l))
+
+    pub position-rows : (i : ℕ) (after : List ℕ) (r : ℕ) → Held (keysAt x i) after r → map (rowOf t (i + 1)) (take r after) ≡ rowsAtPosition ps t flags x i
     unfolding rowsAtPosition
     position-rows i after r h = ap (map (rowOf t (i + 1))) (h .keys)
 
@@ -80,45 +102,42 @@ module _ (ps : List Phase) (t : List ℕ) (es : List ℕ) where
 
     -- what a buffer has after the ends before position i
     pub record So (n i at : ℕ) (rows : List ℕ) : Type 0 where
-      pub left : at + length (rowsFrom ps t es x (n - i) i) ≡ length (rowsOf ps t es x n)
-      pub done : take at rows ++ rowsFrom ps t es x (n - i) i ≡ rowsOf ps t es x n
+      pub left : at + length (rowsFrom ps t flags x (n - i) i) ≡ length (rowsOf ps t flags x n)
+      pub done : take at rows ++ rowsFrom ps t flags x (n - i) i ≡ rowsOf ps t flags x n
 
-    pub so-begins : (n : ℕ) (b : List ℕ) → length (rowsOf ps t es x n) ≤ length b
-        → So n 0 (length (rootKeys ps t es es)) (sets b 0 (map (rowOf t 0) (rootKeys ps t es es)))
+    pub so-begins : (n : ℕ) (b : List ℕ) → length (rowsOf ps t flags x n) ≤ length b
+        → So n 0 (0 + length (rowsAtRoot ps t flags)) (sets b 0 (rowsAtRoot ps t flags))
     so-begins n b l =
-        let a = map (rowOf t 0) (rootKeys ps t es es) in
-        let k : length a ≡ length (rootKeys ps t es es) = length-map (rootKeys ps t es es) (rowOf t 0) in
+        let a = rowsAtRoot ps t flags in
         let z : n - 0 ≡ n = omega arith in
-        let w : length (rowsOf ps t es x n) ≡ length a + length (rowsFrom ps t es x n 0) = ap length whole ∙ length-append a (rowsFrom ps t es x n 0) in
+        let w : length (rowsOf ps t flags x n) ≡ length a + length (rowsFrom ps t flags x n 0) = ap length whole ∙ length-append a (rowsFrom ps t flags x n 0) in
         let s : take (0 + length a) (sets b 0 a) ≡ a = take-sets b a 0 (omega arith) in
-        let j : length (rootKeys ps t es es) ≡ 0 + length a = omega arith in
+        let j : 0 + length a ≡ length a = omega arith in
         record {
-          left = ap₂ (λ i m. i + length (rowsFrom ps t es x m 0)) (sym k) z ∙ sym w;
-          done = ap₂ (λ i m. take i (sets b 0 a) ++ rowsFrom ps t es x m 0) j z ∙ ap (λ r. r ++ rowsFrom ps t es x n 0) s ∙ sym whole;
+          left = ap₂ (λ i m. i + length (rowsFrom ps t flags x m 0)) j z ∙ sym w;
+          done = ap (λ m. take (0 + length a) (sets b 0 a) ++ rowsFrom ps t flags x m 0) z ∙ ap (λ r. r ++ rowsFrom ps t flags x n 0) s ∙ sym whole;
         }
       where
-        whole : rowsOf ps t es x n ≡ map (rowOf t 0) (rootKeys ps t es es) ++ rowsFrom ps t es x n 0
-        whole = unfold rowsOf rowsAtRoot in refl
+        whole : rowsOf ps t flags x n ≡ rowsAtRoot ps t flags ++ rowsFrom ps t flags x n 0
+        whole = unfold rowsOf in refl
 
-    pub root-room : (n : ℕ) → length (rootKeys ps t es es) ≤ length (rowsOf ps t es x n)
-    unfolding rowsOf rowsAtRoot
-    root-room n =
-        let a = map (rowOf t 0) (rootKeys ps t es es) in
-        omega (arith, length-map (rootKeys ps t es es) (rowOf t 0), length-append a (rowsFrom ps t es x n 0))
+    pub root-room : (n : ℕ) → length (rowsAtRoot ps t flags) ≤ length (rowsOf ps t flags x n)
+    unfolding rowsOf
+    root-room n = omega (arith, length-append (rowsAtRoot ps t flags) (rowsFrom ps t flags x n 0))
 
-    rows-split : (n i : ℕ) → i < n → rowsFrom ps t es x (n - i) i ≡ rowsAtPosition ps t es x i ++ rowsFrom ps t es x (n - (i + 1)) (i + 1)
-    rows-split n i l = ap (λ m. rowsFrom ps t es x m i) (let e : n - i ≡ suc (n - (i + 1)) = omega arith in e) ∙ (unfold rowsFrom in refl)
+    rows-split : (n i : ℕ) → i < n → rowsFrom ps t flags x (n - i) i ≡ rowsAtPosition ps t flags x i ++ rowsFrom ps t flags x (n - (i + 1)) (i + 1)
+    rows-split n i l = ap (λ m. rowsFrom ps t flags x m i) (let e : n - i ≡ suc (n - (i + 1)) = omega arith in e) ∙ (unfold rowsFrom in refl)
 
-    pub so-room : (n i at : ℕ) (rows : List ℕ) → i < n → So n i at rows → at + length (rowsAtPosition ps t es x i) ≤ length (rowsOf ps t es x n)
+    pub so-room : (n i at : ℕ) (rows : List ℕ) → i < n → So n i at rows → at + length (rowsAtPosition ps t flags x i) ≤ length (rowsOf ps t flags x n)
     so-room n i at rows l s =
         let k = s .left in
-        omega (arith, ap length (rows-split n i l), length-append (rowsAtPosition ps t es x i) (rowsFrom ps t es x (n - (i + 1)) (i + 1)))
+        omega (arith, ap length (rows-split n i l), length-append (rowsAtPosition ps t flags x i) (rowsFrom ps t flags x (n - (i + 1)) (i + 1)))
 
-    pub so-more : (n i at : ℕ) (rows : List ℕ) → i < n → length (rowsOf ps t es x n) ≤ length rows → So n i at rows
-        → So n (i + 1) (at + length (rowsAtPosition ps t es x i)) (sets rows at (rowsAtPosition ps t es x i))
+    pub so-more : (n i at : ℕ) (rows : List ℕ) → i < n → length (rowsOf ps t flags x n) ≤ length rows → So n i at rows
+        → So n (i + 1) (at + length (rowsAtPosition ps t flags x i)) (sets rows at (rowsAtPosition ps t flags x i))
     so-more n i at rows l m s =
-        let a = rowsAtPosition ps t es x i in
-        let rest = rowsFrom ps t es x (n - (i + 1)) (i + 1) in
+        let a = rowsAtPosition ps t flags x i in
+        let rest = rowsFrom ps t flags x (n - (i + 1)) (i + 1) in
         let k = s .left in
         let e = rows-split n i l in
         record {
@@ -128,17 +147,21 @@ module _ (ps : List Phase) (t : List ℕ) (es : List ℕ) where
               ∙ ap (λ r. take at rows ++ r) (sym e) ∙ s .done;
         }
 
-    pub so-ends : (n i at : ℕ) (rows : List ℕ) → n ≤ i → So n i at rows → (at ≡ length (rowsOf ps t es x n)) × (take at rows ≡ rowsOf ps t es x n)
+    pub so-ends : (n i at : ℕ) (rows : List ℕ) → n ≤ i → So n i at rows → Stand (rowsOf ps t flags x n) at rows
     so-ends n i at rows l s =
         let k = s .left in
-        (omega (arith, ap length none), sym (append-nil (take at rows)) ∙ ap (λ r. take at rows ++ r) (sym none) ∙ s .done)
+        record {
+          count = omega (arith, ap length none);
+          front = sym (append-nil (take at rows)) ∙ ap (λ r. take at rows ++ r) (sym none) ∙ s .done;
+        }
       where
-        none : rowsFrom ps t es x (n - i) i ≡ []
-        none = ap (λ m. rowsFrom ps t es x m i) (let e : n - i ≡ 0 = omega arith in e) ∙ (unfold rowsFrom in refl)
+        none : rowsFrom ps t flags x (n - i) i ≡ []
+        none = ap (λ m. rowsFrom ps t flags x m i) (let e : n - i ≡ 0 = omega arith in e) ∙ (unfold rowsFrom in refl)
 
 -- ---- of the probing step
 
-pub probe-rows : {ps : List Phase} {es : List ℕ} {x : Bag} (t : List ℕ) (n : ℕ) → ps ≡ probes → es ≡ probeMarks → x ≡ probeGiven → rowsOf ps t es x n ≡ probeRows t n
+pub probe-rows : {ps : List Phase} {flags : List ℕ} {x : Bag} (t : List ℕ) (n : ℕ) → ps ≡ probes → flags ≡ probeFlags → x ≡ probeGiven
+    → rowsOf ps t flags x n ≡ probeRows t n
 probe-rows t n p q r = λ i. rowsOf (p i) t (q i) (r i) n
 
 pub fits : {r k a b : ℕ} → r ≡ k → b ≡ a → k ≤ a → r ≤ b

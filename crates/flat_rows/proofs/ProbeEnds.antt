@@ -40,7 +40,7 @@ use Rattle.law_step.proofs.Keys.{isValue}
 use Rattle.law_step.proofs.Values.{hasValue, values-all}
 use Rattle.law_step.proofs.Ends.{pulled-same}
 use Rattle.law_step.proofs.Ends as E
-use Rattle.flat_probe.specs.Probe.{ownPort, probeOf, probes, probeMarks, probeGiven}
+use Rattle.flat_probe.specs.Probe.{ownPort, probeOf, probes, probeMarks, probeReached, probeGiven}
 use Rattle.flat_rows.proofs.Probed.{probed, probeEntry, probe-phase, probe-due, probe-ready}
 use Rattle.flat_rows.proofs.ProbePull.{keys-into, root-keys}
 
@@ -192,20 +192,20 @@ module _ (m : Model) (w : WellFormed m) where
   module _ (t : List ℕ) (h : Tabled m t) where
     -- at an atomic
     pub bag-same : (a : ℕ) → isAtomic (m .components) a ≡ true
-        → Same (map messageOf (keysInto probes t probeMarks probeMarks probeGiven a)) (bagAt (probed m) (probeEntry m) 0 a (root m) probeGiven)
+        → Same (map messageOf (keysInto probes t probeMarks probeReached probeGiven a)) (bagAt (probed m) (probeEntry m) 0 a (root m) probeGiven)
     bag-same a e =
         rw (keys-into m w t h probeGiven a (atomic-below (m .components) a e))
         (pulled-same m w (probed m .phases) (probeEntry m) 0 (λ c l. probe-ready m (sub (m .components) c)) sends-values probeGiven given-ports given-values a e)
 
     -- at the root
-    pub root-same : Same (map messageOf (rootKeys probes t probeMarks probeMarks)) (outDue (probed m) (probeEntry m) 0 (root m))
+    pub root-same : Same (map messageOf (rootKeys probes t probeMarks probeReached)) (outDue (probed m) (probeEntry m) 0 (root m))
     root-same =
         rw (root-keys m w t h probeGiven, out-due (probed m) (probeEntry m) 0 0 (partsOfRoot m) (probe-ready m (root m)))
         (E.root-same m w (probed m .phases) (probeEntry m) 0 (λ c l. probe-ready m (sub (m .components) c)) sends-values)
 
     -- for every test: a message for each route that ends there
     pub atomic-end : (p : Message → Bool) (a : ℕ) → isAtomic (m .components) a ≡ true
-        → count p (map messageOf (keysInto probes t probeMarks probeMarks probeGiven a)) ≡ sumOf (λ k. cond (eqb (k .target) a) (cond (p (brought k)) 1 0) 0) (routes m)
+        → count p (map messageOf (keysInto probes t probeMarks probeReached probeGiven a)) ≡ sumOf (λ k. cond (eqb (k .target) a) (cond (p (brought k)) 1 0) 0) (routes m)
     atomic-end p a e =
         let W : Message → ℕ = λ y. cond (p y) 1 0 in
         let z = root-not (m .components) a (rooted (m .components) (w .components .fit) (w .some-component)) e in
@@ -213,7 +213,7 @@ module _ (m : Model) (w : WellFormed m) where
         bag-same a e p ∙ count-sum p _ ∙ omega (arith, at-end a W)
 
     pub root-end : (p : Message → Bool)
-        → count p (map messageOf (rootKeys probes t probeMarks probeMarks)) ≡ sumOf (λ k. cond (eqb (k .target) 0) (cond (p (brought k)) 1 0) 0) (routes m)
+        → count p (map messageOf (rootKeys probes t probeMarks probeReached)) ≡ sumOf (λ k. cond (eqb (k .target) 0) (cond (p (brought k)) 1 0) 0) (routes m)
     root-end p =
         let W : Message → ℕ = λ y. cond (p y) 1 0 in
         let n : sumOf W (bagAt (probed m) (probeEntry m) 0 0 (root m) probeGiven) ≡ 0

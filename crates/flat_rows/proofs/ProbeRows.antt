@@ -33,7 +33,7 @@ use Rattle.law_base.specs.Keys.{couplingOf}
 use Rattle.sort.proofs.Keys.{sort-couplings}
 use Rattle.flat_ranks.specs.Ranks.{rankOf}
 use Rattle.flat_ranks.proofs.Ranks.{rank-is}
-use Rattle.flat_probe.specs.Probe.{probes, probeMarks, probeGiven}
+use Rattle.flat_probe.specs.Probe.{probes, probeFlags, probeMarks, probeReached, probeGiven}
 use Rattle.flat_rows.specs.Rows.{rowNumber, rowOf, rowsAtPosition, rowsFrom, rowsAtRoot, rowsOf, probeRows}
 use Rattle.flat_rows.proofs.ProbeEnds.{beginning, brought, by-listed, atomic-end, root-end}
 
@@ -142,18 +142,18 @@ module _ (m : Model) (w : WellFormed m) (t : List ℕ) (h : Tabled m t) where
             ap (λ c. cond (p c) 1 0) (ap (λ a. ended t (renumbered (m .components) a) (brought k)) (sym (eqb-true (k .target) a e)) ∙ route-row k f)
         one k f false e = refl
 
-    root-rows : count p (map couplingOf (map (rowOf t 0) (rootKeys probes t probeMarks probeMarks))) ≡ ending 0
+    root-rows : count p (map couplingOf (map (rowOf t 0) (rootKeys probes t probeMarks probeReached))) ≡ ending 0
     root-rows =
-        rows-count t p 0 (rootKeys probes t probeMarks probeMarks) ∙ root-end m w t h (λ y. p (ended t 0 y))
+        rows-count t p 0 (rootKeys probes t probeMarks probeReached) ∙ root-end m w t h (λ y. p (ended t 0 y))
         ∙ sum-cong _ _ (routes m) (λ k. ap (λ n. cond (eqb (k .target) 0) (cond (p (ended t n (brought k))) 1 0) 0) (sym (new-root (m .components)))) ∙ ended-routes 0
 
     atomic-rows : (a : ℕ) → isAtomic (m .components) a ≡ true
-        → count p (map couplingOf (map (rowOf t (renumbered (m .components) a)) (keysInto probes t probeMarks probeMarks probeGiven a))) ≡ ending a
+        → count p (map couplingOf (map (rowOf t (renumbered (m .components) a)) (keysInto probes t probeMarks probeReached probeGiven a))) ≡ ending a
     atomic-rows a e =
-        rows-count t p (renumbered (m .components) a) (keysInto probes t probeMarks probeMarks probeGiven a)
+        rows-count t p (renumbered (m .components) a) (keysInto probes t probeMarks probeReached probeGiven a)
         ∙ atomic-end m w t h (λ y. p (ended t (renumbered (m .components) a) y)) a e ∙ ended-routes a
 
-    rows-from : (n i : ℕ) → i + n ≡ length (atomics (m .components)) → count p (map couplingOf (rowsFrom probes t probeMarks probeGiven n i)) ≡ sumOf ending (drop i (atomics (m .components)))
+    rows-from : (n i : ℕ) → i + n ≡ length (atomics (m .components)) → count p (map couplingOf (rowsFrom probes t probeFlags probeGiven n i)) ≡ sumOf ending (drop i (atomics (m .components)))
     unfolding rowsFrom rowsAtPosition
     rows-from zero i l =
         let e : i ≡ length (atomics (m .components)) = omega arith in
@@ -170,11 +170,11 @@ module _ (m : Model) (w : WellFormed m) (t : List ℕ) (h : Tabled m t) where
         let r : i + 1 ≡ renumbered cs a
         = let z : i + 1 ≡ suc i = omega arith in z ∙ ap suc (sym (place-of L i (distinct-atomics cs) b)) ∙ sym (new-atomic cs (w .components .fit) (w .some-component) a e) in
         let s : i + 1 ≡ suc i = omega arith in
-        let first = map (rowOf t (i + 1)) (keysInto probes t probeMarks probeMarks probeGiven (getD t (numbersAt + i) 0)) in
-        ap (count p) (map-append couplingOf first (rowsFrom probes t probeMarks probeGiven n (i + 1)))
-        ∙ count-append p (map couplingOf first) (map couplingOf (rowsFrom probes t probeMarks probeGiven n (i + 1)))
+        let first = map (rowOf t (i + 1)) (keysInto probes t probeMarks probeReached probeGiven (getD t (numbersAt + i) 0)) in
+        ap (count p) (map-append couplingOf first (rowsFrom probes t probeFlags probeGiven n (i + 1)))
+        ∙ count-append p (map couplingOf first) (map couplingOf (rowsFrom probes t probeFlags probeGiven n (i + 1)))
         ∙ ap₂ _+_
-        (ap₂ (λ e c. count p (map couplingOf (map (rowOf t e) (keysInto probes t probeMarks probeMarks probeGiven c)))) r (h .numbers i b) ∙ atomic-rows a e)
+        (ap₂ (λ e c. count p (map couplingOf (map (rowOf t e) (keysInto probes t probeMarks probeReached probeGiven c)))) r (h .numbers i b) ∙ atomic-rows a e)
         (rows-from n (i + 1) (omega arith) ∙ ap (λ i. sumOf ending (drop i L)) s)
         ∙ more (drop-cons L i 0 b)
       where
@@ -186,8 +186,8 @@ module _ (m : Model) (w : WellFormed m) (t : List ℕ) (h : Tabled m t) where
     unfolding rowsOf rowsAtRoot
     all-rows =
         let cs = m .components in
-        let first = map (rowOf t 0) (rootKeys probes t probeMarks probeMarks) in
-        let rest = rowsFrom probes t probeMarks probeGiven (length (atomics cs)) 0 in
+        let first = map (rowOf t 0) (rootKeys probes t probeMarks probeReached) in
+        let rest = rowsFrom probes t probeFlags probeGiven (length (atomics cs)) 0 in
         ap (count p) (map-append couplingOf first rest) ∙ count-append p (map couplingOf first) (map couplingOf rest)
         ∙ ap₂ _+_ root-rows (rows-from (length (atomics cs)) 0 (omega arith))
         ∙ whole

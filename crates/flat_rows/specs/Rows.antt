@@ -7,8 +7,9 @@ use Rattle.definition.specs.Model.{Bag, Phase}
 use Rattle.law_base.specs.Keys.{valueRange}
 use Rattle.spec_step.specs.Tables.{nodeComponent, nodePort, numbersAt}
 use Rattle.spec_step.specs.TableStep.{keysInto, rootKeys}
+use Rattle.spec_step.specs.Flags.{marksIn, reachedIn}
 use Rattle.flat_ranks.specs.Ranks.{rankOf}
-use Rattle.flat_probe.specs.Probe.{probes, probeMarks, probeGiven}
+use Rattle.flat_probe.specs.Probe.{probes, probeFlags, probeGiven}
 
 -- A row of four bytes as one number, the first byte highest.
 unfoldable pub rowNumber : ℕ → ℕ → ℕ → ℕ → ℕ
@@ -20,23 +21,25 @@ rowOf t end key =
     let node = key % valueRange in
     rowNumber (rankOf t (nodeComponent node)) (nodePort node) end (key / valueRange)
 
--- The rows of a step with phases ps, marks es and given bag x.
-module _ (ps : List Phase) (t : List ℕ) (es : List ℕ) (x : Bag) where
-  -- Those that end at the atomic at position i, and at n atomics from there on.
-  unfoldable pub rowsAtPosition : ℕ → List ℕ
-  rowsAtPosition i = map (rowOf t (i + 1)) (keysInto ps t es es x (getD t (numbersAt + i) 0))
-
-  unfoldable pub rowsFrom : ℕ → ℕ → List ℕ
-  rowsFrom zero i = []
-  rowsFrom (suc n) i = rowsAtPosition i ++ rowsFrom n (i + 1)
-
+-- The rows of a step with phases ps and these flags.
+module _ (ps : List Phase) (t flags : List ℕ) where
   -- Those that end at the root.
   unfoldable pub rowsAtRoot : List ℕ
-  rowsAtRoot = map (rowOf t 0) (rootKeys ps t es es)
+  rowsAtRoot = map (rowOf t 0) (rootKeys ps t (marksIn flags) (reachedIn flags))
 
-  unfoldable pub rowsOf : ℕ → List ℕ
-  rowsOf n = rowsAtRoot ++ rowsFrom n 0
+  -- With the given bag x.
+  module _ (x : Bag) where
+    -- Those that end at the atomic at position i, and at n atomics from there on.
+    unfoldable pub rowsAtPosition : ℕ → List ℕ
+    rowsAtPosition i = map (rowOf t (i + 1)) (keysInto ps t (marksIn flags) (reachedIn flags) x (getD t (numbersAt + i) 0))
+
+    unfoldable pub rowsFrom : ℕ → ℕ → List ℕ
+    rowsFrom zero i = []
+    rowsFrom (suc n) i = rowsAtPosition i ++ rowsFrom n (i + 1)
+
+    unfoldable pub rowsOf : ℕ → List ℕ
+    rowsOf n = rowsAtRoot ++ rowsFrom n 0
 
 -- All rows of a model with n atomics.
 abbrev pub probeRows : List ℕ → ℕ → List ℕ
-probeRows t n = rowsOf probes t probeMarks probeGiven n
+probeRows t n = rowsOf probes t probeFlags probeGiven n

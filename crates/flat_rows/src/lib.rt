@@ -9,17 +9,16 @@ ghost use lib.Dec.{leb};
 ghost use lib.ListN.{length, take};
 ghost use lib.Seq.{sets};
 ghost use Rattle.definition.specs.Lists.{sortBy};
-ghost use Rattle.definition.specs.Engine.{toBag};
-ghost use Rattle.model_records.specs.Values.{phasesIn};
-ghost use Rattle.spec_step.specs.TableStep.{rootKeys};
-ghost use Rattle.flat_rows.specs.Rows.{rowNumber, rowOf, rowsAtPosition, rowsOf, probeRows};
-use flat_probe::put_marks;
+ghost use Rattle.flat_rows.specs.Rows.{rowNumber, rowOf, probeRows};
+ghost use Rattle.flat_rows.specs.Put.{rootRows, positionRows, allRows, CanPut, HasPut, Stand};
+use flat_probe::put_flags;
 use flat_probe::put_probes;
 use flat_ranks::rank_of;
 use limits::MAX_COMPONENTS;
 use limits::PHASE_SIZE;
 use step_collect::collect_bag;
 use step_collect::collect_root;
+use table_words::FLAGS_SIZE;
 use table_words::NUMBERS_AT;
 use table_words::TABLE_SIZE;
 use table_words::row_in;
@@ -72,16 +71,14 @@ fn put_rows(
 fn add_root(
     phases: &[u8],
     tables: &[u16; TABLE_SIZE],
-    marks: &[u32; MAX_COMPONENTS],
+    flags: &[u32; FLAGS_SIZE],
     keys: &mut [u32],
     rows: &mut [u32],
 ) -> usize
-    requires { ⌜ InRange (now tables) × (length (rootKeys (phasesIn (now phases)) (now tables) (now marks) (now marks)) ≤ length (now keys))
-        × (length (rootKeys (phasesIn (now phases)) (now tables) (now marks) (now marks)) ≤ length (now rows)) ⌝ }
-    ensures { λ r. ⌜ (r ≡ length (rootKeys (phasesIn (now (phases .entry))) (now (tables .entry)) (now (marks .entry)) (now (marks .entry))))
-        × (now (rows .exit) ≡ sets (now (rows .entry)) 0 (map (rowOf (now (tables .entry)) 0) (rootKeys (phasesIn (now (phases .entry))) (now (tables .entry)) (now (marks .entry)) (now (marks .entry))))) ⌝ }
+    requires { ⌜ CanPut (now tables) (rootRows (now phases) (now tables) (now flags)) 0 (length (now keys)) (length (now rows)) ⌝ }
+    ensures { λ r. ⌜ HasPut (rootRows (now (phases .entry)) (now (tables .entry)) (now (flags .entry))) 0 r (now (rows .entry)) (now (rows .exit)) ⌝ }
 {
-    let count = collect_root(phases, tables, marks, marks, keys);
+    let count = collect_root(phases, tables, flags, keys);
     put_rows(tables, 0, keys, count, rows, 0)
 }
 
@@ -89,20 +86,20 @@ fn add_root(
 fn add_atomic(
     phases: &[u8],
     tables: &[u16; TABLE_SIZE],
-    marks: &[u32; MAX_COMPONENTS],
+    flags: &[u32; FLAGS_SIZE],
     given: &[u8],
     i: u8,
     keys: &mut [u32],
     rows: &mut [u32],
     at: usize,
 ) -> usize
-    requires { ⌜ (i < maxComponents) × InRange (now tables) × (length (rowsAtPosition (phasesIn (now phases)) (now tables) (now marks) (toBag (now given)) i) ≤ length (now keys))
-        × (at + length (rowsAtPosition (phasesIn (now phases)) (now tables) (now marks) (toBag (now given)) i) ≤ length (now rows)) ⌝ }
-    ensures { λ r. ⌜ (r ≡ at + length (rowsAtPosition (phasesIn (now (phases .entry))) (now (tables .entry)) (now (marks .entry)) (toBag (now (given .entry))) i))
-        × (now (rows .exit) ≡ sets (now (rows .entry)) at (rowsAtPosition (phasesIn (now (phases .entry))) (now (tables .entry)) (now (marks .entry)) (toBag (now (given .entry))) i)) ⌝ }
+    requires { ⌜ (i < maxComponents)
+        × CanPut (now tables) (positionRows (now phases) (now tables) (now flags) (now given) i) at (length (now keys)) (length (now rows)) ⌝ }
+    ensures { λ r. ⌜ HasPut (positionRows (now (phases .entry)) (now (tables .entry)) (now (flags .entry)) (now (given .entry)) i) at r
+        (now (rows .entry)) (now (rows .exit)) ⌝ }
 {
     let c = row_in(tables, NUMBERS_AT, i as u16);
-    let count = collect_bag(phases, tables, marks, marks, given, c, keys);
+    let count = collect_bag(phases, tables, flags, given, c, keys);
     put_rows(tables, wide(i) + 1, keys, count, rows, at)
 }
 
@@ -110,21 +107,20 @@ fn add_atomic(
 fn add_all(
     phases: &[u8],
     tables: &[u16; TABLE_SIZE],
-    marks: &[u32; MAX_COMPONENTS],
+    flags: &[u32; FLAGS_SIZE],
     given: &[u8],
     n: u8,
     keys: &mut [u32],
     rows: &mut [u32],
 ) -> usize
-    requires { ⌜ (n ≤ maxComponents) × InRange (now tables) × (length (rowsOf (phasesIn (now phases)) (now tables) (now marks) (toBag (now given)) n) ≤ length (now keys))
-        × (length (rowsOf (phasesIn (now phases)) (now tables) (now marks) (toBag (now given)) n) ≤ length (now rows)) ⌝ }
-    ensures { λ r. ⌜ (r ≡ length (rowsOf (phasesIn (now (phases .entry))) (now (tables .entry)) (now (marks .entry)) (toBag (now (given .entry))) n))
-        × (take r (now (rows .exit)) ≡ rowsOf (phasesIn (now (phases .entry))) (now (tables .entry)) (now (marks .entry)) (toBag (now (given .entry))) n) ⌝ }
+    requires { ⌜ (n ≤ maxComponents)
+        × CanPut (now tables) (allRows (now phases) (now tables) (now flags) (now given) n) 0 (length (now keys)) (length (now rows)) ⌝ }
+    ensures { λ r. ⌜ Stand (allRows (now (phases .entry)) (now (tables .entry)) (now (flags .entry)) (now (given .entry)) n) r (now (rows .exit)) ⌝ }
 {
-    let mut at = add_root(phases, tables, marks, keys, rows);
+    let mut at = add_root(phases, tables, flags, keys, rows);
     let mut i: u8 = 0;
     while i < n {
-        at = add_atomic(phases, tables, marks, given, i, keys, rows, at);
+        at = add_atomic(phases, tables, flags, given, i, keys, rows, at);
         i = i + 1;
     }
     at
@@ -137,10 +133,10 @@ pub fn flat_rows(tables: &[u16; TABLE_SIZE], n: u8, rows: &mut [u32], scratch: &
 {
     let mut phases: [u8; PROBE_BYTES] = [0; PROBE_BYTES];
     put_probes(&mut phases);
-    let mut marks: [u32; MAX_COMPONENTS] = [0; MAX_COMPONENTS];
-    put_marks(&mut marks);
+    let mut flags: [u32; FLAGS_SIZE] = [0; FLAGS_SIZE];
+    put_flags(&mut flags);
     let given: [u8; 12] = [0, 0, 0, 1, 1, 0, 2, 2, 0, 3, 3, 0];
-    let count = add_all(&phases, tables, &marks, &given, n, scratch, rows);
+    let count = add_all(&phases, tables, &flags, &given, n, scratch, rows);
     sort::sort(rows, count, scratch);
     count
 }

@@ -134,7 +134,8 @@ module _ (ps : List Phase) (t : List ℕ) (n : ℕ) (st : State) (ends : List �
         i : ℕ
         i = getD t (positionsAt + c) 0
 
-        go : (b : Bool) → atomicAt t c ≡ b → (leastEnd (endBelow t ends m) (childRows t c) ≡ dueNumber (leastOf (dueBelow ps t st m) (childRows t c))) × (leastEnd (endBelow t ends m) (childRows t c) ≤ neverMoment)
+        go : (b : Bool) → atomicAt t c ≡ b
+            → (leastEnd (endBelow t ends m) (childRows t c) ≡ dueNumber (leastOf (dueBelow ps t st m) (childRows t c))) × (leastEnd (endBelow t ends m) (childRows t c) ≤ neverMoment)
             → (cond b (getD ends i 0) (leastEnd (endBelow t ends m) (childRows t c)) ≡ dueNumber (cond b (dueAtPosition ps t st i) (leastOf (dueBelow ps t st m) (childRows t c))))
             × (cond b (getD ends i 0) (leastEnd (endBelow t ends m) (childRows t c)) ≤ neverMoment)
         go true e ih = (h i (w c l e), omega (arith, h i (w c l e), due-bounded i))

@@ -77,7 +77,8 @@ module _ (m : Model) (w : WellFormed m) (st : State) (t : List ℕ) (h : Tabled 
       ap (λ u. cond (sameTime u (finite now)) (suc (recordOf t (getD t (numbersAt + i) 0) (getD (st .phase) i 0))) 0)
       (due-at m w st t h i l (soon i l) ∙ ap (λ d. dueOf m d (heldAt st i)) p ∙ ap (dueOf m c) (sym q))
       ∙ ap (λ k. cond (sameTime (dueOf m c (atEntry m w st c)) (finite now)) (suc k) 0)
-      (ap (λ d. recordOf t d (getD (st .phase) i 0)) n ∙ ap (λ k. k + getD (st .phase) i 0) (h .phases c (atomic-below (m .components) c e)) ∙ ap (λ (r : Entry). phasesBefore (m .components) c + r .phase) (sym q))
+      (ap (λ d. recordOf t d (getD (st .phase) i 0)) n ∙ ap (λ k. k + getD (st .phase) i 0) (h .phases c (atomic-below (m .components) c e))
+      ∙ ap (λ (r : Entry). phasesBefore (m .components) c + r .phase) (sym q))
 
   -- an atomic's mark: its phase record where it is due
   mark-is : (c : ℕ) → isAtomic (m .components) c ≡ true

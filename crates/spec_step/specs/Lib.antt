@@ -3,6 +3,7 @@ pub mod Pull
 pub mod Put
 pub mod Tables
 pub mod TableStep
+pub mod Flags
 pub mod Tabled
 pub mod Ranges
 pub mod Carried

@@ -9,15 +9,16 @@ use lib.Dec.{ltb, eqb}
 use lib.ListN.{getD}
 use borrow.Author.Tests.{ltb-true, ltb-false, lt-ltb, le-ltb, eqb-false, ne-eqb, eq-eqb}
 use Rattle.definition.specs.Limits.{maxComponents, maxCouplings, portCount}
-use Rattle.definition.specs.Model.{Bag, Phase}
+use Rattle.definition.specs.Bytes.{Bytes}
+use Rattle.definition.specs.Engine.{toBag}
 use Rattle.spec_step.specs.Pull.{joined, coupledOut, inputIn}
 use Rattle.spec_step.specs.Put.{valuesOn, puts, putPorts}
 use Rattle.spec_step.specs.Tables.{sourceAt, nextAt, firstAt, liveAt, links, chainRows, portNodes, inputNode, outputNode, nodeComponent, nodePort, isRootNode, isOutput}
 use Rattle.spec_step.specs.Ranges.{maxNodes}
-use Rattle.spec_step.specs.TableStep.{isUp, mayCome, isOpen, openRows, sentBy, pulledBelow, pulledInto, givenBy}
-use Rattle.step_keys.specs.Sent.{sentOn}
+use Rattle.spec_step.specs.TableStep.{isUp, mayCome, isOpen, openRows, givenBy}
+use Rattle.spec_step.specs.Flags.{reachedIn}
 use Rattle.step_keys.proofs.Laws.{puts-append, puts-none}
-use Rattle.step_collect.specs.Turns.{pulledChild, pulledFrom}
+use Rattle.step_collect.specs.Collected.{openIn, leaving, leavingChild, arriving, arrivingFrom}
 
 -- ---- chains
 
@@ -65,68 +66,72 @@ not-root : (x : ℕ) → portNodes ≤ x → isRootNode x ≡ false
 unfolding isRootNode
 not-root x h = le-ltb x portNodes h
 
-module _ (ps : List Phase) (t es fs : List ℕ) where
-  pub coupled-open : (d x : ℕ) → 0 < d → isOpen t es fs x ≡ true
-      → joined (pulledChild ps t es fs (d - 1)) (rowsFrom t maxCouplings (getD t (firstAt + x) 0)) ≡ pulledBelow ps t es fs d x
+module _ (phases : Bytes) (tables flags : List ℕ) where
+  pub coupled-open : (d x : ℕ) → 0 < d → openIn tables flags x ≡ true
+      → joined (leavingChild phases tables flags (d - 1)) (rowsFrom tables maxCouplings (getD tables (firstAt + x) 0)) ≡ leaving phases tables flags d x
   unfolding coupledOut openRows
   coupled-open zero x h o = absurd (omega arith)
   coupled-open (suc d) x h o =
       let e : suc d - 1 ≡ d = omega arith in
-      rw (e, ← rows-first t x, o)
+      rw (e, ← rows-first tables x, o)
 
-  pub coupled-shut : (d x : ℕ) → isOpen t es fs x ≡ false → pulledBelow ps t es fs d x ≡ []
+  pub coupled-shut : (d x : ℕ) → openIn tables flags x ≡ false → leaving phases tables flags d x ≡ []
   unfolding coupledOut openRows joined
   coupled-shut zero x o = refl
-  coupled-shut (suc d) x o = rw (o)
+  coupled-shut (suc d) x o = rw o
 
-  node-unreached : (c q : ℕ) → q < portCount → eqb (getD fs c 0) 0 ≡ true → isOpen t es fs (inputNode c q) ≡ false
+  node-unreached : (c q : ℕ) → q < portCount → eqb (getD (reachedIn flags) c 0) 0 ≡ true → openIn tables flags (inputNode c q) ≡ false
   unfolding isOpen mayCome isOutput nodeComponent isUp inputNode
   node-unreached c q k e =
       let m : (portNodes * c + q) % portNodes ≡ q = omega arith in
       let n : (portNodes * c + q) / portNodes ≡ c = omega arith in
-      rw (m, n, lt-ltb q portCount k, e) (and-false (not (eqb (getD t (liveAt + (portNodes * c + q)) 0) 0)))
+      rw (m, n, lt-ltb q portCount k, e) (and-false (not (eqb (getD tables (liveAt + (portNodes * c + q)) 0) 0)))
 
-  module _ (b : Bag) where
-    pub input-root : (d x : ℕ) → isRootNode x ≡ true → pulledInto ps t es fs b d x ≡ valuesOn (nodePort x) b
+  module _ (given : Bytes) where
+    pub input-root : (d x : ℕ) → isRootNode x ≡ true → arriving phases tables flags given d x ≡ valuesOn (nodePort x) (toBag given)
     unfolding inputIn givenBy
     input-root zero x r = rw r
     input-root (suc d) x r = rw r
 
-    pub input-open : (d x : ℕ) → isRootNode x ≡ false → 0 < d → isOpen t es fs x ≡ true
-        → joined (pulledFrom ps t es fs b (d - 1)) (rowsFrom t maxCouplings (getD t (firstAt + x) 0)) ≡ pulledInto ps t es fs b d x
+    pub input-open : (d x : ℕ) → isRootNode x ≡ false → 0 < d → openIn tables flags x ≡ true
+        → joined (arrivingFrom phases tables flags given (d - 1)) (rowsFrom tables maxCouplings (getD tables (firstAt + x) 0))
+        ≡ arriving phases tables flags given d x
     unfolding inputIn openRows
     input-open zero x r h o = absurd (omega arith)
     input-open (suc d) x r h o =
         let e : suc d - 1 ≡ d = omega arith in
-        rw (r, e, ← rows-first t x, o)
+        rw (r, e, ← rows-first tables x, o)
 
-    pub input-shut : (d x : ℕ) → isRootNode x ≡ false → isOpen t es fs x ≡ false → pulledInto ps t es fs b d x ≡ []
+    pub input-shut : (d x : ℕ) → isRootNode x ≡ false → openIn tables flags x ≡ false → arriving phases tables flags given d x ≡ []
     unfolding inputIn openRows joined
     input-shut zero x r o = rw r
     input-shut (suc d) x r o = rw (r, o)
 
-    port-unreached : (d c q : ℕ) → 0 < c → q < portCount → eqb (getD fs c 0) 0 ≡ true → pulledInto ps t es fs b d (inputNode c q) ≡ []
+    port-unreached : (d c q : ℕ) → 0 < c → q < portCount → eqb (getD (reachedIn flags) c 0) 0 ≡ true
+        → arriving phases tables flags given d (inputNode c q) ≡ []
     port-unreached d c q h k e = input-shut d (inputNode c q) (not-root (inputNode c q) away) (node-unreached c q k e)
       where
         away : portNodes ≤ inputNode c q
         away = unfold inputNode in omega arith
 
     -- the ports of a component other than the root that nothing may reach
-    pub unreached : (d c n q : ℕ) (st : List ℕ × ℕ) → (not (eqb c 0) && eqb (getD fs c 0) 0) ≡ true → q + n ≤ portCount
-        → putPorts (λ p. pulledInto ps t es fs b d (inputNode c p)) n q st ≡ st
+    pub unreached : (d c n q : ℕ) (st : List ℕ × ℕ) → (not (eqb c 0) && eqb (getD (reachedIn flags) c 0) 0) ≡ true → q + n ≤ portCount
+        → putPorts (λ p. arriving phases tables flags given d (inputNode c p)) n q st ≡ st
     unfolding putPorts
     unreached d c zero q st h k = refl
-    unreached d c (suc n) q st h k = rw (port-unreached d c q (here .0) (omega arith) (here .1), puts-none q st) (unreached d c n (q + 1) st h (omega arith))
+    unreached d c (suc n) q st h k =
+        rw (port-unreached d c q (here .0) (omega arith) (here .1), puts-none q st) (unreached d c n (q + 1) st h (omega arith))
       where
-        here : (0 < c) × (eqb (getD fs c 0) 0 ≡ true)
-        here = both (eqb c 0) refl (eqb (getD fs c 0) 0) refl h
+        here : (0 < c) × (eqb (getD (reachedIn flags) c 0) 0 ≡ true)
+        here = both (eqb c 0) refl (eqb (getD (reachedIn flags) c 0) 0) refl h
           where
-            both : (u : Bool) → eqb c 0 ≡ u → (v : Bool) → eqb (getD fs c 0) 0 ≡ v → (not u && v) ≡ true → (0 < c) × (eqb (getD fs c 0) 0 ≡ true)
+            both : (u : Bool) → eqb c 0 ≡ u → (v : Bool) → eqb (getD (reachedIn flags) c 0) 0 ≡ v → (not u && v) ≡ true
+                → (0 < c) × (eqb (getD (reachedIn flags) c 0) 0 ≡ true)
             both false e true f z = (omega (arith, eqb-false c 0 e), f)
             both false e false f z = absurd (true≢false (sym z))
             both true e v f z = absurd (true≢false (sym z))
 
-    pub input-none : (x : ℕ) → isRootNode x ≡ false → pulledInto ps t es fs b 0 x ≡ []
+    pub input-none : (x : ℕ) → isRootNode x ≡ false → arriving phases tables flags given 0 x ≡ []
     unfolding inputIn
     input-none x r = rw r
 
@@ -150,9 +155,3 @@ ports-more values n q st h = let e : n - q ≡ suc (n - (q + 1)) = omega arith i
 pub ports-none : (values : ℕ → List ℕ) (n q : ℕ) (st : List ℕ × ℕ) → n ≤ q → putPorts values (n - q) q st ≡ st
 unfolding putPorts
 ports-none values n q st h = let e : n - q ≡ 0 = omega arith in rw e
-
--- ---- what an atomic sends
-
-pub sent-by : (ps : List Phase) (es : List ℕ) (y : ℕ) → sentOn ps (getD es (nodeComponent y) 0) (nodePort y) ≡ sentBy ps es y
-unfolding sentOn sentBy
-sent-by ps es y = refl

@@ -2,16 +2,18 @@
 // record's number and 1 where it is due; and for each component whether something may reach its inputs.
 ghost use mathlib.Core.Path.{_≡_};
 ghost use mathlib.Core.Bool.{cond};
-ghost use Prim.Native.Nat.{_+_, _-_, _<_, _≤_, suc};
+ghost use Prim.Native.Nat.{_-_, _<_, suc};
 ghost use lib.ListN.{getD, set};
-ghost use Rattle.definition.specs.Lists.{isEmpty};
 ghost use Rattle.definition.specs.Limits.{maxComponents, portCount};
 ghost use Rattle.definition.specs.Engine.{toBag};
 ghost use Rattle.run_state.specs.Held.{heldIn, endsIn};
-ghost use Rattle.spec_step.specs.Tables.{countAt, parentsAt, chainRows};
-ghost use Rattle.spec_step.specs.TableStep.{anyOf, isUp, recordOf, raised, mayCome, mayReach, reachedFrom};
-ghost use Rattle.spec_step.specs.Ranges.{maxNodes, InRange};
+ghost use Rattle.spec_step.specs.Tables.{countAt};
+ghost use Rattle.spec_step.specs.TableStep.{recordOf, raised, mayReach, reachedFrom};
+ghost use Rattle.spec_step.specs.Ranges.{InRange};
 ghost use Rattle.spec_step.specs.Carried.{endMark, endMarked};
+ghost use Rattle.spec_step.specs.Flags.{marksIn, reachedIn};
+ghost use Rattle.step_collect.specs.Collected.{ComponentOf, NodeOf};
+ghost use Rattle.step_marks.specs.Filled.{AtomicsOf, HasMarked, HasReached, raisedAt, allMarks, anySource, allReached};
 use clock::Moment;
 use limits::MAX_COMPONENTS;
 use limits::MAX_COUPLINGS;
@@ -26,6 +28,7 @@ use step_collect::may_come;
 use step_collect::next_link;
 use step_collect::source_of;
 use table_words::COUNT_AT;
+use table_words::FLAGS_SIZE;
 use table_words::NUMBERS_AT;
 use table_words::PARENTS_AT;
 use table_words::PHASES_AT;
@@ -75,13 +78,13 @@ fn mark_of(tables: &[u16; TABLE_SIZE], state: &[u64; STATE_SIZE], at: Moment, i:
     }
 }
 
-// A component's mark or flag.
-fn put_mark(marks: &mut [u32; MAX_COMPONENTS], c: u16, mark: u32)
+// The mark of component c.
+fn put_mark(flags: &mut [u32; FLAGS_SIZE], c: u16, mark: u32)
     requires { ⌜ c < maxComponents ⌝ }
-    ensures { λ _. ⌜ now (marks .exit) ≡ set (now (marks .entry)) c mark ⌝ }
+    ensures { λ _. ⌜ HasMarked (now (flags .entry)) (now (flags .exit)) (set (marksIn (now (flags .entry))) c mark) ⌝ }
 {
     let at = size16(c);
-    marks[at] = mark;
+    flags[at] = mark;
 }
 
 fn mark_atomics(
@@ -89,33 +92,35 @@ fn mark_atomics(
     n: u8,
     state: &[u64; STATE_SIZE],
     at: Moment,
-    marks: &mut [u32; MAX_COMPONENTS],
+    flags: &mut [u32; FLAGS_SIZE],
 )
-    requires { ⌜ (n ≤ maxComponents) × InRange (now tables) ⌝ }
-    ensures { λ _. ⌜ now (marks .exit) ≡ endMarked (now (tables .entry)) (at .0) (heldIn (now (state .entry)) .phase) (endsIn (now (state .entry))) n 0 (now (marks .entry)) ⌝ }
+    requires { ⌜ AtomicsOf (now tables) n ⌝ }
+    ensures { λ _. ⌜ HasMarked (now (flags .entry)) (now (flags .exit))
+        (endMarked (now (tables .entry)) (at .0) (heldIn (now (state .entry)) .phase) (endsIn (now (state .entry))) n 0 (marksIn (now (flags .entry)))) ⌝ }
 {
     let mut i: u8 = 0;
     while i < n {
         let c = row_in(tables, NUMBERS_AT, i as u16);
         let mark = mark_of(tables, state, at, i, c);
-        put_mark(marks, c, mark);
+        put_mark(flags, c, mark);
         i = i + 1;
     }
 }
 
 // The parent of component c is marked where c is.
-fn mark_parent(tables: &[u16; TABLE_SIZE], c: u16, marks: &mut [u32; MAX_COMPONENTS])
-    requires { ⌜ (c < maxComponents) × InRange (now tables) ⌝ }
-    ensures { λ _. ⌜ now (marks .exit) ≡ cond (isUp (now (marks .entry)) c) (set (now (marks .entry)) (getD (now (tables .entry)) (parentsAt + c) 0) 1) (now (marks .entry)) ⌝ }
+fn mark_parent(tables: &[u16; TABLE_SIZE], c: u16, flags: &mut [u32; FLAGS_SIZE])
+    requires { ⌜ ComponentOf (now tables) c ⌝ }
+    ensures { λ _. ⌜ HasMarked (now (flags .entry)) (now (flags .exit)) (raisedAt (now (tables .entry)) c (marksIn (now (flags .entry)))) ⌝ }
 {
-    if mark_at(marks, size16(c)) != 0 {
-        put_mark(marks, row_in(tables, PARENTS_AT, c), 1);
+    if mark_at(flags, size16(c)) != 0 {
+        put_mark(flags, row_in(tables, PARENTS_AT, c), 1);
     }
 }
 
-fn mark_parents(tables: &[u16; TABLE_SIZE], marks: &mut [u32; MAX_COMPONENTS])
+fn mark_parents(tables: &[u16; TABLE_SIZE], flags: &mut [u32; FLAGS_SIZE])
     requires { ⌜ InRange (now tables) ⌝ }
-    ensures { λ _. ⌜ now (marks .exit) ≡ raised (now (tables .entry)) (getD (now (tables .entry)) countAt 0 - 1) (now (marks .entry)) ⌝ }
+    ensures { λ _. ⌜ HasMarked (now (flags .entry)) (now (flags .exit))
+        (raised (now (tables .entry)) (getD (now (tables .entry)) countAt 0 - 1) (marksIn (now (flags .entry)))) ⌝ }
 {
     let count = word_in(tables, COUNT_AT);
     let mut c: u16 = 0;
@@ -123,26 +128,21 @@ fn mark_parents(tables: &[u16; TABLE_SIZE], marks: &mut [u32; MAX_COMPONENTS])
         c = count - 1;
     }
     while 0 < c {
-        mark_parent(tables, c, marks);
+        mark_parent(tables, c, flags);
         c = c - 1;
     }
 }
 
 // ---- what may be reached
 
-fn any_source(
-    tables: &[u16; TABLE_SIZE],
-    marks: &[u32; MAX_COMPONENTS],
-    reached: &[u32; MAX_COMPONENTS],
-    x: u32,
-) -> bool
-    requires { ⌜ (x < maxNodes) × InRange (now tables) ⌝ }
-    ensures { λ r. ⌜ r ≡ anyOf (mayCome (now (marks .entry)) (now (reached .entry))) (chainRows (now (tables .entry)) x) ⌝ }
+fn any_source(tables: &[u16; TABLE_SIZE], flags: &[u32; FLAGS_SIZE], target: u32) -> bool
+    requires { ⌜ NodeOf (now tables) target ⌝ }
+    ensures { λ r. ⌜ r ≡ anySource (now (tables .entry)) (now (flags .entry)) target ⌝ }
 {
     let mut left = MAX_COUPLINGS;
-    let mut link = first_link(tables, x);
+    let mut link = first_link(tables, target);
     while (0 < left) & (0 < link) {
-        if may_come(marks, reached, source_of(tables, link)) {
+        if may_come(flags, source_of(tables, link)) {
             return true;
         }
         link = next_link(tables, link);
@@ -151,18 +151,13 @@ fn any_source(
     false
 }
 
-fn may_reach(
-    tables: &[u16; TABLE_SIZE],
-    marks: &[u32; MAX_COMPONENTS],
-    reached: &[u32; MAX_COMPONENTS],
-    c: u16,
-) -> bool
-    requires { ⌜ (c < maxComponents) × InRange (now tables) ⌝ }
-    ensures { λ r. ⌜ r ≡ mayReach (now (tables .entry)) (now (marks .entry)) (now (reached .entry)) c portCount 0 ⌝ }
+fn may_reach(tables: &[u16; TABLE_SIZE], flags: &[u32; FLAGS_SIZE], c: u16) -> bool
+    requires { ⌜ ComponentOf (now tables) c ⌝ }
+    ensures { λ r. ⌜ r ≡ mayReach (now (tables .entry)) (marksIn (now (flags .entry))) (reachedIn (now (flags .entry))) c portCount 0 ⌝ }
 {
     let mut q: u8 = 0;
     while q < PORT_COUNT {
-        if any_source(tables, marks, reached, input_node(c, q)) {
+        if any_source(tables, flags, input_node(c, q)) {
             return true;
         }
         q = q + 1;
@@ -170,19 +165,25 @@ fn may_reach(
     false
 }
 
-fn flag_components(
-    tables: &[u16; TABLE_SIZE],
-    marks: &[u32; MAX_COMPONENTS],
-    reached: &mut [u32; MAX_COMPONENTS],
-)
+// 1 where something may reach component c, else 0.
+fn put_reach(flags: &mut [u32; FLAGS_SIZE], c: u16, up: u32)
+    requires { ⌜ c < maxComponents ⌝ }
+    ensures { λ _. ⌜ HasReached (now (flags .entry)) (now (flags .exit)) (set (reachedIn (now (flags .entry))) c up) ⌝ }
+{
+    let at = MAX_COMPONENTS + size16(c);
+    flags[at] = up;
+}
+
+fn flag_components(tables: &[u16; TABLE_SIZE], flags: &mut [u32; FLAGS_SIZE])
     requires { ⌜ InRange (now tables) ⌝ }
-    ensures { λ _. ⌜ now (reached .exit) ≡ reachedFrom (now (tables .entry)) (now (marks .entry)) (getD (now (tables .entry)) countAt 0 - 1) 1 (now (reached .entry)) ⌝ }
+    ensures { λ _. ⌜ HasReached (now (flags .entry)) (now (flags .exit))
+        (reachedFrom (now (tables .entry)) (marksIn (now (flags .entry))) (getD (now (tables .entry)) countAt 0 - 1) 1 (reachedIn (now (flags .entry)))) ⌝ }
 {
     let count = word_in(tables, COUNT_AT);
     let mut c: u16 = 1;
     while c < count {
-        let up = flag(may_reach(tables, marks, reached, c));
-        put_mark(reached, c, up);
+        let up = flag(may_reach(tables, flags, c));
+        put_reach(flags, c, up);
         c = c + 1;
     }
 }
@@ -195,26 +196,22 @@ pub fn mark(
     n: u8,
     state: &[u64; STATE_SIZE],
     at: Moment,
-    marks: &mut [u32; MAX_COMPONENTS],
+    flags: &mut [u32; FLAGS_SIZE],
 )
-    requires { ⌜ (n ≤ maxComponents) × InRange (now tables) ⌝ }
-    ensures { λ _. ⌜ now (marks .exit) ≡ raised (now (tables .entry)) (getD (now (tables .entry)) countAt 0 - 1)
-        (endMarked (now (tables .entry)) (at .0) (heldIn (now (state .entry)) .phase) (endsIn (now (state .entry))) n 0 (now (marks .entry))) ⌝ }
+    requires { ⌜ AtomicsOf (now tables) n ⌝ }
+    ensures { λ _. ⌜ HasMarked (now (flags .entry)) (now (flags .exit))
+        (allMarks (now (tables .entry)) n (at .0) (heldIn (now (state .entry)) .phase) (endsIn (now (state .entry))) (marksIn (now (flags .entry)))) ⌝ }
 {
-    mark_atomics(tables, n, state, at, marks);
-    mark_parents(tables, marks);
+    mark_atomics(tables, n, state, at, flags);
+    mark_parents(tables, flags);
 }
 
-// The flags, where the root's says that something is given.
-pub fn reach(
-    tables: &[u16; TABLE_SIZE],
-    marks: &[u32; MAX_COMPONENTS],
-    given: &[u8],
-    reached: &mut [u32; MAX_COMPONENTS],
-)
+// What may be reached, by the marks; the root where something is given.
+pub fn reach(tables: &[u16; TABLE_SIZE], given: &[u8], flags: &mut [u32; FLAGS_SIZE])
     requires { ⌜ InRange (now tables) ⌝ }
-    ensures { λ _. ⌜ now (reached .exit) ≡ reachedFrom (now (tables .entry)) (now (marks .entry)) (getD (now (tables .entry)) countAt 0 - 1) 1 (set (now (reached .entry)) 0 (cond (isEmpty (toBag (now (given .entry)))) 0 1)) ⌝ }
+    ensures { λ _. ⌜ HasReached (now (flags .entry)) (now (flags .exit))
+        (allReached (now (tables .entry)) (toBag (now (given .entry))) (marksIn (now (flags .entry))) (reachedIn (now (flags .entry)))) ⌝ }
 {
-    put_mark(reached, 0, flag(MESSAGE_SIZE <= given.len()));
-    flag_components(tables, marks, reached);
+    put_reach(flags, 0, flag(MESSAGE_SIZE <= given.len()));
+    flag_components(tables, flags);
 }

@@ -1,8 +1,10 @@
-// The tables of a call are one slice of numbers: where its regions begin, and how words of it are read and written.
+// The tables of a call are one slice of numbers: where its regions begin, and how words of it are read and written. The flags of a step are
+// another, which is read here.
 ghost use mathlib.Core.Path.{_≡_};
 ghost use Prim.Native.Nat.{_+_, _<_, _≤_};
 ghost use lib.ListN.{getD, length};
 ghost use Rattle.definition.specs.Limits.{maxComponents};
+ghost use Rattle.spec_step.specs.Flags.{marksIn, reachedIn};
 ghost use Rattle.spec_step.specs.Tables.{siblingAt, atomicsAt, tableSize, atomicsIn};
 ghost use Rattle.table_words.specs.Writes.{column, putIn, linkAt, linked};
 use limits::MAX_COMPONENTS;
@@ -51,6 +53,9 @@ pub const ATOMICS_AT: usize = COUNT_AT + 1;
 
 pub const TABLE_SIZE: usize = ATOMICS_AT + 1;
 
+// The flags of a step: first the mark of each component, then for each whether something may reach its inputs.
+pub const FLAGS_SIZE: usize = 2 * MAX_COMPONENTS;
+
 pub fn word(x: u8) -> u16
     ensures { λ r. ⌜ r ≡ x ⌝ }
 {
@@ -88,12 +93,20 @@ pub fn atomics_in(t: &[u16; TABLE_SIZE]) -> u8
     word_in(t, ATOMICS_AT) as u8
 }
 
-// A component's mark or flag.
-pub fn mark_at(marks: &[u32; MAX_COMPONENTS], c: usize) -> u32
+// The mark of component c.
+pub fn mark_at(flags: &[u32; FLAGS_SIZE], c: usize) -> u32
     requires { ⌜ c < maxComponents ⌝ }
-    ensures { λ r. ⌜ r ≡ getD (now (marks .entry)) c 0 ⌝ }
+    ensures { λ r. ⌜ r ≡ getD (marksIn (now (flags .entry))) c 0 ⌝ }
 {
-    marks[c]
+    flags[c]
+}
+
+// Not 0 where something may reach component c.
+pub fn reach_at(flags: &[u32; FLAGS_SIZE], c: usize) -> u32
+    requires { ⌜ c < maxComponents ⌝ }
+    ensures { λ r. ⌜ r ≡ getD (reachedIn (now (flags .entry))) c 0 ⌝ }
+{
+    flags[MAX_COMPONENTS + c]
 }
 
 // Row k of a region holds v, where the region has such a row.

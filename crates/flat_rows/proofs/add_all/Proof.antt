@@ -2,6 +2,7 @@
 use borrow.Author.Needs.{needs}
 use native.Mathlib.Omega.{arith}
 use Rattle.flat_rows.proofs.Collected.{So, so-begins, root-room, so-room, so-more, so-ends}
+use Rattle.flat_rows.specs.Rows.{rowsOf}
 use Rattle.model_records.specs.Values.{phasesIn}
 use Rattle.definition.specs.Engine.{toBag}
 use lib.ListN.{length}
@@ -12,22 +13,29 @@ use Rattle.flat_rows.proofs.add_all.Statement.{statement}
 use Rattle.flat_rows.proofs.add_all.Tie as tie
 
 abbrev Inv-loop : tie.InvT-loop
-Inv-loop phases tables marks given n keys₀ rows₀ at₀ i₀ keys rows at i = (i ≤ n) × (length keys ≡ length keys₀) × (length rows ≡ length rows₀) × So (phasesIn phases) tables marks (toBag given) n i at rows
+Inv-loop phases tables flags given n keys₀ rows₀ at₀ i₀ keys rows at i =
+    (i ≤ n) × (length keys ≡ length keys₀) × (length rows ≡ length rows₀) × So (phasesIn phases) tables flags (toBag given) n i at rows
 
 abbrev μ-loop : tie.MeasureT-loop
-μ-loop phases tables marks given n keys₀ rows₀ at₀ i₀ keys rows at i = n - i
+μ-loop phases tables flags given n keys₀ rows₀ at₀ i₀ keys rows at i = n - i
 
 add-root-requires : tie.Need-add-root-requires Inv-loop μ-loop
 add-root-requires c κs =
     let start : tie.Start Inv-loop μ-loop = search in
     let a = start .args in
-    let k = root-room (phasesIn (now (a .phases))) (now (a .tables)) (now (a .marks)) (toBag (now (a .given))) (a .n) in
-    (start .pre .1, omega (arith, k, start .pre .2), omega (arith, k, start .pre .3))
+    let p = start .pre .1 in
+    let k = root-room (phasesIn (now (a .phases))) (now (a .tables)) (now (a .flags)) (toBag (now (a .given))) (a .n) in
+    record { in-range = p .in-range; keys-fit = omega (arith, k, p .keys-fit); rows-fit = omega (arith, k, p .rows-fit) }
 
 loop-holds : tie.Need-loop-holds Inv-loop μ-loop
 loop-holds c =
     let start : tie.Start Inv-loop μ-loop = search in let after-add-root : tie.After-add-root Inv-loop μ-loop = search in
-    let a = start .args in (omega arith, refl, refl, rw (after-add-root .add-root .ensures .0, after-add-root .add-root .ensures .1) (so-begins (phasesIn (now (a .phases))) (now (a .tables)) (now (a .marks)) (toBag (now (a .given))) (a .n) (now (a .rows)) (start .pre .3)))
+    let a = start .args in
+    let root = after-add-root .add-root .ensures in
+    let fit : length (rowsOf (phasesIn (now (a .phases))) (now (a .tables)) (now (a .flags)) (toBag (now (a .given))) (a .n)) ≤ length (now (a .rows)) =
+    omega (arith, start .pre .1 .rows-fit) in
+    let begins = so-begins (phasesIn (now (a .phases))) (now (a .tables)) (now (a .flags)) (toBag (now (a .given))) (a .n) (now (a .rows)) fit in
+    (omega arith, refl, refl, rw (root .count, root .put) begins)
 
 add-atomic-requires : tie.Need-add-atomic-requires Inv-loop μ-loop
 add-atomic-requires c κs =
@@ -35,8 +43,12 @@ add-atomic-requires c κs =
     let at-loop : tie.At-loop Inv-loop μ-loop = search in let after-add-root : tie.After-add-root Inv-loop μ-loop = search in
     let a = start .args in
     let l = at-loop .loop in
-    let k = so-room (phasesIn (now (a .phases))) (now (a .tables)) (now (a .marks)) (toBag (now (a .given))) (a .n) (l .i) (l .at) (l .rows) (in-loop .loop-test .taken) (l .inv .3) in
-    (omega (arith, start .pre .0), start .pre .1, omega (arith, k, start .pre .2, l .inv .1, after-add-root .add-root .kept .1 .1 .1 .0), omega (arith, k, start .pre .3, l .inv .2, after-add-root .add-root .kept .1 .1 .1 .1 .0))
+    let p = start .pre .1 in
+    let same = after-add-root .add-root .kept .1 .1 .1 in
+    let k = so-room (phasesIn (now (a .phases))) (now (a .tables)) (now (a .flags)) (toBag (now (a .given))) (a .n) (l .i) (l .at) (l .rows) (in-loop .loop-test .taken) (l .inv .3) in (
+      omega (arith, start .pre .0),
+      record { in-range = p .in-range; keys-fit = omega (arith, k, p .keys-fit, l .inv .1, same .0); rows-fit = omega (arith, k, p .rows-fit, l .inv .2, same .1 .0) },
+    )
 
 loop-again : tie.Need-loop-again Inv-loop μ-loop
 loop-again c =
@@ -45,7 +57,11 @@ loop-again c =
     let after-add-root : tie.After-add-root Inv-loop μ-loop = search in
     let a = start .args in
     let l = at-loop .loop in
-    (omega arith, after-add-atomic .add-atomic .kept .1 .1 .1 .1 .1 .0 ∙ l .inv .1, after-add-atomic .add-atomic .kept .1 .1 .1 .1 .1 .1 .0 ∙ l .inv .2, rw (after-add-atomic .add-atomic .ensures .0, after-add-atomic .add-atomic .ensures .1) (so-more (phasesIn (now (a .phases))) (now (a .tables)) (now (a .marks)) (toBag (now (a .given))) (a .n) (l .i) (l .at) (l .rows) (in-loop .loop-test .taken) (omega (arith, start .pre .3, l .inv .2, after-add-root .add-root .kept .1 .1 .1 .1 .0)) (l .inv .3)))
+    let m = after-add-atomic .add-atomic in
+    let x = toBag (now (a .given)) in
+    let more = so-more (phasesIn (now (a .phases))) (now (a .tables)) (now (a .flags)) x (a .n) (l .i) (l .at) (l .rows) (in-loop .loop-test .taken)
+    (omega (arith, start .pre .1 .rows-fit, l .inv .2, after-add-root .add-root .kept .1 .1 .1 .1 .0)) (l .inv .3) in
+    (omega arith, m .kept .1 .1 .1 .1 .1 .0 ∙ l .inv .1, m .kept .1 .1 .1 .1 .1 .1 .0 ∙ l .inv .2, rw (m .ensures .count, m .ensures .put) more)
 
 same-length : tie.Need-same-length Inv-loop μ-loop
 same-length c =
@@ -62,7 +78,7 @@ returns c =
     let start : tie.Start Inv-loop μ-loop = search in
     let a = start .args in
     let l = c .before .loop in
-    so-ends (phasesIn (now (a .phases))) (now (a .tables)) (now (a .marks)) (toBag (now (a .given))) (a .n) (l .i) (l .at) (l .rows) (c .loop-test .left) (l .inv .3)
+    so-ends (phasesIn (now (a .phases))) (now (a .tables)) (now (a .flags)) (toBag (now (a .given))) (a .n) (l .i) (l .at) (l .rows) (c .loop-test .left) (l .inv .3)
 
 pub add-all-spec : {M : Type 1} → statement M
 add-all-spec =

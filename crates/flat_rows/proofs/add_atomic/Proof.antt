@@ -14,8 +14,8 @@ use Rattle.flat_rows.proofs.add_atomic.Tie as tie
 collect-bag-requires : tie.Need-collect-bag-requires
 collect-bag-requires c κs =
     let start : tie.Start = search in
-    let p = start .pre in
-    (rw (c .before .row-in .ensures) (p .1 .numbers (start .args .i) (p .0)), p .1)
+    let r = start .pre .1 .in-range in
+    record { below = rw (c .before .row-in .ensures) (r .numbers (start .args .i) (start .pre .0)); in-range = r }
 
 put-rows-requires : tie.Need-put-rows-requires
 put-rows-requires c κs =
@@ -23,8 +23,10 @@ put-rows-requires c κs =
     let a = start .args in
     let ps = phasesIn (now (a .phases)) in
     let x = toBag (now (a .given)) in
-    let h = atomic-held ps (now (a .tables)) (now (a .marks)) x (a .i) (now (a .keys)) _ (after-collect-bag .collect-bag .result) (rw (after-row-in .row-in .ensures) at (after-collect-bag .collect-bag .ensures)) (start .pre .2) in
-    (h .room, omega (arith, h .count, position-length ps (now (a .tables)) (now (a .marks)) x (a .i), start .pre .3))
+    let r = after-collect-bag .collect-bag .result in
+    let bag = rw (after-row-in .row-in .ensures) at (after-collect-bag .collect-bag .ensures) in
+    let h = atomic-held ps (now (a .tables)) (now (a .flags)) x (a .i) (now (a .keys)) _ r bag (start .pre .1 .keys-fit) in
+    (h .room, omega (arith, h .count, position-length ps (now (a .tables)) (now (a .flags)) x (a .i), start .pre .1 .rows-fit))
 
 returns : tie.Need-returns
 returns c =
@@ -34,8 +36,13 @@ returns c =
     let ps = phasesIn (now (a .phases)) in
     let x = toBag (now (a .given)) in
     let r = after-collect-bag .collect-bag .result in
-    let h = atomic-held ps (now (a .tables)) (now (a .marks)) x (a .i) (now (a .keys)) _ r (rw (after-row-in .row-in .ensures) at (after-collect-bag .collect-bag .ensures)) (start .pre .2) in
-    (after-put-rows .put-rows .ensures .0 ∙ ap (λ k. a .at + k) (h .count ∙ sym (position-length ps (now (a .tables)) (now (a .marks)) x (a .i))), rw (after-put-rows .put-rows .ensures .1, after-wide .wide .ensures) (ap (sets (now (a .rows)) (a .at)) (position-rows ps (now (a .tables)) (now (a .marks)) x (a .i) _ r h)))
+    let bag = rw (after-row-in .row-in .ensures) at (after-collect-bag .collect-bag .ensures) in
+    let h = atomic-held ps (now (a .tables)) (now (a .flags)) x (a .i) (now (a .keys)) _ r bag (start .pre .1 .keys-fit) in
+    let rows = position-rows ps (now (a .tables)) (now (a .flags)) x (a .i) _ r h in
+    record {
+      count = after-put-rows .put-rows .ensures .0 ∙ ap (λ k. a .at + k) (h .count ∙ sym (position-length ps (now (a .tables)) (now (a .flags)) x (a .i)));
+      put = rw (after-put-rows .put-rows .ensures .1, after-wide .wide .ensures) (ap (sets (now (a .rows)) (a .at)) rows);
+    }
 
 pub add-atomic-spec : {M : Type 1} → statement M
 add-atomic-spec =

@@ -2,11 +2,9 @@
 use borrow.Author.Needs.{needs}
 use native.Mathlib.Omega.{arith}
 use Rattle.step_collect.proofs.Laws.{input-below, ports-more, ports-none, unreached}
-use Rattle.definition.specs.Engine.{toBag}
-use Rattle.model_records.specs.Values.{phasesIn}
 use Rattle.spec_step.specs.Put.{putPorts}
 use Rattle.law_routes.specs.Nodes.{inputNode}
-use Rattle.spec_step.specs.TableStep.{pulledInto}
+use Rattle.step_collect.specs.Collected.{arriving, bagPut}
 use denote.Ref.{now}
 use lib.ListN.{length}
 use mathlib.Core.List.{List}
@@ -16,16 +14,19 @@ use Rattle.step_collect.proofs.collect_bag.Statement.{statement}
 use Rattle.step_collect.proofs.collect_bag.Tie as tie
 
 abbrev Inv-loop : tie.InvT-loop
-Inv-loop phases tables marks reached given c buf₀ next₀ q₀ buf next q = (q ≤ 4) × (length buf ≡ length buf₀) × (putPorts (λ p. pulledInto (phasesIn phases) tables marks reached (toBag given) 8 (inputNode c p)) (4 - q) q (buf, next) ≡ putPorts (λ p. pulledInto (phasesIn phases) tables marks reached (toBag given) 8 (inputNode c p)) 4 0 (buf₀, 0))
+Inv-loop phases tables flags given c buf₀ end₀ q₀ buf end q =
+    (q ≤ 4) × (length buf ≡ length buf₀) ×
+    (putPorts (λ p. arriving phases tables flags given 8 (inputNode c p)) (4 - q) q (buf, end) ≡ bagPut phases tables flags given c buf₀)
 
 abbrev μ-loop : tie.MeasureT-loop
-μ-loop phases tables marks reached given c buf₀ next₀ q₀ buf next q = 4 - q
+μ-loop phases tables flags given c buf₀ end₀ q₀ buf end q = 4 - q
 
 returns : tie.Need-returns Inv-loop μ-loop
 returns c =
     let start : tie.Start Inv-loop μ-loop = search in let after-size16 : tie.After-size16 Inv-loop μ-loop = search in
     let a = start .args in
-    sym (unreached (phasesIn (now (a .phases))) (now (a .tables)) (now (a .marks)) (now (a .reached)) (toBag (now (a .given))) 8 (a .c) 4 0 (now (a .buf), 0) (rw (c .before .mark-at .ensures, after-size16 .size16 .ensures) at (c .if1 .taken)) (omega arith))
+    let shut = rw (c .before .reach-at .ensures, after-size16 .size16 .ensures) at (c .if1 .taken) in
+    sym (unreached (now (a .phases)) (now (a .tables)) (now (a .flags)) (now (a .given)) 8 (a .c) 4 0 (now (a .buf), 0) shut (omega arith))
 
 loop-holds : tie.Need-loop-holds Inv-loop μ-loop
 loop-holds c = (omega arith, refl, refl)
@@ -33,8 +34,8 @@ loop-holds c = (omega arith, refl, refl)
 collect-arriving-requires : tie.Need-collect-arriving-requires Inv-loop μ-loop
 collect-arriving-requires c κs =
     let start : tie.Start Inv-loop μ-loop = search in
-    let q = start .pre in
-    (rw (c .before .input-node .ensures) (input-below _ _ (q .0) (omega arith)), q .1)
+    let p = start .pre in
+    record { below = rw (c .before .input-node .ensures) (input-below _ _ (p .below) (omega arith)); in-range = p .in-range }
 
 loop-again : tie.Need-loop-again Inv-loop μ-loop
 loop-again c =
@@ -43,8 +44,8 @@ loop-again c =
     let a = start .args in
     let l = at-loop .loop in
     let m = after-collect-arriving .collect-arriving in
-    let f : ℕ → List ℕ = λ p. pulledInto (phasesIn (now (a .phases))) (now (a .tables)) (now (a .marks)) (now (a .reached)) (toBag (now (a .given))) 8 (inputNode (a .c) p) in
-    (omega arith, m .kept .1 .1 .1 .1 .1 .1 .1 .0 ∙ l .inv .1, rw (m .ensures, after-input-node .input-node .ensures) (ports-more f 4 (l .q) (l .buf, l .next) (omega arith) ∙ l .inv .2))
+    let f : ℕ → List ℕ = λ p. arriving (now (a .phases)) (now (a .tables)) (now (a .flags)) (now (a .given)) 8 (inputNode (a .c) p) in
+    (omega arith, m .kept .1 .1 .1 .1 .1 .1 .0 ∙ l .inv .1, rw (m .ensures, after-input-node .input-node .ensures) (ports-more f 4 (l .q) (l .buf, l .end) (omega arith) ∙ l .inv .2))
 
 same-length : tie.Need-same-length Inv-loop μ-loop
 same-length c = c .before .loop .inv .1

@@ -2,7 +2,6 @@
 use borrow.Author.Needs.{needs}
 use Rattle.step_collect.proofs.Laws.{coupled-shut}
 use Rattle.spec_step.specs.Put.{puts}
-use Rattle.model_records.specs.Values.{phasesIn}
 use borrow.Author.Tests.{not-true, not-false}
 use mathlib.Core.Path.{sym, _∙_}
 use denote.Ref.{now}
@@ -14,18 +13,18 @@ unfolding puts
 returns c =
     let start : tie.Start = search in
     let a = start .args in
-    rw (coupled-shut (phasesIn (now (a .phases))) (now (a .tables)) (now (a .marks)) (now (a .reached)) 8 (a .x) (sym (c .before .is-open .ensures) ∙ not-true _ (c .if1 .taken)))
+    rw (coupled-shut (now (a .phases)) (now (a .tables)) (now (a .flags)) 8 (a .target) (sym (c .before .is-open .ensures) ∙ not-true _ (c .if1 .taken)))
 
 collect-coupled-requires : tie.Need-collect-coupled-requires
 collect-coupled-requires c κs =
     let start : tie.Start = search in let after-is-open : tie.After-is-open = search in
-    let given = start .pre in
-    (given .0, given .1, sym (after-is-open .is-open .ensures) ∙ not-false _ (c .before .if1 .left))
+    let p = start .pre in
+    record { below = p .below; in-range = p .in-range; enters = sym (after-is-open .is-open .ensures) ∙ not-false _ (c .before .if1 .left) }
 
 same-length : tie.Need-same-length
 same-length c =
     let after-collect-coupled : tie.After-collect-coupled = search in
-    after-collect-coupled .collect-coupled .kept .1 .1 .1 .1 .1 .1 .1 .0
+    after-collect-coupled .collect-coupled .kept .1 .1 .1 .1 .1 .1 .0
 
 returns-2 : tie.Need-returns-2
 returns-2 c =

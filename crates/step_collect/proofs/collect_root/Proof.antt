@@ -2,10 +2,9 @@
 use borrow.Author.Needs.{needs}
 use native.Mathlib.Omega.{arith}
 use Rattle.step_collect.proofs.Laws.{root-below, ports-more, ports-none}
-use Rattle.model_records.specs.Values.{phasesIn}
 use Rattle.spec_step.specs.Put.{putPorts}
 use Rattle.law_routes.specs.Nodes.{outputNode}
-use Rattle.spec_step.specs.TableStep.{pulledBelow}
+use Rattle.step_collect.specs.Collected.{leaving, rootPut}
 use denote.Ref.{now}
 use lib.ListN.{length}
 use mathlib.Core.List.{List}
@@ -15,10 +14,12 @@ use Rattle.step_collect.proofs.collect_root.Statement.{statement}
 use Rattle.step_collect.proofs.collect_root.Tie as tie
 
 abbrev Inv-loop : tie.InvT-loop
-Inv-loop phases tables marks reached buf₀ next₀ q₀ buf next q = (q ≤ 4) × (length buf ≡ length buf₀) × (putPorts (λ p. pulledBelow (phasesIn phases) tables marks reached 8 (outputNode 0 p)) (4 - q) q (buf, next) ≡ putPorts (λ p. pulledBelow (phasesIn phases) tables marks reached 8 (outputNode 0 p)) 4 0 (buf₀, 0))
+Inv-loop phases tables flags buf₀ end₀ q₀ buf end q =
+    (q ≤ 4) × (length buf ≡ length buf₀) ×
+    (putPorts (λ p. leaving phases tables flags 8 (outputNode 0 p)) (4 - q) q (buf, end) ≡ rootPut phases tables flags buf₀)
 
 abbrev μ-loop : tie.MeasureT-loop
-μ-loop phases tables marks reached buf₀ next₀ q₀ buf next q = 4 - q
+μ-loop phases tables flags buf₀ end₀ q₀ buf end q = 4 - q
 
 loop-holds : tie.Need-loop-holds Inv-loop μ-loop
 loop-holds c = (omega arith, refl, refl)
@@ -26,7 +27,7 @@ loop-holds c = (omega arith, refl, refl)
 collect-leaving-requires : tie.Need-collect-leaving-requires Inv-loop μ-loop
 collect-leaving-requires c κs =
     let start : tie.Start Inv-loop μ-loop = search in
-    (rw (c .before .root-output .ensures) (root-below _ (omega arith)), start .pre)
+    record { below = rw (c .before .root-output .ensures) (root-below _ (omega arith)); in-range = start .pre }
 
 loop-again : tie.Need-loop-again Inv-loop μ-loop
 loop-again c =
@@ -35,8 +36,8 @@ loop-again c =
     let a = start .args in
     let l = at-loop .loop in
     let m = after-collect-leaving .collect-leaving in
-    let f : ℕ → List ℕ = λ p. pulledBelow (phasesIn (now (a .phases))) (now (a .tables)) (now (a .marks)) (now (a .reached)) 8 (outputNode 0 p) in
-    (omega arith, m .kept .1 .1 .1 .1 .1 .1 .0 ∙ l .inv .1, rw (m .ensures, after-root-output .root-output .ensures) (ports-more f 4 (l .q) (l .buf, l .next) (omega arith) ∙ l .inv .2))
+    let f : ℕ → List ℕ = λ p. leaving (now (a .phases)) (now (a .tables)) (now (a .flags)) 8 (outputNode 0 p) in
+    (omega arith, m .kept .1 .1 .1 .1 .1 .0 ∙ l .inv .1, rw (m .ensures, after-root-output .root-output .ensures) (ports-more f 4 (l .q) (l .buf, l .end) (omega arith) ∙ l .inv .2))
 
 same-length : tie.Need-same-length Inv-loop μ-loop
 same-length c = c .before .loop .inv .1

@@ -6,7 +6,7 @@ use Rattle.step_collect.proofs.source_of.Tie as tie
 returns : tie.Need-returns
 returns c =
     let after-size16 : tie.After-size16 = search in
-    rw (c .node .ensures, c .before .word-in .ensures, after-size16 .size16 .ensures)
+    rw (c .wide .ensures, c .before .word-in .ensures, after-size16 .size16 .ensures)
 
 pub source-of-spec : {M : Type 1} → statement M
 source-of-spec = tie.close (tie.spec (λ c κs. search needs) (λ c. search needs) (λ c κs. search needs) (λ c κs. search needs) returns)

@@ -3,8 +3,9 @@ use borrow.Author.Needs.{needs}
 use lib.ListN.{getD}
 use denote.Ref.{now}
 use borrow.Author.Tests.{eq-eqb, ne-eqb}
-use mathlib.Core.Path.{_≡_, _∙_, sym}
+use mathlib.Core.Path.{_≡_, _∙_, refl, sym}
 use Rattle.spec_step.specs.TableStep.{isUp}
+use Rattle.spec_step.specs.Flags.{marksIn}
 use Rattle.step_marks.proofs.mark_parent.Statement.{statement}
 use Rattle.step_marks.proofs.mark_parent.Tie as tie
 
@@ -12,7 +13,7 @@ put-mark-requires : tie.Need-put-mark-requires
 put-mark-requires c κs =
     let start : tie.Start = search in
     let q = start .pre in
-    rw (c .row-in .ensures) (q .1 .parents (start .args .c) (q .0))
+    rw (c .row-in .ensures) (q .in-range .parents (start .args .c) (q .below))
 
 returns : tie.Need-returns
 unfolding isUp
@@ -20,16 +21,19 @@ returns c =
     let start : tie.Start = search in let then1 : tie.Then1 = search in let after-mark-at : tie.After-mark-at = search in
     let after-size16 : tie.After-size16 = search in
     let a = start .args in
-    let k : after-mark-at .mark-at .result ≡ getD (now (a .marks)) (a .c) 0 = rw (after-size16 .size16 .ensures) at (after-mark-at .mark-at .ensures) in
-    rw (ne-eqb (getD (now (a .marks)) (a .c) 0) 0 (λ q. then1 .if1 .taken (k ∙ q))) (rw (c .before .row-in .ensures) at (c .put-mark .ensures))
+    let k : after-mark-at .mark-at .result ≡ getD (marksIn (now (a .flags))) (a .c) 0 = rw (after-size16 .size16 .ensures) at (after-mark-at .mark-at .ensures) in
+    let put = c .put-mark .ensures in
+    let up = ne-eqb (getD (marksIn (now (a .flags))) (a .c) 0) 0 (λ q. then1 .if1 .taken (k ∙ q)) in
+    record { marks = rw up (rw (c .before .row-in .ensures) at (put .marks)); others = put .others }
 
 returns-2 : tie.Need-returns-2
 unfolding isUp
 returns-2 c =
     let start : tie.Start = search in let after-size16 : tie.After-size16 = search in
     let a = start .args in
-    let k : c .before .mark-at .result ≡ getD (now (a .marks)) (a .c) 0 = rw (after-size16 .size16 .ensures) at (c .before .mark-at .ensures) in
-    rw (eq-eqb (getD (now (a .marks)) (a .c) 0) 0 (sym k ∙ c .if1 .left))
+    let k : c .before .mark-at .result ≡ getD (marksIn (now (a .flags))) (a .c) 0 = rw (after-size16 .size16 .ensures) at (c .before .mark-at .ensures) in
+    let down = eq-eqb (getD (marksIn (now (a .flags))) (a .c) 0) 0 (sym k ∙ c .if1 .left) in
+    record { marks = rw down; others = refl }
 
 pub mark-parent-spec : {M : Type 1} → statement M
 mark-parent-spec =

@@ -5,18 +5,20 @@ use native.Mathlib.Omega.{arith}
 use Prim.Native.Nat.{_≤_, _<_, _-_}
 use mathlib.Core.Path.{_≡_, _∙_, refl, sym}
 use denote.Ref.{now}
-use Rattle.spec_step.specs.TableStep.{anyOf, mayCome, mayReach}
-use Rattle.spec_step.specs.Tables.{chainRows}
+use Rattle.spec_step.specs.TableStep.{mayReach}
+use Rattle.spec_step.specs.Flags.{marksIn, reachedIn}
+use Rattle.step_marks.specs.Filled.{anySource}
 use Rattle.law_routes.specs.Nodes.{inputNode}
 use Rattle.step_marks.proofs.Laws.{reach-here, reach-later, reach-none}
 use Rattle.step_marks.proofs.may_reach.Statement.{statement}
 use Rattle.step_marks.proofs.may_reach.Tie as tie
 
 abbrev Inv-loop : tie.InvT-loop
-Inv-loop tables marks reached c q₀ q = (q ≤ 4) × (mayReach tables marks reached c (4 - q) q ≡ mayReach tables marks reached c 4 0)
+Inv-loop tables flags c q₀ q =
+    (q ≤ 4) × (mayReach tables (marksIn flags) (reachedIn flags) c (4 - q) q ≡ mayReach tables (marksIn flags) (reachedIn flags) c 4 0)
 
 abbrev μ-loop : tie.MeasureT-loop
-μ-loop tables marks reached c q₀ q = 4 - q
+μ-loop tables flags c q₀ q = 4 - q
 
 loop-holds : tie.Need-loop-holds Inv-loop μ-loop
 loop-holds c = (omega arith, refl)
@@ -26,7 +28,7 @@ any-source-requires c κs =
     let start : tie.Start Inv-loop μ-loop = search in let at-loop : tie.At-loop Inv-loop μ-loop = search in
     let l = at-loop .loop in
     let node : inputNode (start .args .c) (l .q) < maxNodes = unfold inputNode in omega arith in
-    (rw (c .input-node .ensures) node, start .pre .1)
+    record { below = rw (c .input-node .ensures) node; in-range = start .pre .in-range }
 
 returns : tie.Need-returns Inv-loop μ-loop
 returns c =
@@ -34,8 +36,9 @@ returns c =
     let at-loop : tie.At-loop Inv-loop μ-loop = search in
     let a = start .args in
     let l = at-loop .loop in
-    let e : anyOf (mayCome (now (a .marks)) (now (a .reached))) (chainRows (now (a .tables)) (inputNode (a .c) (l .q))) ≡ c .before .any-source .result = sym (rw (after-input-node .input-node .ensures) at (c .before .any-source .ensures)) in
-    reach-here (now (a .tables)) (now (a .marks)) (now (a .reached)) (a .c) 4 (l .q) (omega arith) (e ∙ c .if1 .taken) ∙ l .inv .1
+    let e : anySource (now (a .tables)) (now (a .flags)) (inputNode (a .c) (l .q)) ≡ c .before .any-source .result =
+    sym (rw (after-input-node .input-node .ensures) at (c .before .any-source .ensures)) in
+    reach-here (now (a .tables)) (marksIn (now (a .flags))) (reachedIn (now (a .flags))) (a .c) 4 (l .q) (omega arith) (e ∙ c .if1 .taken) ∙ l .inv .1
 
 loop-again : tie.Need-loop-again Inv-loop μ-loop
 loop-again c =
@@ -43,15 +46,16 @@ loop-again c =
     let at-loop : tie.At-loop Inv-loop μ-loop = search in
     let a = start .args in
     let l = at-loop .loop in
-    let e : anyOf (mayCome (now (a .marks)) (now (a .reached))) (chainRows (now (a .tables)) (inputNode (a .c) (l .q))) ≡ c .before .any-source .result = sym (rw (after-input-node .input-node .ensures) at (c .before .any-source .ensures)) in
-    (omega arith, reach-later (now (a .tables)) (now (a .marks)) (now (a .reached)) (a .c) 4 (l .q) (omega arith) (e ∙ c .if1 .left) ∙ l .inv .1)
+    let e : anySource (now (a .tables)) (now (a .flags)) (inputNode (a .c) (l .q)) ≡ c .before .any-source .result =
+    sym (rw (after-input-node .input-node .ensures) at (c .before .any-source .ensures)) in
+    (omega arith, reach-later (now (a .tables)) (marksIn (now (a .flags))) (reachedIn (now (a .flags))) (a .c) 4 (l .q) (omega arith) (e ∙ c .if1 .left) ∙ l .inv .1)
 
 returns-2 : tie.Need-returns-2 Inv-loop μ-loop
 returns-2 c =
     let start : tie.Start Inv-loop μ-loop = search in
     let a = start .args in
     let l = c .before .loop in
-    reach-none (now (a .tables)) (now (a .marks)) (now (a .reached)) (a .c) 4 (l .q) (omega arith) ∙ l .inv .1
+    reach-none (now (a .tables)) (marksIn (now (a .flags))) (reachedIn (now (a .flags))) (a .c) 4 (l .q) (omega arith) ∙ l .inv .1
 
 pub may-reach-spec : {M : Type 1} → statement M
 may-reach-spec =

@@ -1,10 +1,22 @@
--- The store is `set`.
+-- A store in the front part of the flags sets its mark (`take-set-lt`), and leaves the other part (`drop-set-lt`).
 use borrow.Author.Needs.{needs}
+use denote.Ref.{now}
+use lib.Seq.{take-set-lt, drop-set-lt}
+use Rattle.definition.specs.Limits.{maxComponents}
+use Rattle.spec_step.specs.Flags.{marksIn, reachedIn}
 use Rattle.step_marks.proofs.put_mark.Statement.{statement}
 use Rattle.step_marks.proofs.put_mark.Tie as tie
 
 returns : tie.Need-returns
-returns c = rw (c .size16 .ensures)
+unfolding marksIn reachedIn
+returns c =
+    let start : tie.Start = search in let after-size16 : tie.After-size16 = search in
+    let a = start .args in
+    rw (after-size16 .size16 .ensures)
+    (record {
+      marks = take-set-lt maxComponents (now (a .flags)) (a .c) (a .mark) (start .pre);
+      others = drop-set-lt maxComponents (now (a .flags)) (a .c) (a .mark) (start .pre);
+    })
 
 pub put-mark-spec : {M : Type 1} → statement M
 put-mark-spec = tie.close (tie.spec (λ c κs. search needs) (λ c. search needs) (λ c. search needs) returns)

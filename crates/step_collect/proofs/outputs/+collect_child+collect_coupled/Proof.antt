@@ -7,13 +7,11 @@ use mathlib.Core.Path.{_≡_, _∙_, refl, sym, ap}
 use lib.ListN.{length}
 use denote.Ref.{now}
 use borrow.Author.Tests.{not-true, not-false}
-use Rattle.spec_step.specs.TableStep.{pulledBelow}
 use Rattle.spec_step.specs.Put.{puts}
 use Rattle.spec_step.specs.Pull.{joined, childOut, coupledOut}
-use Rattle.model_records.specs.Values.{phasesIn}
 use Rattle.definition.specs.Limits.{maxCouplings}
-use Rattle.step_collect.specs.Turns.{pulledChild}
-use Rattle.step_collect.proofs.Laws.{rowsFrom, both-left, chain-more, chain-end, coupled-open, coupled-shut, sent-by}
+use Rattle.step_collect.specs.Collected.{leaving, leavingChild}
+use Rattle.step_collect.proofs.Laws.{rowsFrom, both-left, chain-more, chain-end, coupled-open, coupled-shut}
 use borrow.Fn.Kinds.{In}
 use borrow.Fn.PlainCycle.{Measures, is, falls, and}
 use Rattle.step_collect.proofs.outputs.collect_child.Reads as collect-child
@@ -31,50 +29,47 @@ use Rattle.step_collect.proofs.source_of.Reads as source-of-reads
 use Rattle.step_collect.proofs.outputs.+collect_child+collect_coupled.{statement}
 use Rattle.step_collect.proofs.outputs.+collect_child+collect_coupled.Tie.{close}
 
-abbrev μ-collect-child : Measures 5 collect-child-kinds.ps ℕ
-μ-collect-child κs a = 2 * a .1 .1 .1 .1 .0 + 1
+abbrev μ-collect-child : Measures 4 collect-child-kinds.ps ℕ
+μ-collect-child κs a = 2 * a .1 .1 .1 .0 + 1
 
-abbrev μ-collect-coupled : Measures 5 collect-coupled-kinds.ps ℕ
-μ-collect-coupled κs a = 2 * a .1 .1 .1 .1 .0
+abbrev μ-collect-coupled : Measures 4 collect-coupled-kinds.ps ℕ
+μ-collect-coupled κs a = 2 * a .1 .1 .1 .0
 
-abbrev collect-child-at : ℕ → In 5 collect-child-kinds.ps
-collect-child-at t = and 5 collect-child-kinds.ps (is 5 collect-child-kinds.ps μ-collect-child t) collect-child.Pre
+abbrev collect-child-at : ℕ → In 4 collect-child-kinds.ps
+collect-child-at t = and 4 collect-child-kinds.ps (is 4 collect-child-kinds.ps μ-collect-child t) collect-child.Pre
 
-abbrev collect-child-below : ℕ → In 5 collect-child-kinds.ps
-collect-child-below t =
-    and
-    5
-    collect-child-kinds.ps
-    (falls 5 collect-child-kinds.ps _<_ μ-collect-child t)
-    collect-child.Pre
+abbrev collect-child-below : ℕ → In 4 collect-child-kinds.ps
+collect-child-below t = and 4 collect-child-kinds.ps (falls 4 collect-child-kinds.ps _<_ μ-collect-child t) collect-child.Pre
 
-abbrev collect-coupled-at : ℕ → In 5 collect-coupled-kinds.ps
-collect-coupled-at t =
-    and
-    5
-    collect-coupled-kinds.ps
-    (is 5 collect-coupled-kinds.ps μ-collect-coupled t)
-    collect-coupled.Pre
+abbrev collect-coupled-at : ℕ → In 4 collect-coupled-kinds.ps
+collect-coupled-at t = and 4 collect-coupled-kinds.ps (is 4 collect-coupled-kinds.ps μ-collect-coupled t) collect-coupled.Pre
 
-abbrev collect-coupled-below : ℕ → In 5 collect-coupled-kinds.ps
-collect-coupled-below t =
-    and
-    5
-    collect-coupled-kinds.ps
-    (falls 5 collect-coupled-kinds.ps _<_ μ-collect-coupled t)
-    collect-coupled.Pre
+abbrev collect-coupled-below : ℕ → In 4 collect-coupled-kinds.ps
+collect-coupled-below t = and 4 collect-coupled-kinds.ps (falls 4 collect-coupled-kinds.ps _<_ μ-collect-coupled t) collect-coupled.Pre
 
 abbrev collect-child-calls : ℕ → collect-child-lts.Claims
-collect-child-calls t = (is-atomic-reads.Asked, is-atomic-reads.Learnt, put-output-reads.Asked, put-output-reads.Learnt, is-open-reads.Asked, is-open-reads.Learnt, collect-coupled-below t, collect-coupled.Post)
+collect-child-calls t = (
+  is-atomic-reads.Asked,
+  is-atomic-reads.Learnt,
+  put-output-reads.Asked,
+  put-output-reads.Learnt,
+  is-open-reads.Asked,
+  is-open-reads.Learnt,
+  collect-coupled-below t,
+  collect-coupled.Post,
+)
 
 abbrev collect-coupled-calls : ℕ → collect-coupled-lts.Claims
-collect-coupled-calls t = (first-link-reads.Asked, first-link-reads.Learnt, source-of-reads.Asked, source-of-reads.Learnt, collect-child-below t, collect-child.Post, next-link-reads.Asked, next-link-reads.Learnt)
-
-collect-child-is-atomic-requires : (t : ℕ) → collect-child-lts.Need-is-atomic-requires (collect-child-calls t) (collect-child-at t) collect-child.Post
-collect-child-is-atomic-requires t c κs = search needs
-
-collect-child-put-output-requires : (t : ℕ) → collect-child-lts.Need-put-output-requires (collect-child-calls t) (collect-child-at t) collect-child.Post
-collect-child-put-output-requires t c κs = search needs
+collect-coupled-calls t = (
+  first-link-reads.Asked,
+  first-link-reads.Learnt,
+  source-of-reads.Asked,
+  source-of-reads.Learnt,
+  collect-child-below t,
+  collect-child.Post,
+  next-link-reads.Asked,
+  next-link-reads.Learnt,
+)
 
 collect-child-same-length : (t : ℕ) → collect-child-lts.Need-same-length (collect-child-calls t) (collect-child-at t) collect-child.Post
 collect-child-same-length t c =
@@ -89,10 +84,7 @@ collect-child-returns t c =
     let then1 : collect-child-lts.Then1 (collect-child-calls t) (collect-child-at t) collect-child.Post = search in
     let after-is-atomic : collect-child-lts.After-is-atomic (collect-child-calls t) (collect-child-at t) collect-child.Post = search in
     let a = start .args in
-    rw (sym (after-is-atomic .is-atomic .ensures) ∙ then1 .if1 .taken, ← sent-by (phasesIn (now (a .phases))) (now (a .marks)) (a .y)) (after-put-output .put-output .ensures)
-
-collect-child-is-open-requires : (t : ℕ) → collect-child-lts.Need-is-open-requires (collect-child-calls t) (collect-child-at t) collect-child.Post
-collect-child-is-open-requires t c κs = search needs
+    rw (sym (after-is-atomic .is-atomic .ensures) ∙ then1 .if1 .taken) (after-put-output .put-output .ensures)
 
 collect-child-returns-2 : (t : ℕ) → collect-child-lts.Need-returns-2 (collect-child-calls t) (collect-child-at t) collect-child.Post
 unfolding childOut puts
@@ -101,19 +93,21 @@ collect-child-returns-2 t c =
     let else1 : collect-child-lts.Else1 (collect-child-calls t) (collect-child-at t) collect-child.Post = search in
     let after-is-atomic : collect-child-lts.After-is-atomic (collect-child-calls t) (collect-child-at t) collect-child.Post = search in
     let a = start .args in
-    rw (sym (after-is-atomic .is-atomic .ensures) ∙ else1 .if1 .left, coupled-shut (phasesIn (now (a .phases))) (now (a .tables)) (now (a .marks)) (now (a .reached)) (a .depth) (a .y) (sym (c .before .is-open .ensures) ∙ not-true _ (c .if2 .taken)))
+    let shut = sym (c .before .is-open .ensures) ∙ not-true _ (c .if2 .taken) in
+    rw (sym (after-is-atomic .is-atomic .ensures) ∙ else1 .if1 .left, coupled-shut (now (a .phases)) (now (a .tables)) (now (a .flags)) (a .depth) (a .source) shut)
 
 collect-child-collect-coupled-requires : (t : ℕ) → collect-child-lts.Need-collect-coupled-requires (collect-child-calls t) (collect-child-at t) collect-child.Post
 collect-child-collect-coupled-requires t c κs =
     let start : collect-child-lts.Start (collect-child-calls t) (collect-child-at t) collect-child.Post = search in
     let after-is-open : collect-child-lts.After-is-open (collect-child-calls t) (collect-child-at t) collect-child.Post = search in
-    let given = start .pre .1 in
-    (search needs, (given .0, given .1, sym (after-is-open .is-open .ensures) ∙ not-false _ (c .before .if2 .left)))
+    let p = start .pre .1 in
+    let entered = sym (after-is-open .is-open .ensures) ∙ not-false _ (c .before .if2 .left) in
+    (search needs, record { below = p .below; in-range = p .in-range; enters = entered })
 
 collect-child-same-length-2 : (t : ℕ) → collect-child-lts.Need-same-length-2 (collect-child-calls t) (collect-child-at t) collect-child.Post
 collect-child-same-length-2 t c =
     let after-collect-coupled : collect-child-lts.After-collect-coupled (collect-child-calls t) (collect-child-at t) collect-child.Post = search in
-    after-collect-coupled .collect-coupled .kept .1 .1 .1 .1 .1 .1 .1 .0
+    after-collect-coupled .collect-coupled .kept .1 .1 .1 .1 .1 .1 .0
 
 collect-child-returns-3 : (t : ℕ) → collect-child-lts.Need-returns-3 (collect-child-calls t) (collect-child-at t) collect-child.Post
 unfolding childOut
@@ -124,43 +118,45 @@ collect-child-returns-3 t c =
     rw (sym (after-is-atomic .is-atomic .ensures) ∙ else1 .if1 .left) (after-collect-coupled .collect-coupled .ensures)
 
 abbrev collect-coupled-Inv-loop : collect-coupled-lts.InvT-loop
-collect-coupled-Inv-loop phases tables marks reached depth own x buf₀ at next₀ left₀ link₀ buf next left link =
+collect-coupled-Inv-loop phases tables flags depth port target buf₀ end next₀ left₀ link₀ buf next left link =
     (left ≤ 1024) × (link ≤ maxCouplings) × (length buf ≡ length buf₀) ×
-    (puts own (joined (pulledChild (phasesIn phases) tables marks reached (depth - 1)) (rowsFrom tables left link)) (buf, next) ≡
-    puts own (pulledBelow (phasesIn phases) tables marks reached depth x) (buf₀, at))
+    (puts port (joined (leavingChild phases tables flags (depth - 1)) (rowsFrom tables left link)) (buf, next) ≡
+    puts port (leaving phases tables flags depth target) (buf₀, end))
 
 abbrev collect-coupled-μ-loop : collect-coupled-lts.MeasureT-loop
-collect-coupled-μ-loop phases tables marks reached depth own x buf₀ at next₀ left₀ link₀ buf next left link = left
+collect-coupled-μ-loop phases tables flags depth port target buf₀ end next₀ left₀ link₀ buf next left link = left
 
 collect-coupled-returns : (t : ℕ) → collect-coupled-lts.Need-returns (collect-coupled-calls t) (collect-coupled-at t) collect-coupled.Post collect-coupled-Inv-loop collect-coupled-μ-loop
 unfolding coupledOut puts
 collect-coupled-returns t c = rw (c .if1 .taken)
 
-collect-coupled-first-link-requires : (t : ℕ) → collect-coupled-lts.Need-first-link-requires (collect-coupled-calls t) (collect-coupled-at t) collect-coupled.Post collect-coupled-Inv-loop collect-coupled-μ-loop
-collect-coupled-first-link-requires t c κs = search needs
-
 collect-coupled-loop-holds : (t : ℕ) → collect-coupled-lts.Need-loop-holds (collect-coupled-calls t) (collect-coupled-at t) collect-coupled.Post collect-coupled-Inv-loop collect-coupled-μ-loop
 collect-coupled-loop-holds t c =
     let start : collect-coupled-lts.Start (collect-coupled-calls t) (collect-coupled-at t) collect-coupled.Post collect-coupled-Inv-loop collect-coupled-μ-loop = search in
     let a = start .args in
-    let given = start .pre .1 in
-    (omega arith, rw (c .first-link .ensures) (given .1 .firsts (a .x) (given .0)), refl, rw (c .first-link .ensures) (ap (λ l. puts (a .own) l (now (a .buf), a .at)) (coupled-open (phasesIn (now (a .phases))) (now (a .tables)) (now (a .marks)) (now (a .reached)) (a .depth) (a .x) (omega arith) (given .2))))
+    let p = start .pre .1 in
+    let all = coupled-open (now (a .phases)) (now (a .tables)) (now (a .flags)) (a .depth) (a .target) (omega arith) (p .enters) in (
+      omega arith,
+      rw (c .first-link .ensures) (p .in-range .firsts (a .target) (p .below)),
+      refl,
+      rw (c .first-link .ensures) (ap (λ l. puts (a .port) l (now (a .buf), a .end)) all),
+    )
 
-collect-coupled-source-of-requires : (t : ℕ) → collect-coupled-lts.Need-source-of-requires (collect-coupled-calls t) (collect-coupled-at t) collect-coupled.Post collect-coupled-Inv-loop collect-coupled-μ-loop
+collect-coupled-source-of-requires : (t : ℕ)
+    → collect-coupled-lts.Need-source-of-requires (collect-coupled-calls t) (collect-coupled-at t) collect-coupled.Post collect-coupled-Inv-loop collect-coupled-μ-loop
 collect-coupled-source-of-requires t c κs = c .before .loop .inv .1
 
-collect-coupled-sub-collect-child : (t : ℕ) → collect-coupled-lts.Need-sub-collect-child (collect-coupled-calls t) (collect-coupled-at t) collect-coupled.Post collect-coupled-Inv-loop collect-coupled-μ-loop
-collect-coupled-sub-collect-child t c = search needs
-
-collect-coupled-collect-child-requires : (t : ℕ) → collect-coupled-lts.Need-collect-child-requires (collect-coupled-calls t) (collect-coupled-at t) collect-coupled.Post collect-coupled-Inv-loop collect-coupled-μ-loop
+collect-coupled-collect-child-requires : (t : ℕ)
+    → collect-coupled-lts.Need-collect-child-requires (collect-coupled-calls t) (collect-coupled-at t) collect-coupled.Post collect-coupled-Inv-loop collect-coupled-μ-loop
 collect-coupled-collect-child-requires t c κs =
     let start : collect-coupled-lts.Start (collect-coupled-calls t) (collect-coupled-at t) collect-coupled.Post collect-coupled-Inv-loop collect-coupled-μ-loop = search in
     let at-loop : collect-coupled-lts.At-loop (collect-coupled-calls t) (collect-coupled-at t) collect-coupled.Post collect-coupled-Inv-loop collect-coupled-μ-loop = search in
-    let r = start .pre .1 .1 in
+    let r = start .pre .1 .in-range in
     let l = at-loop .loop in
-    (search needs, (rw (c .before .source-of .ensures) (r .sources (l .link) (l .inv .1)), r))
+    (search needs, record { below = rw (c .before .source-of .ensures) (r .sources (l .link) (l .inv .1)); in-range = r })
 
-collect-coupled-next-link-requires : (t : ℕ) → collect-coupled-lts.Need-next-link-requires (collect-coupled-calls t) (collect-coupled-at t) collect-coupled.Post collect-coupled-Inv-loop collect-coupled-μ-loop
+collect-coupled-next-link-requires : (t : ℕ)
+    → collect-coupled-lts.Need-next-link-requires (collect-coupled-calls t) (collect-coupled-at t) collect-coupled.Post collect-coupled-Inv-loop collect-coupled-μ-loop
 collect-coupled-next-link-requires t c κs =
     let at-loop : collect-coupled-lts.At-loop (collect-coupled-calls t) (collect-coupled-at t) collect-coupled.Post collect-coupled-Inv-loop collect-coupled-μ-loop = search in
     at-loop .loop .inv .1
@@ -187,8 +183,13 @@ collect-coupled-loop-again t c =
     let a = start .args in
     let l = at-loop .loop in
     let m = after-collect-child .collect-child in
-    let f = pulledChild (phasesIn (now (a .phases))) (now (a .tables)) (now (a .marks)) (now (a .reached)) (a .depth - 1) in
-    (omega arith, rw (c .next-link .ensures) (start .pre .1 .1 .nexts (l .link) (l .inv .1)), m .kept .1 .1 .1 .1 .1 .1 .1 .0 ∙ l .inv .2, rw (m .ensures, after-source-of .source-of .ensures, c .next-link .ensures) (chain-more f (now (a .tables)) (a .own) (l .left) (l .link) (l .buf, l .next) (in-loop .loop-test .taken) ∙ l .inv .3))
+    let f = leavingChild (now (a .phases)) (now (a .tables)) (now (a .flags)) (a .depth - 1) in
+    let more = chain-more f (now (a .tables)) (a .port) (l .left) (l .link) (l .buf, l .next) (in-loop .loop-test .taken) in (
+      omega arith,
+      rw (c .next-link .ensures) (start .pre .1 .in-range .nexts (l .link) (l .inv .1)),
+      m .kept .1 .1 .1 .1 .1 .1 .0 ∙ l .inv .2,
+      rw (m .ensures, after-source-of .source-of .ensures, c .next-link .ensures) (more ∙ l .inv .3),
+    )
 
 collect-coupled-same-length : (t : ℕ) → collect-coupled-lts.Need-same-length (collect-coupled-calls t) (collect-coupled-at t) collect-coupled.Post collect-coupled-Inv-loop collect-coupled-μ-loop
 collect-coupled-same-length t c = c .before .loop .inv .2
@@ -198,55 +199,16 @@ collect-coupled-returns-2 t c =
     let start : collect-coupled-lts.Start (collect-coupled-calls t) (collect-coupled-at t) collect-coupled.Post collect-coupled-Inv-loop collect-coupled-μ-loop = search in
     let a = start .args in
     let l = c .before .loop in
-    let f = pulledChild (phasesIn (now (a .phases))) (now (a .tables)) (now (a .marks)) (now (a .reached)) (a .depth - 1) in
-    sym (chain-end f (now (a .tables)) (a .own) (l .left) (l .link) (l .buf, l .next) (c .loop-test .left)) ∙ l .inv .3
+    let f = leavingChild (now (a .phases)) (now (a .tables)) (now (a .flags)) (a .depth - 1) in
+    sym (chain-end f (now (a .tables)) (a .port) (l .left) (l .link) (l .buf, l .next) (c .loop-test .left)) ∙ l .inv .3
 
 pub +collect-child+collect-coupled-spec : {M : Type 1} → statement M
 +collect-child+collect-coupled-spec =
-    close μ-collect-child μ-collect-coupled (λ t. collect-child-lts.spec (
-      is-atomic-reads.Asked,
-      is-atomic-reads.Learnt,
-      put-output-reads.Asked,
-      put-output-reads.Learnt,
-      is-open-reads.Asked,
-      is-open-reads.Learnt,
-      collect-coupled-below t,
-      collect-coupled.Post,
-    )
-    (collect-child-at t)
-    collect-child.Post
-    (collect-child-is-atomic-requires t)
-    (collect-child-put-output-requires t)
-    (collect-child-same-length t)
-    (collect-child-returns t)
-    (collect-child-is-open-requires t)
-    (collect-child-returns-2 t)
-    (collect-child-collect-coupled-requires t)
-    (collect-child-same-length-2 t)
-    (collect-child-returns-3 t))
-    λ t. collect-coupled-lts.spec (
-      first-link-reads.Asked,
-      first-link-reads.Learnt,
-      source-of-reads.Asked,
-      source-of-reads.Learnt,
-      collect-child-below t,
-      collect-child.Post,
-      next-link-reads.Asked,
-      next-link-reads.Learnt,
-    )
-    (collect-coupled-at t)
-    collect-coupled.Post
-    collect-coupled-Inv-loop
-    collect-coupled-μ-loop
-    (collect-coupled-returns t)
-    (collect-coupled-first-link-requires t)
-    (collect-coupled-loop-holds t)
-    (collect-coupled-source-of-requires t)
-    (collect-coupled-sub-collect-child t)
-    (collect-coupled-collect-child-requires t)
-    (collect-coupled-next-link-requires t)
-    (collect-coupled-sub-left t)
-    (collect-coupled-loop-less t)
-    (collect-coupled-loop-again t)
-    (collect-coupled-same-length t)
+    close μ-collect-child μ-collect-coupled (λ t. collect-child-lts.spec (collect-child-calls t) (collect-child-at t) collect-child.Post
+    (λ c κs. search needs) (λ c κs. search needs) (collect-child-same-length t) (collect-child-returns t) (λ c κs. search needs)
+    (collect-child-returns-2 t) (collect-child-collect-coupled-requires t) (collect-child-same-length-2 t) (collect-child-returns-3 t))
+    λ t. collect-coupled-lts.spec (collect-coupled-calls t) (collect-coupled-at t) collect-coupled.Post collect-coupled-Inv-loop
+    collect-coupled-μ-loop (collect-coupled-returns t) (λ c κs. search needs) (collect-coupled-loop-holds t)
+    (collect-coupled-source-of-requires t) (λ c. search needs) (collect-coupled-collect-child-requires t) (collect-coupled-next-link-requires t)
+    (collect-coupled-sub-left t) (collect-coupled-loop-less t) (collect-coupled-loop-again t) (collect-coupled-same-length t)
     (collect-coupled-returns-2 t)

@@ -1,6 +1,8 @@
--- The mark of the node's component and the node's port are what the definition names.
+-- The mark of the node's component and the node's port are those that the definition names.
 use borrow.Author.Needs.{needs}
 use Rattle.spec_step.specs.Tables.{nodeComponent}
+use Rattle.spec_step.specs.TableStep.{sentBy}
+use Rattle.step_keys.specs.Sent.{sentOn}
 use Rattle.step_collect.proofs.outputs.put_output.Statement.{statement}
 use Rattle.step_collect.proofs.outputs.put_output.Tie as tie
 
@@ -10,7 +12,7 @@ same-length c =
     after-put-sent .put-sent .kept .1 .1 .1 .1 .0
 
 returns : tie.Need-returns
-unfolding nodeComponent
+unfolding sentBy sentOn nodeComponent
 returns c =
     let after-put-sent : tie.After-put-sent = search in let after-port-of : tie.After-port-of = search in
     let after-mark-at : tie.After-mark-at = search in let after-size : tie.After-size = search in

@@ -8,23 +8,20 @@ use mathlib.Core.Bool.{true, false}
 use lib.ListN.{length}
 use denote.Ref.{now}
 use borrow.Author.Tests.{lt-ltb, le-ltb, not-true, not-false}
-use Rattle.spec_step.specs.TableStep.{pulledInto}
 use Rattle.spec_step.specs.Tables.{isRootNode, isOutput}
 use Rattle.spec_step.specs.Put.{puts}
 use Rattle.spec_step.specs.Pull.{joined, childOut, sourceIn}
-use Rattle.model_records.specs.Values.{phasesIn}
 use Rattle.definition.specs.Limits.{maxCouplings}
-use Rattle.definition.specs.Engine.{toBag}
-use Rattle.step_collect.specs.Turns.{pulledFrom}
-use Rattle.step_collect.proofs.Laws.{rowsFrom, both-left, chain-more, chain-end, input-root, input-none, input-open, input-shut, coupled-shut, sent-by}
+use Rattle.step_collect.specs.Collected.{arriving, arrivingFrom}
+use Rattle.step_collect.proofs.Laws.{rowsFrom, both-left, chain-more, chain-end, input-root, input-none, input-open, input-shut, coupled-shut}
 use borrow.Fn.Kinds.{In}
 use borrow.Fn.PlainCycle.{Measures, is, falls, and}
-use Rattle.step_collect.proofs.collect_input.Reads as collect-input
-use Rattle.step_collect.proofs.collect_input.Kinds as collect-input-kinds
-use Rattle.step_collect.proofs.+collect_input+collect_source.Lts-collect_input as collect-input-lts
-use Rattle.step_collect.proofs.collect_source.Reads as collect-source
-use Rattle.step_collect.proofs.collect_source.Kinds as collect-source-kinds
-use Rattle.step_collect.proofs.+collect_input+collect_source.Lts-collect_source as collect-source-lts
+use Rattle.step_collect.proofs.inputs.collect_input.Reads as collect-input
+use Rattle.step_collect.proofs.inputs.collect_input.Kinds as collect-input-kinds
+use Rattle.step_collect.proofs.inputs.+collect_input+collect_source.Lts-collect_input as collect-input-lts
+use Rattle.step_collect.proofs.inputs.collect_source.Reads as collect-source
+use Rattle.step_collect.proofs.inputs.collect_source.Kinds as collect-source-kinds
+use Rattle.step_collect.proofs.inputs.+collect_input+collect_source.Lts-collect_source as collect-source-lts
 use Rattle.step_keys.proofs.put_given.Reads as put-given-reads
 use Rattle.step_collect.proofs.outputs.collect_coupled.Reads as collect-coupled-reads
 use Rattle.step_collect.proofs.first_link.Reads as first-link-reads
@@ -34,89 +31,98 @@ use Rattle.step_collect.proofs.next_link.Reads as next-link-reads
 use Rattle.step_collect.proofs.port_of.Reads as port-of-reads
 use Rattle.step_collect.proofs.outputs.put_output.Reads as put-output-reads
 use Rattle.step_collect.proofs.source_of.Reads as source-of-reads
-use Rattle.step_collect.proofs.+collect_input+collect_source.{statement}
-use Rattle.step_collect.proofs.+collect_input+collect_source.Tie.{close}
+use Rattle.step_collect.proofs.inputs.+collect_input+collect_source.{statement}
+use Rattle.step_collect.proofs.inputs.+collect_input+collect_source.Tie.{close}
 
-abbrev μ-collect-input : Measures 6 collect-input-kinds.ps ℕ
-μ-collect-input κs a = 2 * a .1 .1 .1 .1 .1 .0
+abbrev μ-collect-input : Measures 5 collect-input-kinds.ps ℕ
+μ-collect-input κs a = 2 * a .1 .1 .1 .1 .0
 
-abbrev μ-collect-source : Measures 6 collect-source-kinds.ps ℕ
-μ-collect-source κs a = 2 * a .1 .1 .1 .1 .1 .0 + 1
+abbrev μ-collect-source : Measures 5 collect-source-kinds.ps ℕ
+μ-collect-source κs a = 2 * a .1 .1 .1 .1 .0 + 1
 
-abbrev collect-input-at : ℕ → In 6 collect-input-kinds.ps
-collect-input-at t = and 6 collect-input-kinds.ps (is 6 collect-input-kinds.ps μ-collect-input t) collect-input.Pre
+abbrev collect-input-at : ℕ → In 5 collect-input-kinds.ps
+collect-input-at t = and 5 collect-input-kinds.ps (is 5 collect-input-kinds.ps μ-collect-input t) collect-input.Pre
 
-abbrev collect-input-below : ℕ → In 6 collect-input-kinds.ps
-collect-input-below t =
-    and
-    6
-    collect-input-kinds.ps
-    (falls 6 collect-input-kinds.ps _<_ μ-collect-input t)
-    collect-input.Pre
+abbrev collect-input-below : ℕ → In 5 collect-input-kinds.ps
+collect-input-below t = and 5 collect-input-kinds.ps (falls 5 collect-input-kinds.ps _<_ μ-collect-input t) collect-input.Pre
 
-abbrev collect-source-at : ℕ → In 6 collect-source-kinds.ps
-collect-source-at t =
-    and
-    6
-    collect-source-kinds.ps
-    (is 6 collect-source-kinds.ps μ-collect-source t)
-    collect-source.Pre
+abbrev collect-source-at : ℕ → In 5 collect-source-kinds.ps
+collect-source-at t = and 5 collect-source-kinds.ps (is 5 collect-source-kinds.ps μ-collect-source t) collect-source.Pre
 
-abbrev collect-source-below : ℕ → In 6 collect-source-kinds.ps
-collect-source-below t =
-    and
-    6
-    collect-source-kinds.ps
-    (falls 6 collect-source-kinds.ps _<_ μ-collect-source t)
-    collect-source.Pre
+abbrev collect-source-below : ℕ → In 5 collect-source-kinds.ps
+collect-source-below t = and 5 collect-source-kinds.ps (falls 5 collect-source-kinds.ps _<_ μ-collect-source t) collect-source.Pre
 
 abbrev collect-input-Inv-loop : collect-input-lts.InvT-loop
-collect-input-Inv-loop phases tables marks reached given depth own x buf₀ at next₀ left₀ link₀ buf next left link =
+collect-input-Inv-loop phases tables flags given depth port target buf₀ end next₀ left₀ link₀ buf next left link =
     (left ≤ 1024) × (link ≤ maxCouplings) × (length buf ≡ length buf₀) ×
-    (puts own (joined (pulledFrom (phasesIn phases) tables marks reached (toBag given) (depth - 1)) (rowsFrom tables left link)) (buf, next) ≡
-    puts own (pulledInto (phasesIn phases) tables marks reached (toBag given) depth x) (buf₀, at))
+    (puts port (joined (arrivingFrom phases tables flags given (depth - 1)) (rowsFrom tables left link)) (buf, next) ≡
+    puts port (arriving phases tables flags given depth target) (buf₀, end))
 
 abbrev collect-input-μ-loop : collect-input-lts.MeasureT-loop
-collect-input-μ-loop phases tables marks reached given depth own x buf₀ at next₀ left₀ link₀ buf next left link = left
+collect-input-μ-loop phases tables flags given depth port target buf₀ end next₀ left₀ link₀ buf next left link = left
 
 abbrev collect-input-calls : ℕ → collect-input-lts.Claims
-collect-input-calls t = (first-link-reads.Asked, first-link-reads.Learnt, source-of-reads.Asked, source-of-reads.Learnt, collect-source-below t, collect-source.Post, next-link-reads.Asked, next-link-reads.Learnt)
+collect-input-calls t = (
+  first-link-reads.Asked,
+  first-link-reads.Learnt,
+  source-of-reads.Asked,
+  source-of-reads.Learnt,
+  collect-source-below t,
+  collect-source.Post,
+  next-link-reads.Asked,
+  next-link-reads.Learnt,
+)
 
 abbrev collect-source-calls : ℕ → collect-source-lts.Claims
-collect-source-calls t = (port-of-reads.Asked, port-of-reads.Learnt, put-given-reads.Asked, put-given-reads.Learnt, is-open-reads.Asked, is-open-reads.Learnt, collect-input-below t, collect-input.Post, is-atomic-reads.Asked, is-atomic-reads.Learnt, put-output-reads.Asked, put-output-reads.Learnt, collect-coupled-reads.Asked, collect-coupled-reads.Learnt)
+collect-source-calls t = (
+  port-of-reads.Asked,
+  port-of-reads.Learnt,
+  put-given-reads.Asked,
+  put-given-reads.Learnt,
+  is-open-reads.Asked,
+  is-open-reads.Learnt,
+  collect-input-below t,
+  collect-input.Post,
+  is-atomic-reads.Asked,
+  is-atomic-reads.Learnt,
+  put-output-reads.Asked,
+  put-output-reads.Learnt,
+  collect-coupled-reads.Asked,
+  collect-coupled-reads.Learnt,
+)
 
 collect-input-returns : (t : ℕ) → collect-input-lts.Need-returns (collect-input-calls t) (collect-input-at t) collect-input.Post collect-input-Inv-loop collect-input-μ-loop
 unfolding puts
 collect-input-returns t c =
     let start : collect-input-lts.Start (collect-input-calls t) (collect-input-at t) collect-input.Post collect-input-Inv-loop collect-input-μ-loop = search in
     let a = start .args in
-    let r : isRootNode (a .x) ≡ false = unfold isRootNode in le-ltb _ _ (start .pre .1 .2) in
-    rw (c .if1 .taken, input-none (phasesIn (now (a .phases))) (now (a .tables)) (now (a .marks)) (now (a .reached)) (toBag (now (a .given))) (a .x) r)
-
-collect-input-first-link-requires : (t : ℕ) → collect-input-lts.Need-first-link-requires (collect-input-calls t) (collect-input-at t) collect-input.Post collect-input-Inv-loop collect-input-μ-loop
-collect-input-first-link-requires t c κs = search needs
+    let r : isRootNode (a .target) ≡ false = unfold isRootNode in le-ltb _ _ (start .pre .1 .not-root) in
+    rw (c .if1 .taken, input-none (now (a .phases)) (now (a .tables)) (now (a .flags)) (now (a .given)) (a .target) r)
 
 collect-input-loop-holds : (t : ℕ) → collect-input-lts.Need-loop-holds (collect-input-calls t) (collect-input-at t) collect-input.Post collect-input-Inv-loop collect-input-μ-loop
 collect-input-loop-holds t c =
     let start : collect-input-lts.Start (collect-input-calls t) (collect-input-at t) collect-input.Post collect-input-Inv-loop collect-input-μ-loop = search in
     let a = start .args in
-    let given = start .pre .1 in
-    let r : isRootNode (a .x) ≡ false = unfold isRootNode in le-ltb _ _ (given .2) in
-    (omega arith, rw (c .first-link .ensures) (given .1 .firsts (a .x) (given .0)), refl, rw (c .first-link .ensures) (ap (λ l. puts (a .own) l (now (a .buf), a .at)) (input-open (phasesIn (now (a .phases))) (now (a .tables)) (now (a .marks)) (now (a .reached)) (toBag (now (a .given))) (a .depth) (a .x) r (omega arith) (given .3))))
+    let p = start .pre .1 in
+    let r : isRootNode (a .target) ≡ false = unfold isRootNode in le-ltb _ _ (p .not-root) in
+    let all = input-open (now (a .phases)) (now (a .tables)) (now (a .flags)) (now (a .given)) (a .depth) (a .target) r (omega arith) (p .enters) in (
+      omega arith,
+      rw (c .first-link .ensures) (p .in-range .firsts (a .target) (p .below)),
+      refl,
+      rw (c .first-link .ensures) (ap (λ l. puts (a .port) l (now (a .buf), a .end)) all),
+    )
 
 collect-input-source-of-requires : (t : ℕ) → collect-input-lts.Need-source-of-requires (collect-input-calls t) (collect-input-at t) collect-input.Post collect-input-Inv-loop collect-input-μ-loop
 collect-input-source-of-requires t c κs = c .before .loop .inv .1
 
-collect-input-sub-collect-source : (t : ℕ) → collect-input-lts.Need-sub-collect-source (collect-input-calls t) (collect-input-at t) collect-input.Post collect-input-Inv-loop collect-input-μ-loop
-collect-input-sub-collect-source t c = search needs
-
-collect-input-collect-source-requires : (t : ℕ) → collect-input-lts.Need-collect-source-requires (collect-input-calls t) (collect-input-at t) collect-input.Post collect-input-Inv-loop collect-input-μ-loop
+collect-input-collect-source-requires : (t : ℕ)
+    → collect-input-lts.Need-collect-source-requires (collect-input-calls t) (collect-input-at t) collect-input.Post collect-input-Inv-loop collect-input-μ-loop
 collect-input-collect-source-requires t c κs =
     let start : collect-input-lts.Start (collect-input-calls t) (collect-input-at t) collect-input.Post collect-input-Inv-loop collect-input-μ-loop = search in
     let at-loop : collect-input-lts.At-loop (collect-input-calls t) (collect-input-at t) collect-input.Post collect-input-Inv-loop collect-input-μ-loop = search in
-    let r = start .pre .1 .1 in
+    let r = start .pre .1 .in-range in
     let l = at-loop .loop in
-    (search needs, (rw (c .before .source-of .ensures) (r .sources (l .link) (l .inv .1)), r))
+    (search needs, record { below = rw (c .before .source-of .ensures) (r .sources (l .link) (l .inv .1)); in-range = r })
 
 collect-input-next-link-requires : (t : ℕ) → collect-input-lts.Need-next-link-requires (collect-input-calls t) (collect-input-at t) collect-input.Post collect-input-Inv-loop collect-input-μ-loop
 collect-input-next-link-requires t c κs =
@@ -145,8 +151,13 @@ collect-input-loop-again t c =
     let a = start .args in
     let l = at-loop .loop in
     let m = after-collect-source .collect-source in
-    let f = pulledFrom (phasesIn (now (a .phases))) (now (a .tables)) (now (a .marks)) (now (a .reached)) (toBag (now (a .given))) (a .depth - 1) in
-    (omega arith, rw (c .next-link .ensures) (start .pre .1 .1 .nexts (l .link) (l .inv .1)), m .kept .1 .1 .1 .1 .1 .1 .1 .1 .0 ∙ l .inv .2, rw (m .ensures, after-source-of .source-of .ensures, c .next-link .ensures) (chain-more f (now (a .tables)) (a .own) (l .left) (l .link) (l .buf, l .next) (in-loop .loop-test .taken) ∙ l .inv .3))
+    let f = arrivingFrom (now (a .phases)) (now (a .tables)) (now (a .flags)) (now (a .given)) (a .depth - 1) in
+    let more = chain-more f (now (a .tables)) (a .port) (l .left) (l .link) (l .buf, l .next) (in-loop .loop-test .taken) in (
+      omega arith,
+      rw (c .next-link .ensures) (start .pre .1 .in-range .nexts (l .link) (l .inv .1)),
+      m .kept .1 .1 .1 .1 .1 .1 .1 .0 ∙ l .inv .2,
+      rw (m .ensures, after-source-of .source-of .ensures, c .next-link .ensures) (more ∙ l .inv .3),
+    )
 
 collect-input-same-length : (t : ℕ) → collect-input-lts.Need-same-length (collect-input-calls t) (collect-input-at t) collect-input.Post collect-input-Inv-loop collect-input-μ-loop
 collect-input-same-length t c = c .before .loop .inv .2
@@ -156,14 +167,8 @@ collect-input-returns-2 t c =
     let start : collect-input-lts.Start (collect-input-calls t) (collect-input-at t) collect-input.Post collect-input-Inv-loop collect-input-μ-loop = search in
     let a = start .args in
     let l = c .before .loop in
-    let f = pulledFrom (phasesIn (now (a .phases))) (now (a .tables)) (now (a .marks)) (now (a .reached)) (toBag (now (a .given))) (a .depth - 1) in
-    sym (chain-end f (now (a .tables)) (a .own) (l .left) (l .link) (l .buf, l .next) (c .loop-test .left)) ∙ l .inv .3
-
-collect-source-port-of-requires : (t : ℕ) → collect-source-lts.Need-port-of-requires (collect-source-calls t) (collect-source-at t) collect-source.Post
-collect-source-port-of-requires t c κs = search needs
-
-collect-source-put-given-requires : (t : ℕ) → collect-source-lts.Need-put-given-requires (collect-source-calls t) (collect-source-at t) collect-source.Post
-collect-source-put-given-requires t c κs = search needs
+    let f = arrivingFrom (now (a .phases)) (now (a .tables)) (now (a .flags)) (now (a .given)) (a .depth - 1) in
+    sym (chain-end f (now (a .tables)) (a .port) (l .left) (l .link) (l .buf, l .next) (c .loop-test .left)) ∙ l .inv .3
 
 collect-source-same-length : (t : ℕ) → collect-source-lts.Need-same-length (collect-source-calls t) (collect-source-at t) collect-source.Post
 collect-source-same-length t c =
@@ -179,11 +184,9 @@ collect-source-returns t c =
     let then2 : collect-source-lts.Then2 (collect-source-calls t) (collect-source-at t) collect-source.Post = search in
     let then1 : collect-source-lts.Then1 (collect-source-calls t) (collect-source-at t) collect-source.Post = search in
     let a = start .args in
-    let r : isRootNode (a .y) ≡ true = unfold isRootNode in lt-ltb _ _ (then2 .if2 .taken) in
-    rw (lt-ltb _ _ (then1 .if1 .taken), input-root (phasesIn (now (a .phases))) (now (a .tables)) (now (a .marks)) (now (a .reached)) (toBag (now (a .given))) (a .depth) (a .y) r) (rw (after-port-of .port-of .ensures) at (after-put-given .put-given .ensures))
-
-collect-source-is-open-requires : (t : ℕ) → collect-source-lts.Need-is-open-requires (collect-source-calls t) (collect-source-at t) collect-source.Post
-collect-source-is-open-requires t c κs = search needs
+    let r : isRootNode (a .source) ≡ true = unfold isRootNode in lt-ltb _ _ (then2 .if2 .taken) in
+    rw (lt-ltb _ _ (then1 .if1 .taken), input-root (now (a .phases)) (now (a .tables)) (now (a .flags)) (now (a .given)) (a .depth) (a .source) r)
+    (rw (after-port-of .port-of .ensures) at (after-put-given .put-given .ensures))
 
 collect-source-returns-2 : (t : ℕ) → collect-source-lts.Need-returns-2 (collect-source-calls t) (collect-source-at t) collect-source.Post
 unfolding sourceIn isOutput puts
@@ -192,21 +195,23 @@ collect-source-returns-2 t c =
     let else2 : collect-source-lts.Else2 (collect-source-calls t) (collect-source-at t) collect-source.Post = search in
     let then1 : collect-source-lts.Then1 (collect-source-calls t) (collect-source-at t) collect-source.Post = search in
     let a = start .args in
-    let r : isRootNode (a .y) ≡ false = unfold isRootNode in le-ltb _ _ (else2 .if2 .left) in
-    rw (lt-ltb _ _ (then1 .if1 .taken), input-shut (phasesIn (now (a .phases))) (now (a .tables)) (now (a .marks)) (now (a .reached)) (toBag (now (a .given))) (a .depth) (a .y) r (sym (c .before .is-open .ensures) ∙ not-true _ (c .if3 .taken)))
+    let r : isRootNode (a .source) ≡ false = unfold isRootNode in le-ltb _ _ (else2 .if2 .left) in
+    let shut = sym (c .before .is-open .ensures) ∙ not-true _ (c .if3 .taken) in
+    rw (lt-ltb _ _ (then1 .if1 .taken), input-shut (now (a .phases)) (now (a .tables)) (now (a .flags)) (now (a .given)) (a .depth) (a .source) r shut)
 
 collect-source-collect-input-requires : (t : ℕ) → collect-source-lts.Need-collect-input-requires (collect-source-calls t) (collect-source-at t) collect-source.Post
 collect-source-collect-input-requires t c κs =
     let start : collect-source-lts.Start (collect-source-calls t) (collect-source-at t) collect-source.Post = search in
     let after-is-open : collect-source-lts.After-is-open (collect-source-calls t) (collect-source-at t) collect-source.Post = search in
     let else2 : collect-source-lts.Else2 (collect-source-calls t) (collect-source-at t) collect-source.Post = search in
-    let given = start .pre .1 in
-    (search needs, (given .0, given .1, else2 .if2 .left, sym (after-is-open .is-open .ensures) ∙ not-false _ (c .before .if3 .left)))
+    let p = start .pre .1 in
+    let entered = sym (after-is-open .is-open .ensures) ∙ not-false _ (c .before .if3 .left) in
+    (search needs, record { below = p .below; in-range = p .in-range; enters = entered; not-root = else2 .if2 .left })
 
 collect-source-same-length-2 : (t : ℕ) → collect-source-lts.Need-same-length-2 (collect-source-calls t) (collect-source-at t) collect-source.Post
 collect-source-same-length-2 t c =
     let after-collect-input : collect-source-lts.After-collect-input (collect-source-calls t) (collect-source-at t) collect-source.Post = search in
-    after-collect-input .collect-input .kept .1 .1 .1 .1 .1 .1 .1 .1 .0
+    after-collect-input .collect-input .kept .1 .1 .1 .1 .1 .1 .1 .0
 
 collect-source-returns-3 : (t : ℕ) → collect-source-lts.Need-returns-3 (collect-source-calls t) (collect-source-at t) collect-source.Post
 unfolding sourceIn isOutput
@@ -214,12 +219,6 @@ collect-source-returns-3 t c =
     let after-collect-input : collect-source-lts.After-collect-input (collect-source-calls t) (collect-source-at t) collect-source.Post = search in
     let then1 : collect-source-lts.Then1 (collect-source-calls t) (collect-source-at t) collect-source.Post = search in
     rw (lt-ltb _ _ (then1 .if1 .taken)) (after-collect-input .collect-input .ensures)
-
-collect-source-is-atomic-requires : (t : ℕ) → collect-source-lts.Need-is-atomic-requires (collect-source-calls t) (collect-source-at t) collect-source.Post
-collect-source-is-atomic-requires t c κs = search needs
-
-collect-source-put-output-requires : (t : ℕ) → collect-source-lts.Need-put-output-requires (collect-source-calls t) (collect-source-at t) collect-source.Post
-collect-source-put-output-requires t c κs = search needs
 
 collect-source-same-length-3 : (t : ℕ) → collect-source-lts.Need-same-length-3 (collect-source-calls t) (collect-source-at t) collect-source.Post
 collect-source-same-length-3 t c =
@@ -235,10 +234,7 @@ collect-source-returns-4 t c =
     let after-is-atomic : collect-source-lts.After-is-atomic (collect-source-calls t) (collect-source-at t) collect-source.Post = search in
     let else1 : collect-source-lts.Else1 (collect-source-calls t) (collect-source-at t) collect-source.Post = search in
     let a = start .args in
-    rw (le-ltb _ _ (else1 .if1 .left), sym (after-is-atomic .is-atomic .ensures) ∙ then4 .if4 .taken, ← sent-by (phasesIn (now (a .phases))) (now (a .marks)) (a .y)) (after-put-output .put-output .ensures)
-
-collect-source-is-open-requires-2 : (t : ℕ) → collect-source-lts.Need-is-open-requires-2 (collect-source-calls t) (collect-source-at t) collect-source.Post
-collect-source-is-open-requires-2 t c κs = search needs
+    rw (le-ltb _ _ (else1 .if1 .left), sym (after-is-atomic .is-atomic .ensures) ∙ then4 .if4 .taken) (after-put-output .put-output .ensures)
 
 collect-source-returns-5 : (t : ℕ) → collect-source-lts.Need-returns-5 (collect-source-calls t) (collect-source-at t) collect-source.Post
 unfolding sourceIn isOutput childOut puts
@@ -248,19 +244,20 @@ collect-source-returns-5 t c =
     let after-is-atomic : collect-source-lts.After-is-atomic (collect-source-calls t) (collect-source-at t) collect-source.Post = search in
     let else1 : collect-source-lts.Else1 (collect-source-calls t) (collect-source-at t) collect-source.Post = search in
     let a = start .args in
-    rw (le-ltb _ _ (else1 .if1 .left), sym (after-is-atomic .is-atomic .ensures) ∙ else4 .if4 .left, coupled-shut (phasesIn (now (a .phases))) (now (a .tables)) (now (a .marks)) (now (a .reached)) 8 (a .y) (sym (c .before .is-open2 .ensures) ∙ not-true _ (c .if5 .taken)))
+    let shut = coupled-shut (now (a .phases)) (now (a .tables)) (now (a .flags)) 8 (a .source) (sym (c .before .is-open2 .ensures) ∙ not-true _ (c .if5 .taken)) in
+    rw (le-ltb _ _ (else1 .if1 .left), sym (after-is-atomic .is-atomic .ensures) ∙ else4 .if4 .left, shut)
 
 collect-source-collect-coupled-requires : (t : ℕ) → collect-source-lts.Need-collect-coupled-requires (collect-source-calls t) (collect-source-at t) collect-source.Post
 collect-source-collect-coupled-requires t c κs =
     let start : collect-source-lts.Start (collect-source-calls t) (collect-source-at t) collect-source.Post = search in
     let after-is-open2 : collect-source-lts.After-is-open2 (collect-source-calls t) (collect-source-at t) collect-source.Post = search in
-    let given = start .pre .1 in
-    (given .0, given .1, sym (after-is-open2 .is-open2 .ensures) ∙ not-false _ (c .before .if5 .left))
+    let p = start .pre .1 in
+    record { below = p .below; in-range = p .in-range; enters = sym (after-is-open2 .is-open2 .ensures) ∙ not-false _ (c .before .if5 .left) }
 
 collect-source-same-length-4 : (t : ℕ) → collect-source-lts.Need-same-length-4 (collect-source-calls t) (collect-source-at t) collect-source.Post
 collect-source-same-length-4 t c =
     let after-collect-coupled : collect-source-lts.After-collect-coupled (collect-source-calls t) (collect-source-at t) collect-source.Post = search in
-    after-collect-coupled .collect-coupled .kept .1 .1 .1 .1 .1 .1 .1 .0
+    after-collect-coupled .collect-coupled .kept .1 .1 .1 .1 .1 .1 .0
 
 collect-source-returns-6 : (t : ℕ) → collect-source-lts.Need-returns-6 (collect-source-calls t) (collect-source-at t) collect-source.Post
 unfolding sourceIn isOutput childOut
@@ -273,65 +270,12 @@ collect-source-returns-6 t c =
 
 pub +collect-input+collect-source-spec : {M : Type 1} → statement M
 +collect-input+collect-source-spec =
-    close μ-collect-input μ-collect-source (λ t. collect-input-lts.spec (
-      first-link-reads.Asked,
-      first-link-reads.Learnt,
-      source-of-reads.Asked,
-      source-of-reads.Learnt,
-      collect-source-below t,
-      collect-source.Post,
-      next-link-reads.Asked,
-      next-link-reads.Learnt,
-    )
-    (collect-input-at t)
-    collect-input.Post
-    collect-input-Inv-loop
-    collect-input-μ-loop
-    (collect-input-returns t)
-    (collect-input-first-link-requires t)
-    (collect-input-loop-holds t)
-    (collect-input-source-of-requires t)
-    (collect-input-sub-collect-source t)
-    (collect-input-collect-source-requires t)
-    (collect-input-next-link-requires t)
-    (collect-input-sub-left t)
-    (collect-input-loop-less t)
-    (collect-input-loop-again t)
-    (collect-input-same-length t)
-    (collect-input-returns-2 t))
-    λ t. collect-source-lts.spec (
-      port-of-reads.Asked,
-      port-of-reads.Learnt,
-      put-given-reads.Asked,
-      put-given-reads.Learnt,
-      is-open-reads.Asked,
-      is-open-reads.Learnt,
-      collect-input-below t,
-      collect-input.Post,
-      is-atomic-reads.Asked,
-      is-atomic-reads.Learnt,
-      put-output-reads.Asked,
-      put-output-reads.Learnt,
-      collect-coupled-reads.Asked,
-      collect-coupled-reads.Learnt,
-    )
-    (collect-source-at t)
-    collect-source.Post
-    (collect-source-port-of-requires t)
-    (collect-source-put-given-requires t)
-    (collect-source-same-length t)
-    (collect-source-returns t)
-    (collect-source-is-open-requires t)
-    (collect-source-returns-2 t)
-    (collect-source-collect-input-requires t)
-    (collect-source-same-length-2 t)
-    (collect-source-returns-3 t)
-    (collect-source-is-atomic-requires t)
-    (collect-source-put-output-requires t)
-    (collect-source-same-length-3 t)
-    (collect-source-returns-4 t)
-    (collect-source-is-open-requires-2 t)
-    (collect-source-returns-5 t)
-    (collect-source-collect-coupled-requires t)
-    (collect-source-same-length-4 t)
-    (collect-source-returns-6 t)
+    close μ-collect-input μ-collect-source (λ t. collect-input-lts.spec (collect-input-calls t) (collect-input-at t) collect-input.Post
+    collect-input-Inv-loop collect-input-μ-loop (collect-input-returns t) (λ c κs. search needs) (collect-input-loop-holds t)
+    (collect-input-source-of-requires t) (λ c. search needs) (collect-input-collect-source-requires t) (collect-input-next-link-requires t)
+    (collect-input-sub-left t) (collect-input-loop-less t) (collect-input-loop-again t) (collect-input-same-length t) (collect-input-returns-2 t))
+    λ t. collect-source-lts.spec (collect-source-calls t) (collect-source-at t) collect-source.Post (λ c κs. search needs) (λ c κs. search needs)
+    (collect-source-same-length t) (collect-source-returns t) (λ c κs. search needs) (collect-source-returns-2 t)
+    (collect-source-collect-input-requires t) (collect-source-same-length-2 t) (collect-source-returns-3 t) (λ c κs. search needs)
+    (λ c κs. search needs) (collect-source-same-length-3 t) (collect-source-returns-4 t) (λ c κs. search needs) (collect-source-returns-5 t)
+    (collect-source-collect-coupled-requires t) (collect-source-same-length-4 t) (collect-source-returns-6 t)
