@@ -1,13 +1,14 @@
 -- What the buffers hold after a bag was pulled and after it was sorted; one atomic more. Assumes nothing.
-use mathlib.Core.Path.{_≡_, sym, ap, _∙_, subst}
+use mathlib.Core.Path.{_≡_, refl, sym, ap, ap₂, _∙_, subst}
 use mathlib.Core.List.{List, [], _∷_, _++_, map}
 use Prim.Native.Nat.{ℕ, suc, _+_, _-_, _/_, _≤_, _<_, min}
 use native.Mathlib.Omega.{arith}
 use lib.Dec.{leb, eqb}
 use lib.ListN.{length, take, drop, getD, set, replicate, length-map, length-take}
 use lib.Seq.{length-take-le, length-front, take-append-le}
-use mathlib.Core.Bool.{Bool, true, cond, _&&_, not}
-use Rattle.definition.specs.Lists.{isEmpty, sortBy}
+use mathlib.Core.Bool.{Bool, true, _&&_, not}
+use Rattle.definition.specs.Lists.{sortBy}
+use Rattle.definition.specs.Bytes.{Bytes}
 use Rattle.definition.specs.Limits.{maxComponents, maxAncestors, portCount}
 use Rattle.definition.specs.Model.{Bag, Phase, Rule, messageLe}
 use Rattle.definition.specs.Engine.{dueNumber}
@@ -19,38 +20,41 @@ use Rattle.sort.proofs.Merging.{front-sorted}
 use Rattle.step_simulator.specs.Simulator.{RootBag}
 use Rattle.law_routes.specs.Nodes.{inputNode, outputNode}
 use Rattle.law_base.specs.Keys.{messageOf}
-use Rattle.spec_step.specs.Put.{putPorts, keysOf}
+use Rattle.spec_step.specs.Put.{keysOf}
 use Rattle.definition.specs.Step.{Stepped}
 use Rattle.spec_step.specs.Tables.{numbersAt, countAt}
-use Rattle.spec_step.specs.TableStep.{isUp, dueAtPosition, raised, marks, reachedFrom, reached, pulledInto, pulledBelow, keysInto, rootKeys, rootRoom, changedBy, changedFrom, tableStep}
+use Rattle.spec_step.specs.TableStep.{isUp, dueAtPosition, raised, marks, reached, keysInto, rootKeys, rootRoom, changedBy, changedFrom, tableStep}
+use Rattle.spec_step.specs.Flags.{flagsSize, marksIn, reachedIn}
+use Rattle.step_collect.specs.Collected.{arriving, leaving, keysFor, rootKeysFor, bagPut, rootPut}
 use Rattle.step_collect.proofs.Laws.{unreached}
-use Rattle.spec_step.specs.Carried.{Carried, endMarked}
+use Rattle.step_marks.specs.Filled.{HasMarked, HasReached, allMarks, allReached}
+use Rattle.spec_step.specs.Carried.{Carried}
 use Rattle.law_step.proofs.Carried.{marked-carried, carried-put, changed-elsewhere}
 use Rattle.law_step.proofs.Putting.{bag-front}
 use Rattle.law_stores.proofs.Fronts.{Front}
 
-module _ (ps : List Phase) (t es fs : List ℕ) where
+module _ (phases : Bytes) (tables flags : List ℕ) where
   -- an atomic's bag in a buffer
-  pub into-held : (x : Bag) (c : ℕ) (b d : List ℕ) (k : ℕ) → (d, k) ≡ putPorts (λ q. pulledInto ps t es fs x maxAncestors (inputNode c q)) portCount 0 (b, 0)
-      → Front (length b) (d, k) (keysInto ps t es fs x c)
+  pub into-held : (given : Bytes) (c : ℕ) (b d : List ℕ) (k : ℕ) → (d, k) ≡ bagPut phases tables flags given c b
+      → Front (length b) (d, k) (keysFor phases tables flags given c)
   unfolding keysInto
-  into-held x c b d k e =
-      let f : ℕ → List ℕ = λ q. pulledInto ps t es fs x maxAncestors (inputNode c q) in
+  into-held given c b d k e =
+      let f : ℕ → List ℕ = λ q. arriving phases tables flags given maxAncestors (inputNode c q) in
       subst (λ (st : List ℕ × ℕ). Front (length b) st (keysOf f portCount 0)) (sym e) (bag-front f portCount 0 b)
 
   -- a component that nothing may reach has no bag
-  pub keys-unreached : (x : Bag) (c : ℕ) → (not (eqb c 0) && eqb (getD fs c 0) 0) ≡ true → length (keysInto ps t es fs x c) ≡ 0
-  keys-unreached x c h =
+  pub keys-unreached : (given : Bytes) (c : ℕ) → (not (eqb c 0) && eqb (getD (reachedIn flags) c 0) 0) ≡ true
+      → length (keysFor phases tables flags given c) ≡ 0
+  keys-unreached given c h =
       let b : List ℕ = 0 ∷ [] in
-      let f = into-held x c b b 0 (sym (unreached ps t es fs x maxAncestors c portCount 0 (b, 0) h (omega arith))) in
+      let f = into-held given c b b 0 (sym (unreached phases tables flags given maxAncestors c portCount 0 (b, 0) h (omega arith))) in
       omega (arith, f .position)
 
   -- the root's output bag in a buffer
-  pub root-held : (b d : List ℕ) (k : ℕ) → (d, k) ≡ putPorts (λ q. pulledBelow ps t es fs maxAncestors (outputNode 0 q)) portCount 0 (b, 0)
-      → Front (length b) (d, k) (rootKeys ps t es fs)
+  pub root-held : (b d : List ℕ) (k : ℕ) → (d, k) ≡ rootPut phases tables flags b → Front (length b) (d, k) (rootKeysFor phases tables flags)
   unfolding rootKeys
   root-held b d k e =
-      let f : ℕ → List ℕ = λ q. pulledBelow ps t es fs maxAncestors (outputNode 0 q) in
+      let f : ℕ → List ℕ = λ q. leaving phases tables flags maxAncestors (outputNode 0 q) in
       subst (λ (st : List ℕ × ℕ). Front (length b) st (keysOf f portCount 0)) (sym e) (bag-front f portCount 0 b)
 
 -- The keys in the first quarter of a buffer, sorted there: the rest of it, but for the end, stays.
@@ -99,27 +103,43 @@ pub carried-changed : (ps : List Phase) (t : List ℕ) (rs : List Rule) (now n :
 carried-changed ps t rs now n st st' ends i c due x l e h =
     carried-put ps t n st st' ends i l (λ j d. ap (λ s. dueAtPosition ps t s j) e ∙ changed-elsewhere ps t rs now st i c due x j d) h
 
--- ---- the whole step, where the marks and flags are those that the code filled in over zeros, by due moments that are carried
+-- ---- the whole step, where the flags were filled in over zeros, by due moments that are carried
 
-module _ (ps : List Phase) (t : List ℕ) (rs : List Rule) (n room now : ℕ) (x : Bag) (st : State) (ends es fs : List ℕ) (h : Carried ps t n st ends) (l : now < latest)
-    (e : es ≡ raised t (getD t countAt 0 - 1) (endMarked t now (st .phase) ends n 0 (replicate maxComponents 0)))
-    (f : fs ≡ reachedFrom t es (getD t countAt 0 - 1) 1 (set (replicate maxComponents 0) 0 (cond (isEmpty x) 0 1))) where
-  marks-are : marks ps t n now st ≡ es
+abbrev zeros : List ℕ
+zeros = replicate flagsSize 0
+
+no-marks : marksIn zeros ≡ replicate maxComponents 0
+unfolding marksIn
+no-marks = refl
+
+none-reached : reachedIn zeros ≡ replicate maxComponents 0
+unfolding reachedIn
+none-reached = refl
+
+module _ (ps : List Phase) (t : List ℕ) (rs : List Rule) (n room now : ℕ) (x : Bag) (st : State) (ends due flags : List ℕ)
+    (h : Carried ps t n st ends) (l : now < latest)
+    (e : HasMarked zeros due (allMarks t n now (st .phase) ends (marksIn zeros)))
+    (f : HasReached due flags (allReached t x (marksIn due) (reachedIn due))) where
+  marks-are : marks ps t n now st ≡ marksIn flags
   unfolding marks
   marks-are =
       sym
-      (e ∙ ap (raised t (getD t countAt 0 - 1)) (marked-carried ps t n st ends h now n 0 (replicate maxComponents 0) l (omega arith)))
+      (f .others ∙ e .marks ∙ ap (allMarks t n now (st .phase) ends) no-marks
+      ∙ ap (raised t (getD t countAt 0 - 1)) (marked-carried ps t n st ends h now n 0 (replicate maxComponents 0) l (omega arith)))
 
-  flags-are : reached t es x ≡ fs
+  flags-are : reached t (marksIn flags) x ≡ reachedIn flags
   unfolding reached
-  flags-are = sym f
+  flags-are = sym (f .reached ∙ ap₂ (allReached t x) (sym (f .others)) (e .others ∙ none-reached))
 
   build : List ℕ → List ℕ → Stepped State
   build es fs = record { out = map messageOf (take (rootRoom room) (rootKeys ps t es fs)); state = changedFrom ps t rs es fs room now x n 0 st }
 
-  pub step-is : tableStep ps t rs n room now x st ≡ record { out = map messageOf (take (rootRoom room) (rootKeys ps t es fs)); state = changedFrom ps t rs es fs room now x n 0 st }
+  pub step-is : tableStep ps t rs n room now x st ≡ record {
+    out = map messageOf (take (rootRoom room) (rootKeys ps t (marksIn flags) (reachedIn flags)));
+    state = changedFrom ps t rs (marksIn flags) (reachedIn flags) room now x n 0 st;
+  }
   unfolding tableStep build
-  step-is = ap (λ l. build l (reached t l x)) marks-are ∙ ap (build es) flags-are
+  step-is = ap (λ l. build l (reached t l x)) marks-are ∙ ap (build (marksIn flags)) flags-are
 
 -- what has room of a bag
 pub count-bag : (room : ℕ) (ks : List ℕ) → min room (length ks) ≡ length (map messageOf (take room ks))

@@ -1,6 +1,8 @@
 -- The step of the nest on the tables of a call, over the bytes of the phase and rule sections. Assumes nothing.
 use mathlib.Core.Path.{_≡_}
 use mathlib.Core.List.{List, map}
+use mathlib.Core.Bool.{Bool, _&&_, not}
+use lib.Dec.{eqb}
 use Prim.Native.Nat.{ℕ, _+_, _≤_, _<_, min}
 use lib.ListN.{length, take, getD, set}
 use Rattle.definition.specs.Lists.{sortBy}
@@ -18,7 +20,9 @@ use Rattle.model_records.specs.Values.{phasesIn, rulesIn}
 use Rattle.step_due.specs.Due.{CarriedIn}
 use Rattle.spec_step.specs.Ranges.{InRange}
 use Rattle.spec_step.specs.Tables.{numbersAt}
-use Rattle.spec_step.specs.TableStep.{rootRoom, isUp, keysInto, dueAtPosition}
+use Rattle.spec_step.specs.TableStep.{rootRoom, isUp, dueAtPosition}
+use Rattle.spec_step.specs.Flags.{marksIn, reachedIn}
+use Rattle.step_collect.specs.Collected.{keysFor}
 use Rattle.spec_step.specs.TableStep as T
 
 abbrev pub tableNext : Bytes → List ℕ → State → Time
@@ -33,11 +37,15 @@ tableSim phases rules tables n room = record { next = tableNext phases tables; s
 
 -- ---- one atomic
 
--- The atomic at position i after its transition, with the marks es and flags fs, where its bag has room for so many messages.
-abbrev pub changedOne : Bytes → Bytes → List ℕ → List ℕ → List ℕ → ℕ → ℕ → Bytes → State → ℕ → State
-changedOne phases rules tables es fs room now given st i =
+-- Component c is not due, and nothing may reach it. What is given reaches the root whatever its flag.
+abbrev pub isStill : List ℕ → ℕ → Bool
+isStill flags c = eqb (getD (marksIn flags) c 0) 0 && (not (eqb c 0) && eqb (getD (reachedIn flags) c 0) 0)
+
+-- The atomic at position i after its transition, by the flags of the step, where its bag has room for so many messages.
+abbrev pub changedOne : Bytes → Bytes → List ℕ → List ℕ → ℕ → ℕ → Bytes → State → ℕ → State
+changedOne phases rules tables flags room now given st i =
     let c = getD tables (numbersAt + i) 0 in
-    T.changedBy (phasesIn phases) tables (rulesIn rules) now st i c (isUp es c) (map messageOf (take room (keysInto (phasesIn phases) tables es fs (toBag given) c)))
+    T.changedBy (phasesIn phases) tables (rulesIn rules) now st i c (isUp (marksIn flags) c) (map messageOf (take room (keysFor phases tables flags given c)))
 
 -- A position whose due moment is carried.
 pub record CanChange (phases : Bytes) (tables w : List ℕ) (i : ℕ) : Type 0 where
@@ -52,8 +60,9 @@ pub record OneChanged (phases : Bytes) (tables w₀ w : List ℕ) (i : ℕ) (aft
 -- ---- all atomics
 
 -- n atomics from position i on.
-abbrev pub changedAll : Bytes → Bytes → List ℕ → List ℕ → List ℕ → ℕ → ℕ → Bytes → ℕ → ℕ → State → State
-changedAll phases rules tables es fs room now given n i st = T.changedFrom (phasesIn phases) tables (rulesIn rules) es fs room now (toBag given) n i st
+abbrev pub changedAll : Bytes → Bytes → List ℕ → List ℕ → ℕ → ℕ → Bytes → ℕ → ℕ → State → State
+changedAll phases rules tables flags room now given n i st =
+    T.changedFrom (phasesIn phases) tables (rulesIn rules) (marksIn flags) (reachedIn flags) room now (toBag given) n i st
 
 pub record Changeable (phases : Bytes) (tables : List ℕ) (n : ℕ) (w : List ℕ) : Type 0 where
   pub few : n ≤ maxComponents

@@ -1,35 +1,34 @@
-// One step of the whole nest at a moment: marks and flags are read first, then each atomic's bag is pulled and the atomic changes, and the
+// One step of the whole nest at a moment: its flags are read first, then each atomic's bag is pulled and the atomic changes, and the
 // root's output bag is pulled and sorted. The buffer for the bags is lent from the call.
 ghost use mathlib.Core.Path.{_≡_};
-ghost use mathlib.Core.Bool.{_&&_, not};
-ghost use lib.Dec.{eqb};
 ghost use Prim.Native.Nat.{_<_};
-ghost use lib.ListN.{getD, length};
+ghost use lib.ListN.{length};
 ghost use Rattle.definition.specs.Limits.{maxComponents};
 ghost use Rattle.definition.specs.Engine.{toBag};
-ghost use Rattle.model_records.specs.Values.{phasesIn};
 ghost use Rattle.run_state.specs.Held.{heldIn};
-ghost use Rattle.spec_step.specs.TableStep.{rootKeys};
 ghost use Rattle.spec_step.specs.Ranges.{InRange};
-ghost use Rattle.step_simulator.specs.Simulator.{tableStep, changedOne, changedAll, CanChange, OneChanged, Changeable, AllChanged, RootBag, CanStep, HasStepped};
+ghost use Rattle.step_collect.specs.Collected.{rootKeysFor};
+ghost use Rattle.step_simulator.specs.Simulator.{tableStep, isStill, changedOne, changedAll};
+ghost use Rattle.step_simulator.specs.Simulator.{CanChange, OneChanged, Changeable, AllChanged, RootBag, CanStep, HasStepped};
 use clock::Moment;
-use limits::MAX_COMPONENTS;
 use little_endian::size16;
 use run_state::STATE_SIZE;
 use step_collect::collect_bag;
 use step_collect::collect_root;
+use table_words::FLAGS_SIZE;
 use table_words::NUMBERS_AT;
 use table_words::TABLE_SIZE;
 use table_words::mark_at;
+use table_words::reach_at;
 use table_words::row_in;
 
 // Nothing of component c changes: it is not due, and nothing may reach it. What is given reaches the root whatever its flag.
-fn is_still(marks: &[u32; MAX_COMPONENTS], reached: &[u32; MAX_COMPONENTS], c: u16) -> bool
+fn is_still(flags: &[u32; FLAGS_SIZE], c: u16) -> bool
     requires { ⌜ c < maxComponents ⌝ }
-    ensures { λ r. ⌜ r ≡ (eqb (getD (now (marks .entry)) c 0) 0 && (not (eqb c 0) && eqb (getD (now (reached .entry)) c 0) 0)) ⌝ }
+    ensures { λ r. ⌜ r ≡ isStill (now (flags .entry)) c ⌝ }
 {
-    let at = size16(c);
-    (mark_at(marks, at) == 0) & ((c != 0) & (mark_at(reached, at) == 0))
+    let place = size16(c);
+    (mark_at(flags, place) == 0) & ((c != 0) & (reach_at(flags, place) == 0))
 }
 
 // The atomic at position i: its bag is pulled into `work`, it changes, and its due moment is carried anew.
@@ -37,8 +36,7 @@ fn change_one(
     phases: &[u8],
     rules: &[u8],
     tables: &[u16; TABLE_SIZE],
-    marks: &[u32; MAX_COMPONENTS],
-    reached: &[u32; MAX_COMPONENTS],
+    flags: &[u32; FLAGS_SIZE],
     given: &[u8],
     state: &mut [u64; STATE_SIZE],
     at: Moment,
@@ -47,28 +45,27 @@ fn change_one(
 )
     requires { ⌜ CanChange (now phases) (now tables) (now state) i ⌝ }
     ensures { λ _. ⌜ OneChanged (now (phases .entry)) (now (tables .entry)) (now (state .entry)) (now (state .exit)) i
-        (changedOne (now (phases .entry)) (now (rules .entry)) (now (tables .entry)) (now (marks .entry)) (now (reached .entry))
+        (changedOne (now (phases .entry)) (now (rules .entry)) (now (tables .entry)) (now (flags .entry))
         (length (now (work .entry))) (at .0) (now (given .entry)) (heldIn (now (state .entry))) i) ⌝ }
 {
     let c = row_in(tables, NUMBERS_AT, i as u16);
-    if is_still(marks, reached, c) {
+    if is_still(flags, c) {
         return;
     }
-    let k = collect_bag(phases, tables, marks, reached, given, c, work);
-    let due = mark_at(marks, size16(c)) != 0;
+    let k = collect_bag(phases, tables, flags, given, c, work);
+    let due = mark_at(flags, size16(c)) != 0;
     let bag = &work[..k];
     let p = step_transition::transition(phases, rules, tables, state, at, i, c, due, bag);
     step_due::put_end(phases, tables, c, p, state, i);
 }
 
-// All n atomics, one after the other: marks and flags were read before, so the order does not matter.
+// All n atomics, one after the other: the flags were read before, so the order does not matter.
 fn change_all(
     phases: &[u8],
     rules: &[u8],
     tables: &[u16; TABLE_SIZE],
     n: u8,
-    marks: &[u32; MAX_COMPONENTS],
-    reached: &[u32; MAX_COMPONENTS],
+    flags: &[u32; FLAGS_SIZE],
     given: &[u8],
     state: &mut [u64; STATE_SIZE],
     at: Moment,
@@ -76,24 +73,13 @@ fn change_all(
 )
     requires { ⌜ Changeable (now phases) (now tables) n (now state) ⌝ }
     ensures { λ _. ⌜ AllChanged (now (phases .entry)) (now (tables .entry)) n (now (state .exit))
-        (changedAll (now (phases .entry)) (now (rules .entry)) (now (tables .entry)) (now (marks .entry)) (now (reached .entry))
+        (changedAll (now (phases .entry)) (now (rules .entry)) (now (tables .entry)) (now (flags .entry))
         (length (now (work .entry))) (at .0) (now (given .entry)) n 0 (heldIn (now (state .entry)))) ⌝ }
 {
     run_state::whole(state);
     let mut i: u8 = 0;
     while i < n {
-        change_one(
-            phases,
-            rules,
-            tables,
-            marks,
-            reached,
-            given,
-            state,
-            at,
-            i,
-            work,
-        );
+        change_one(phases, rules, tables, flags, given, state, at, i, work);
         i = i + 1;
     }
 }
@@ -103,16 +89,15 @@ fn change_all(
 fn root_bag(
     phases: &[u8],
     tables: &[u16; TABLE_SIZE],
-    marks: &[u32; MAX_COMPONENTS],
-    reached: &[u32; MAX_COMPONENTS],
+    flags: &[u32; FLAGS_SIZE],
     work: &mut [u32],
 ) -> usize
     requires { ⌜ InRange (now tables) ⌝ }
     ensures { λ r. ⌜ RootBag (length (now (work .entry))) (now (work .exit)) r
-        (rootKeys (phasesIn (now (phases .entry))) (now (tables .entry)) (now (marks .entry)) (now (reached .entry))) ⌝ }
+        (rootKeysFor (now (phases .entry)) (now (tables .entry)) (now (flags .entry))) ⌝ }
 {
     let quarter = work.len() / 4;
-    let count = collect_root(phases, tables, marks, reached, &mut work[..quarter]);
+    let count = collect_root(phases, tables, flags, &mut work[..quarter]);
     sort::sort(work, count);
     count
 }
@@ -134,21 +119,9 @@ pub fn step_once(
         (tableStep (now (phases .entry)) (now (rules .entry)) (now (tables .entry)) n (length (now (work .entry)))
         (at .0) (toBag (now (given .entry))) (heldIn (now (state .entry)))) ⌝ }
 {
-    let mut due = [0u32; MAX_COMPONENTS];
-    let mut flags = [0u32; MAX_COMPONENTS];
-    step_marks::mark(tables, n, state, at, &mut due);
-    step_marks::reach(tables, &due, given, &mut flags);
-    change_all(
-        phases,
-        rules,
-        tables,
-        n,
-        &due,
-        &flags,
-        given,
-        state,
-        at,
-        work,
-    );
-    root_bag(phases, tables, &due, &flags, work)
+    let mut flags = [0u32; FLAGS_SIZE];
+    step_marks::mark(tables, n, state, at, &mut flags);
+    step_marks::reach(tables, given, &mut flags);
+    change_all(phases, rules, tables, n, &flags, given, state, at, work);
+    root_bag(phases, tables, &flags, work)
 }

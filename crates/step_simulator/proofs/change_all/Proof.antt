@@ -7,6 +7,7 @@ use Rattle.step_simulator.specs.Simulator.{changedAll}
 use Rattle.definition.specs.Engine.{toBag}
 use Rattle.run_state.specs.Held.{heldIn, endsIn}
 use Rattle.run_state.proofs.Laws.{ends-size}
+use Rattle.spec_step.specs.Flags.{marksIn, reachedIn}
 use Rattle.step_due.specs.Due.{CarriedIn}
 use Rattle.model_records.specs.Values.{phasesIn, rulesIn}
 use denote.Ref.{now}
@@ -18,13 +19,13 @@ use Rattle.step_simulator.proofs.change_all.Statement.{statement}
 use Rattle.step_simulator.proofs.change_all.Tie as tie
 
 abbrev Inv-loop : tie.InvT-loop
-Inv-loop phases rules tables n marks reached given state₀ at work₀ i₀ state work i =
+Inv-loop phases rules tables n flags given state₀ at work₀ i₀ state work i =
     (i ≤ n) × (length work ≡ length work₀) × (length (endsIn state) ≡ maxComponents) × CarriedIn phases tables n state ×
-    (changedAll phases rules tables marks reached (length work₀) (at .0) given (n - i) i (heldIn state)
-    ≡ changedAll phases rules tables marks reached (length work₀) (at .0) given n 0 (heldIn state₀))
+    (changedAll phases rules tables flags (length work₀) (at .0) given (n - i) i (heldIn state)
+    ≡ changedAll phases rules tables flags (length work₀) (at .0) given n 0 (heldIn state₀))
 
 abbrev μ-loop : tie.MeasureT-loop
-μ-loop phases rules tables n marks reached given state₀ at work₀ i₀ state work i = n - i
+μ-loop phases rules tables n flags given state₀ at work₀ i₀ state work i = n - i
 
 loop-holds : tie.Need-loop-holds Inv-loop μ-loop
 loop-holds c =
@@ -49,10 +50,10 @@ loop-again c =
     let t = now (a .tables) in
     let rs = rulesIn (now (a .rules)) in
     let st = heldIn (l .state) in
-    let more = changed-more ps t rs (now (a .marks)) (now (a .reached)) (length (now (a .work))) (a .at .0) (toBag (now (a .given))) (a .n) (l .i) st (omega arith) in
+    let more = changed-more ps t rs (marksIn (now (a .flags))) (reachedIn (now (a .flags))) (length (now (a .work))) (a .at .0) (toBag (now (a .given))) (a .n) (l .i) st (omega arith) in
     let within : l .i < length (endsIn (l .state)) = omega (arith, l .inv .2, start .pre .few, in-loop .loop-test .taken) in
     let carried = carried-changed ps t rs (a .at .0) (a .n) st _ (endsIn (l .state)) (l .i) _ _ _ within (one .state) (l .inv .3) in
-    let same = m .kept .1 .1 .1 .1 .1 .1 .1 .1 .1 .0 ∙ l .inv .1 in
+    let same = m .kept .1 .1 .1 .1 .1 .1 .1 .1 .0 ∙ l .inv .1 in
     (omega arith, same, rw (one .ends) (simp length-set (l .inv .2)), rw (one .ends) carried, rw (one .state, l .inv .1) more ∙ l .inv .4)
 
 same-length : tie.Need-same-length Inv-loop μ-loop
@@ -65,7 +66,7 @@ returns c =
     let l = c .before .loop in
     let ps = phasesIn (now (a .phases)) in
     let rs = rulesIn (now (a .rules)) in
-    let none = changed-none ps (now (a .tables)) rs (now (a .marks)) (now (a .reached)) (length (now (a .work))) (a .at .0) (toBag (now (a .given))) in
+    let none = changed-none ps (now (a .tables)) rs (marksIn (now (a .flags))) (reachedIn (now (a .flags))) (length (now (a .work))) (a .at .0) (toBag (now (a .given))) in
     record { state = none (a .n) (l .i) (heldIn (l .state)) (omega arith) ∙ l .inv .4; carried = l .inv .3 }
 
 pub change-all-spec : {M : Type 1} → statement M

@@ -2,11 +2,13 @@
 use borrow.Author.Needs.{needs}
 use native.Mathlib.Omega.{arith}
 use Rattle.step_simulator.proofs.Laws.{into-held, keys-unreached}
-use Rattle.definition.specs.Engine.{toBag, dueNumber}
+use Rattle.definition.specs.Engine.{dueNumber}
 use Rattle.definition.specs.Limits.{maxComponents}
 use Rattle.model_records.specs.Values.{phasesIn, rulesIn}
 use Rattle.spec_step.specs.Tables.{numbersAt}
-use Rattle.spec_step.specs.TableStep.{isUp, keysInto}
+use Rattle.spec_step.specs.TableStep.{isUp}
+use Rattle.spec_step.specs.Flags.{marksIn}
+use Rattle.step_collect.specs.Collected.{keysFor}
 use denote.Ref.{now}
 use lib.Seq.{length-take-le, set-getD}
 use mathlib.Core.Path.{_≡_, _∙_, sym, ap}
@@ -33,14 +35,14 @@ abbrev Pulled : tie.After-collect-bag → Type 0
 Pulled k =
     let start : tie.Start = search in let row : tie.After-row-in = search in
     let a = start .args in
-    Front (length (now (a .work))) (k .collect-bag .last .1 .1 .1 .1 .1 .1 .0, k .collect-bag .result)
-    (keysInto (phasesIn (now (a .phases))) (now (a .tables)) (now (a .marks)) (now (a .reached)) (toBag (now (a .given))) (row .row-in .result))
+    Front (length (now (a .work))) (k .collect-bag .last .1 .1 .1 .1 .1 .0, k .collect-bag .result)
+    (keysFor (now (a .phases)) (now (a .tables)) (now (a .flags)) (now (a .given)) (row .row-in .result))
 
 pulled : (k : tie.After-collect-bag) → Pulled k
 pulled k =
     let start : tie.Start = search in let row : tie.After-row-in = search in
     let a = start .args in
-    into-held (phasesIn (now (a .phases))) (now (a .tables)) (now (a .marks)) (now (a .reached)) (toBag (now (a .given))) (row .row-in .result) (now (a .work)) _ (k .collect-bag .result) (k .collect-bag .ensures)
+    into-held (now (a .phases)) (now (a .tables)) (now (a .flags)) (now (a .given)) (row .row-in .result) (now (a .work)) _ (k .collect-bag .result) (k .collect-bag .ensures)
 
 is-still-requires : tie.Need-is-still-requires
 is-still-requires c κs =
@@ -52,24 +54,24 @@ unfolding isUp
 returns c =
     let start : tie.Start = search in let after-row-in : tie.After-row-in = search in
     let a = start .args in
-    let ps = phasesIn (now (a .phases)) in
     let t = now (a .tables) in
-    let es = now (a .marks) in
+    let flags = now (a .flags) in
     let n = getD t (numbersAt + a .i) 0 in
+    let mark = eqb (getD (marksIn flags) n 0) 0 in
     let h = rw (after-row-in .row-in .ensures) at (sym (c .before .is-still .ensures) ∙ c .if1 .taken) in
-    let keys = keysInto ps t es (now (a .reached)) (toBag (now (a .given))) n in
-    let unreached = keys-unreached ps t es (now (a .reached)) (toBag (now (a .given))) n (and-right (eqb (getD es n 0) 0) _ h) in
+    let keys = keysFor (now (a .phases)) t flags (now (a .given)) n in
+    let unreached = keys-unreached (now (a .phases)) t flags (now (a .given)) n (and-right mark _ h) in
     let none : length (take (length (now (a .work))) keys) ≡ 0 = omega (arith, length-take (length (now (a .work))) keys, unreached) in
-    let still = still-case ps t (rulesIn (now (a .rules))) (a .at .0) (heldIn (now (a .state))) (a .i) n (take (length (now (a .work))) keys) none in
+    let still = still-case (phasesIn (now (a .phases))) t (rulesIn (now (a .rules))) (a .at .0) (heldIn (now (a .state))) (a .i) n (take (length (now (a .work))) keys) none in
     record {
-      state = rw (and-left (eqb (getD es n 0) 0) _ h) still;
+      state = rw (and-left mark _ h) still;
       ends = sym (set-getD (endsIn (now (a .state))) (a .i) 0) ∙ ap (set (endsIn (now (a .state))) (a .i)) (start .pre .carried);
     }
 
 collect-bag-requires : tie.Need-collect-bag-requires
 collect-bag-requires c κs =
     let start : tie.Start = search in let after-row-in : tie.After-row-in = search in
-    (numbered after-row-in, start .pre .in-range)
+    record { below = numbered after-row-in; in-range = start .pre .in-range }
 
 mark-at-requires : tie.Need-mark-at-requires
 mark-at-requires c κs =

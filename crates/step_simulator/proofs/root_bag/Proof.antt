@@ -5,9 +5,9 @@ use mathlib.Core.Path.{_∙_, sym}
 use denote.Ref.{now}
 use lib.ListN.{length, take}
 use lib.Seq.{length-take-le}
-use Rattle.model_records.specs.Values.{phasesIn}
 use Rattle.law_stores.proofs.Fronts.{Front}
-use Rattle.spec_step.specs.TableStep.{rootKeys, rootRoom}
+use Rattle.spec_step.specs.TableStep.{rootRoom}
+use Rattle.step_collect.specs.Collected.{rootKeysFor}
 use Rattle.step_simulator.proofs.Laws.{root-held, sort-fits, root-sorted, same-size}
 use Rattle.step_simulator.proofs.root_bag.Statement.{statement}
 use Rattle.step_simulator.proofs.root_bag.Tie as tie
@@ -17,14 +17,14 @@ abbrev Pulled : tie.After-collect-root → Type 0
 Pulled k =
     let start : tie.Start = search in
     let a = start .args in
-    Front (length (take (rootRoom (length (now (a .work)))) (now (a .work)))) (k .collect-root .last .1 .1 .1 .1 .0, k .collect-root .result)
-    (rootKeys (phasesIn (now (a .phases))) (now (a .tables)) (now (a .marks)) (now (a .reached)))
+    Front (length (take (rootRoom (length (now (a .work)))) (now (a .work)))) (k .collect-root .last .1 .1 .1 .0, k .collect-root .result)
+    (rootKeysFor (now (a .phases)) (now (a .tables)) (now (a .flags)))
 
 pulled : (k : tie.After-collect-root) → Pulled k
 pulled k =
     let start : tie.Start = search in
     let a = start .args in
-    root-held (phasesIn (now (a .phases))) (now (a .tables)) (now (a .marks)) (now (a .reached)) _ _ (k .collect-root .result) (k .collect-root .ensures)
+    root-held (now (a .phases)) (now (a .tables)) (now (a .flags)) _ _ (k .collect-root .result) (k .collect-root .ensures)
 
 aggregate : tie.Need-slice-aggregate-collect-root
 aggregate c =

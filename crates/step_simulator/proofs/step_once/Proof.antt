@@ -4,7 +4,8 @@ use Rattle.step_simulator.proofs.Laws.{step-is, count-bag}
 use Rattle.definition.specs.Engine.{toBag}
 use Rattle.run_state.specs.Held.{heldIn, endsIn}
 use Rattle.model_records.specs.Values.{phasesIn, rulesIn}
-use Rattle.spec_step.specs.TableStep.{rootKeys, rootRoom}
+use Rattle.spec_step.specs.TableStep.{rootRoom}
+use Rattle.step_collect.specs.Collected.{rootKeysFor}
 use denote.Ref.{now}
 use lib.ListN.{length}
 use mathlib.Core.Path.{_∙_}
@@ -15,7 +16,7 @@ mark-requires : tie.Need-mark-requires
 mark-requires c κs =
     let start : tie.Start = search in
     let q = start .pre .changeable in
-    (q .few, q .in-range)
+    record { few = q .few; in-range = q .in-range }
 
 reach-requires : tie.Need-reach-requires
 reach-requires c κs =
@@ -40,17 +41,17 @@ returns c =
     let q = start .pre in
     let ps = phasesIn (now (a .phases)) in
     let t = now (a .tables) in
-    let es = after-mark .mark .last .1 .1 .1 .1 .0 in
-    let fs = after-reach .reach .last .1 .1 .1 .0 in
+    let due = after-mark .mark .last .1 .1 .1 .1 .0 in
+    let flags = after-reach .reach .last .1 .1 .0 in
     let s = after-change .change-all .ensures in
-    let b = rw (after-change .change-all .kept .1 .1 .1 .1 .1 .1 .1 .1 .1 .0) at (after-root .root-bag .ensures) in
+    let b = rw (after-change .change-all .kept .1 .1 .1 .1 .1 .1 .1 .1 .0) at (after-root .root-bag .ensures) in
     let w = now (a .state) in
-    rw (step-is ps t (rulesIn (now (a .rules))) (a .n) (length (now (a .work))) (a .at .0) (toBag (now (a .given))) (heldIn w) (endsIn w) es fs
+    rw (step-is ps t (rulesIn (now (a .rules))) (a .n) (length (now (a .work))) (a .at .0) (toBag (now (a .given))) (heldIn w) (endsIn w) due flags
     (q .changeable .carried) (q .moment) (after-mark .mark .ensures) (after-reach .reach .ensures))
     (record {
       state = s .state;
       carried = s .carried;
-      size = b .size ∙ count-bag (rootRoom (length (now (a .work)))) (rootKeys ps t es fs);
+      size = b .size ∙ count-bag (rootRoom (length (now (a .work)))) (rootKeysFor (now (a .phases)) t flags);
       bag = b .bag;
     })
 
