@@ -15,8 +15,9 @@ ghost use Rattle.accept_routes.specs.Routed.{Routed, LinkedBy};
 use accept_ways::capped;
 use limits::MAX_NODES;
 use limits::MAX_ROUTES;
-use limits::PORT_COUNT;
+use limits::OUTPUTS_AT;
 use limits::PORT_NODES;
+use limits::TOO_MANY_ROUTES;
 use model_file::Checked;
 use table_words::LINKS;
 use table_words::TABLE_SIZE;
@@ -38,7 +39,7 @@ fn own_ways(components: &[u8], ways: &[u16; MAX_NODES], c: usize) -> u16
     ensures { λ r. ⌜ r ≡ min waysCap (cond (isAtomic (componentsIn (now (components .entry))) c) (four (now (ways .entry)) (portNodes * c + portCount)) 0) ⌝ }
 {
     if model_records::is_atomic(components, c) {
-        four_ways(ways, PORT_NODES * c + little_endian::size(PORT_COUNT))
+        four_ways(ways, PORT_NODES * c + OUTPUTS_AT)
     } else {
         0
     }
@@ -90,7 +91,7 @@ pub fn check_routes(
     let routes = route_total(components, &ways);
     if MAX_ROUTES < routes {
         return Counted {
-            checked: Checked::Refused(9),
+            checked: Checked::Refused(TOO_MANY_ROUTES),
             routes: 0,
         };
     }

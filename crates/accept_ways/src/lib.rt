@@ -12,10 +12,9 @@ ghost use Rattle.table_words.specs.Writes.{column};
 ghost use Rattle.table_couplings.specs.Links.{sourceIn, OnNodes, Joined};
 ghost use Rattle.accept_ways.specs.Words.{linkTaken, linkDown, linkUp, waysDown, waysUp};
 use limits::MAX_NODES;
-use limits::PORT_COUNT;
+use limits::OUTPUTS_AT;
 use limits::PORT_NODES;
 use limits::WAYS_CAP;
-use little_endian::size;
 use little_endian::size16;
 use table_words::LINKS;
 use table_words::SOURCE_AT;
@@ -56,7 +55,7 @@ fn start_ways(components: &[u8], ways: &mut [u16; MAX_NODES])
     while c < n {
         let x = PORT_NODES * c;
         put_four(ways, x, one_if(model_records::is_atomic(components, c)));
-        put_four(ways, x + 4, one_if(c == 0));
+        put_four(ways, x + OUTPUTS_AT, one_if(c == 0));
         c = c + 1;
     }
 }
@@ -75,7 +74,7 @@ fn take_link(x: usize, y: usize, ways: &mut [u16; MAX_NODES])
 fn is_output(x: usize) -> bool
     ensures { λ r. ⌜ r ≡ isOutput x ⌝ }
 {
-    !(x % PORT_NODES < size(PORT_COUNT))
+    !(x % PORT_NODES < OUTPUTS_AT)
 }
 
 // Link j, where it leads down: it is left out where it begins at an output.

@@ -12,6 +12,8 @@ ghost use Rattle.spec_step.specs.TablesOf.{TablesOf};
 ghost use Rattle.call_read.specs.Answers.{readOf};
 use accept_routes::Counted;
 use clock::Moment;
+use limits::BAD_POSITION;
+use limits::RUN_DOES_NOT_FIT;
 use model_file::Checked;
 use model_file::Counts;
 use run_state::STATE_SIZE;
@@ -75,11 +77,11 @@ fn read_accepted(
 {
     let components = model_file::components_of(file, n);
     if !run_saved::fits(components, model_file::phases_of(file, n), run) {
-        return refused(10);
+        return refused(RUN_DOES_NOT_FIT);
     }
     let count = model_records::atomic_count(components);
     if count as u64 <= position {
-        return refused(16);
+        return refused(BAD_POSITION);
     }
     let entry = run_saved::entry_at(run, position as usize);
     let last: Moment = entry.last;

@@ -11,6 +11,7 @@ ghost use Rattle.model_records.specs.Values.{componentsIn};
 ghost use Rattle.run_saved.specs.Runs.{bare};
 ghost use Rattle.call_start.specs.Answers.{wroteOf};
 use clock::Moment;
+use limits::BUFFER_TOO_SHORT;
 use model_file::Checked;
 use run_saved::run_size;
 use run_state::STATE_SIZE;
@@ -36,7 +37,7 @@ fn start_run(components: &[u8], run: &mut [u8]) -> Written
     let size = run_size(n);
     if run.len() < size {
         return Written {
-            number: 15,
+            number: BUFFER_TOO_SHORT,
             bytes: 0,
         };
     }

@@ -1,5 +1,5 @@
-// The limits and widths that the code names: those of the papers, with the numbers of the definitions' `Limits`, and the sizes of the
-// tables by port, which follow from them.
+// The limits, widths and numbers that the code names, once each: those of the papers, with the numbers of the definitions' `Limits`; the
+// sizes of the tables by port, which follow from them; and the numbers of refusals.
 
 // ---- the model file
 pub const MAX_COMPONENTS: usize = 64;
@@ -38,16 +38,77 @@ pub const COUPLING_SIZE: usize = 4;
 // ---- tables by port: a component has four inputs and four outputs, its input port p is node 8 c + p, its output port p node 8 c + 4 + p
 pub const PORT_NODES: usize = 8;
 
-pub const MAX_NODES: usize = 512;
+pub const OUTPUTS_AT: usize = 4;
+
+pub const MAX_NODES: usize = PORT_NODES * MAX_COMPONENTS;
 
 // Ways are counted up to one more than the routes that a model may have.
-pub const WAYS_CAP: u16 = 1025;
+pub const WAYS_CAP: u16 = MAX_ROUTES + 1;
+
+// ---- a saved run: open moment (8) and atomic count (2), then for each atomic its phase (1) and last moment (8)
+pub const RUN_COUNT_AT: usize = 8;
+
+pub const RUN_HEAD_SIZE: usize = 10;
+
+pub const RUN_ENTRY_SIZE: usize = 9;
 
 // ---- calls: a message has port (1) and value (2), a trace record begins with moment (8), step (2) and message count (2)
 pub const MESSAGE_SIZE: usize = 3;
+
+pub const RECORD_STEP_AT: usize = 8;
+
+pub const RECORD_COUNT_AT: usize = 10;
 
 pub const RECORD_HEAD: usize = 12;
 
 pub const MAX_GIVEN: usize = 16;
 
+pub const MAX_STEPS: u64 = 1024;
+
+pub const MAX_ROOT_BAG: usize = 4096;
+
 pub const MAX_MOMENT: u64 = 1000000000000;
+
+// The latest open moment: one past the latest moment to which a run is advanced.
+pub const LATEST_OPENING: u64 = MAX_MOMENT + 1;
+
+pub const NEVER_MOMENT: u64 = 18446744073709551615;
+
+// A route carries at most so many messages into an atomic, and so many to the root.
+pub const MESSAGES_IN: usize = 16;
+
+pub const MESSAGES_OUT: usize = 4;
+
+// ---- the numbers of refusals, by the names of the C header. Each has the width in which the code first answers it: a record's number one
+// byte, a file's two, a call's eight.
+pub const MODEL_CUT: u16 = 1;
+
+pub const MODEL_LEFT_OVER: u16 = 2;
+
+pub const COUNT_LIMIT: u16 = 3;
+
+pub const BAD_COMPONENT: u8 = 4;
+
+pub const PHASE_SUM: u16 = 5;
+
+pub const BAD_PHASE: u8 = 6;
+
+pub const BAD_RULE: u8 = 7;
+
+pub const BAD_COUPLING: u8 = 8;
+
+pub const TOO_MANY_ROUTES: u16 = 9;
+
+pub const RUN_DOES_NOT_FIT: u64 = 10;
+
+pub const BAD_MOMENT: u64 = 11;
+
+pub const BAD_BAG: u64 = 12;
+
+pub const STILL_DUE: u64 = 13;
+
+pub const ROOT_BAG_LIMIT: u64 = 14;
+
+pub const BUFFER_TOO_SHORT: u64 = 15;
+
+pub const BAD_POSITION: u64 = 16;

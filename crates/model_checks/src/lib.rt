@@ -14,6 +14,10 @@ ghost use Rattle.model_checks.specs.Known.{Room, fitsBehind, Next, Keepa
 
 mod phase_slots;
 
+use limits::BAD_COMPONENT;
+use limits::BAD_COUPLING;
+use limits::BAD_PHASE;
+use limits::BAD_RULE;
 use limits::MAX_ADVANCE;
 use limits::MAX_ANCESTORS;
 use limits::MAX_COMPONENTS;
@@ -146,7 +150,7 @@ pub fn read_component(
     if component_fits(component, i, phase_counts, depths) {
         ComponentRead::Is(component)
     } else {
-        ComponentRead::Refused(4)
+        ComponentRead::Refused(BAD_COMPONENT)
     }
 }
 
@@ -189,10 +193,10 @@ pub fn read_phase(phases: &[u8], i: usize, bound: u8) -> PhaseRead
 {
     let phase = model_records::phase_in(phases, i);
     if !phase_numbers(bound, phase) {
-        return PhaseRead::Refused(6);
+        return PhaseRead::Refused(BAD_PHASE);
     }
     if !slots_fit(phase) {
-        return PhaseRead::Refused(6);
+        return PhaseRead::Refused(BAD_PHASE);
     }
     PhaseRead::Is(phase)
 }
@@ -230,7 +234,7 @@ pub fn read_rule(
     if rule_fields(components, phase_counts, rule) {
         RuleRead::Is(rule)
     } else {
-        RuleRead::Refused(7)
+        RuleRead::Refused(BAD_RULE)
     }
 }
 
@@ -294,10 +298,10 @@ pub fn read_coupling(
 {
     let coupling = model_records::coupling_in(couplings, i);
     if !coupling_fields(components, parents, coupling) {
-        return CouplingRead::Refused(8);
+        return CouplingRead::Refused(BAD_COUPLING);
     }
     if coupling_key(coupling) < before {
-        return CouplingRead::Refused(8);
+        return CouplingRead::Refused(BAD_COUPLING);
     }
     CouplingRead::Is(coupling)
 }

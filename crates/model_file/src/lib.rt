@@ -6,6 +6,7 @@ ghost use Rattle.model_file.specs.Checked.{componentsPart, phasesPart, r
 use limits::COMPONENT_SIZE;
 use limits::COUPLING_SIZE;
 use limits::MAX_COMPONENTS;
+use limits::MODEL_LEFT_OVER;
 use limits::PHASE_SIZE;
 use limits::RULE_SIZE;
 use model_sections::SectionRead;
@@ -64,7 +65,7 @@ pub fn decode_model(file: &[u8]) -> Checked
     };
     let end = section_rest(after_rules, couplings, COUPLING_SIZE);
     if 0 < end.len() {
-        return Checked::Refused(2);
+        return Checked::Refused(MODEL_LEFT_OVER);
     }
     Checked::Accepted(Counts {
         components,

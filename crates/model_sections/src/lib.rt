@@ -14,13 +14,16 @@ ghost use Rattle.model_records.specs.Values.{componentsIn};
 ghost use Rattle.model_checks.specs.Known.{Counted, Placed};
 ghost use Rattle.model_sections.specs.Answers.{sectionRead, sectionNumber, Learnt};
 use limits::COMPONENT_SIZE;
+use limits::COUNT_LIMIT;
 use limits::COUNT_SIZE;
 use limits::COUPLING_SIZE;
 use limits::MAX_COMPONENTS;
 use limits::MAX_COUPLINGS;
 use limits::MAX_PHASES;
 use limits::MAX_RULES;
+use limits::MODEL_CUT;
 use limits::PHASE_SIZE;
+use limits::PHASE_SUM;
 use limits::RULE_SIZE;
 use little_endian::size16;
 use little_endian::u16_at;
@@ -82,14 +85,14 @@ fn head_number(rest_of_file: &[u8], size: usize, wrong: u16) -> u16
     ensures { λ r. ⌜ r ≡ numberOf (sectionCount size (λ _. wrong) (now («rest_of_file» .entry))) ⌝ }
 {
     if rest_of_file.len() < COUNT_SIZE {
-        return 1;
+        return MODEL_CUT;
     }
     if 0 < wrong {
         return wrong;
     }
     let end = COUNT_SIZE + length_of(u16_at(rest_of_file, 0), size);
     if rest_of_file.len() < end {
-        return 1;
+        return MODEL_CUT;
     }
     0
 }
@@ -100,7 +103,7 @@ fn component_count_refusal(count: usize) -> u16
     ensures { λ r. ⌜ r ≡ componentCountRefusal count ⌝ }
 {
     if (MAX_COMPONENTS < count) | (count == 0) {
-        3
+        COUNT_LIMIT
     } else {
         0
     }
@@ -110,10 +113,10 @@ fn phase_count_refusal(total: usize, count: usize) -> u16
     ensures { λ r. ⌜ r ≡ phaseCountRefusal total count ⌝ }
 {
     if MAX_PHASES < count {
-        return 3;
+        return COUNT_LIMIT;
     }
     if count != total {
-        return 5;
+        return PHASE_SUM;
     }
     0
 }
@@ -121,7 +124,7 @@ fn phase_count_refusal(total: usize, count: usize) -> u16
 fn limit_refusal(limit: usize, count: usize) -> u16
     ensures { λ r. ⌜ r ≡ limitRefusal limit count ⌝ }
 {
-    if limit < count { 3 } else { 0 }
+    if limit < count { COUNT_LIMIT } else { 0 }
 }
 
 // ---- the sections

@@ -16,25 +16,22 @@ ghost use Rattle.run_state.specs.Held.{heldIn, entriesOf};
 ghost use Rattle.run_saved.specs.Runs.{Loaded, bare, entryOf, entryAt, entriesFitIn, heldAt, entryRows, runIn, startEntries};
 use clock::Due;
 use clock::Moment;
+use limits::COUNT_SIZE;
+use limits::LATEST_OPENING;
+use limits::RUN_COUNT_AT;
+use limits::RUN_ENTRY_SIZE;
+use limits::RUN_HEAD_SIZE;
 use model_records::Component;
 use model_records::component_at;
 use model_records::component_count;
 use run_state::STATE_SIZE;
-
-// Open moment (8) and atomic count (2), then for each atomic its phase (1) and last moment (8).
-const HEAD_SIZE: usize = 10;
-
-const ENTRY_SIZE: usize = 9;
-
-// The latest open moment: one past the latest moment to which a run is advanced.
-const LATEST_OPENING: u64 = 1000000000001;
 
 // The bytes of a run of n atomics.
 pub fn run_size(n: usize) -> usize
     requires { ⌜ n ≤ maxComponents ⌝ }
     ensures { λ r. ⌜ r ≡ runLength n ⌝ }
 {
-    HEAD_SIZE + ENTRY_SIZE * n
+    RUN_HEAD_SIZE + RUN_ENTRY_SIZE * n
 }
 
 pub struct Entry {
@@ -54,7 +51,7 @@ pub fn entry_at(run: &[u8], i: usize) -> Entry
     requires { ⌜ i ≤ maxComponents ⌝ }
     ensures { λ r. ⌜ entryOf r ≡ entryAt (now (run .entry)) i ⌝ }
 {
-    let at = HEAD_SIZE + ENTRY_SIZE * i;
+    let at = RUN_HEAD_SIZE + RUN_ENTRY_SIZE * i;
     Entry {
         phase: little_endian::byte_at(run, at),
         last: Moment(little_endian::u64_at(run, at + 1)),
@@ -127,8 +124,8 @@ pub fn fits(components: &[u8], phases: &[u8], run: &[u8]) -> bool
 {
     let n = model_records::atomic_count(components);
     let opening = opening_of(run);
-    let long = HEAD_SIZE + ENTRY_SIZE * n <= run.len();
-    let counted = little_endian::size16(little_endian::u16_at(run, 8)) == n;
+    let long = RUN_HEAD_SIZE + RUN_ENTRY_SIZE * n <= run.len();
+    let counted = little_endian::size16(little_endian::u16_at(run, RUN_COUNT_AT)) == n;
     let in_time = opening.0 <= LATEST_OPENING;
     long & counted & in_time & entries_fit(components, phases, run)
 }
@@ -145,7 +142,7 @@ fn put_entry(run: &mut [u8], state: &[u64; STATE_SIZE], i: usize)
     requires { ⌜ (i < maxComponents) × (runLength (i + 1) ≤ length (now run)) ⌝ }
     ensures { λ _. ⌜ now (run .exit) ≡ sets (now (run .entry)) (runLength i) (entryBytes (heldAt (heldIn (now (state .entry))) i)) ⌝ }
 {
-    let at = HEAD_SIZE + ENTRY_SIZE * i;
+    let at = RUN_HEAD_SIZE + RUN_ENTRY_SIZE * i;
     let since = run_state::last_at(state, i);
     little_endian::put_number(run, at, 1, wide(run_state::phase_at(state, i)));
     little_endian::put_number(run, at + 1, 8, since.0);
@@ -168,7 +165,7 @@ pub fn store(run: &mut [u8], opening: Moment, n: usize, state: &[u64; STATE_SIZE
     ensures { λ _. ⌜ now (run .exit) ≡ stored (runBytes (runIn (opening .0) n (heldIn (now (state .entry))))) (now (run .entry)) ⌝ }
 {
     little_endian::put_number(run, 0, 8, opening.0);
-    little_endian::put_number(run, 8, 2, n as u64);
+    little_endian::put_number(run, RUN_COUNT_AT, COUNT_SIZE, n as u64);
     put_entries(run, n, state);
 }
 

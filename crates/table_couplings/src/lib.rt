@@ -9,6 +9,7 @@ ghost use Rattle.spec_step.specs.Tables.{portNodes, inputNode, outputNode, sour
 ghost use Rattle.table_words.specs.Writes.{column};
 ghost use Rattle.table_couplings.specs.Links.{sourceIn, linkEnd, Held, OnNodes, Joined, begun, sourceFlag, spread, spreadUp, spreadDown, byCoupling};
 use limits::MAX_NODES;
+use limits::OUTPUTS_AT;
 use limits::PORT_COUNT;
 use limits::PORT_NODES;
 use little_endian::size;
@@ -108,7 +109,7 @@ fn mark_sources(components: &[u8], t: &mut [u16; TABLE_SIZE])
         table_words::put_four(t, LIVE_AT + x, flag(c == 0));
         table_words::put_four(
             t,
-            LIVE_AT + (x + 4),
+            LIVE_AT + (x + OUTPUTS_AT),
             flag(model_records::is_atomic(components, c)),
         );
         c = c + 1;

@@ -6,7 +6,7 @@ use Rattle.accept_ways.proofs.is_output.Tie as tie
 
 returns : tie.Need-returns
 unfolding isOutput
-returns c = rw (c .size .ensures)
+returns c = search needs
 
 pub is-output-spec : {M : Type 1} → statement M
-is-output-spec = tie.close (tie.spec (λ c κs. search needs) returns)
+is-output-spec = tie.close (tie.spec returns)
