@@ -2,7 +2,6 @@
 // the last link to the first for the ways down, and one from the first to the last for the others.
 ghost use mathlib.Core.Path.{_≡_};
 ghost use Prim.Native.Nat.{_+_, _*_, _<_, _≤_, min};
-ghost use mathlib.Core.Bool.{cond};
 ghost use lib.ListN.{length, getD};
 ghost use Rattle.definition.specs.Limits.{maxComponents, maxCouplings};
 ghost use Rattle.model_records.specs.Values.{componentsIn, couplingsIn};
@@ -15,34 +14,24 @@ use limits::MAX_NODES;
 use limits::OUTPUTS_AT;
 use limits::PORT_NODES;
 use limits::WAYS_CAP;
-use little_endian::size16;
 use table_words::LINKS;
 use table_words::SOURCE_AT;
 use table_words::TABLE_SIZE;
 use table_words::put_four;
-
-fn wide(x: u16) -> u32
-    ensures { λ r. ⌜ r ≡ x ⌝ }
-{
-    x as u32
-}
+use widen::bool_to_u16;
+use widen::u16_to_u32;
+use widen::u16_to_usize;
 
 // A sum up to the cap.
 pub fn capped(a: u16, b: u16) -> u16
     ensures { λ r. ⌜ r ≡ min waysCap (a + b) ⌝ }
 {
-    let sum = wide(a) + wide(b);
-    if sum < wide(WAYS_CAP) {
+    let sum = u16_to_u32(a) + u16_to_u32(b);
+    if sum < u16_to_u32(WAYS_CAP) {
         sum as u16
     } else {
         WAYS_CAP
     }
-}
-
-fn one_if(b: bool) -> u16
-    ensures { λ r. ⌜ r ≡ cond b 1 0 ⌝ }
-{
-    if b { 1 } else { 0 }
 }
 
 // The ends alone, an atomic's inputs and the root's outputs, four ports at once.
@@ -54,8 +43,12 @@ fn start_ways(components: &[u8], ways: &mut [u16; MAX_NODES])
     let mut c: usize = 0;
     while c < n {
         let x = PORT_NODES * c;
-        put_four(ways, x, one_if(model_records::is_atomic(components, c)));
-        put_four(ways, x + OUTPUTS_AT, one_if(c == 0));
+        put_four(
+            ways,
+            x,
+            bool_to_u16(model_records::is_atomic(components, c)),
+        );
+        put_four(ways, x + OUTPUTS_AT, bool_to_u16(c == 0));
         c = c + 1;
     }
 }
@@ -87,11 +80,11 @@ fn take_down(
     requires { ⌜ (j ≤ maxCouplings) × (sourceIn (now tables) j < portNodes * maxComponents) × (getD (now targets) j 0 < portNodes * maxComponents) ⌝ }
     ensures { λ _. ⌜ now (ways .exit) ≡ linkDown (sourceIn (now (tables .entry)) j) (getD (now (targets .entry)) j 0) (now (ways .entry)) ⌝ }
 {
-    let x = size16(tables[SOURCE_AT + j]);
+    let x = u16_to_usize(tables[SOURCE_AT + j]);
     if is_output(x) {
         return;
     }
-    take_link(x, size16(targets[j]), ways);
+    take_link(x, u16_to_usize(targets[j]), ways);
 }
 
 // Link j, where it leads up or across: it is left out where it begins at an input.
@@ -104,9 +97,9 @@ fn take_up(
     requires { ⌜ (j ≤ maxCouplings) × (sourceIn (now tables) j < portNodes * maxComponents) × (getD (now targets) j 0 < portNodes * maxComponents) ⌝ }
     ensures { λ _. ⌜ now (ways .exit) ≡ linkUp (sourceIn (now (tables .entry)) j) (getD (now (targets .entry)) j 0) (now (ways .entry)) ⌝ }
 {
-    let x = size16(tables[SOURCE_AT + j]);
+    let x = u16_to_usize(tables[SOURCE_AT + j]);
     if is_output(x) {
-        take_link(x, size16(targets[j]), ways);
+        take_link(x, u16_to_usize(targets[j]), ways);
     }
 }
 

@@ -1,15 +1,10 @@
 // The call read, whole: the check of the model, the checks of run and position, and what stands at the position.
 ghost use mathlib.Core.Path.{_≡_};
-ghost use mathlib.Core.Bool.{true};
-ghost use lib.ListN.{length};
-ghost use Rattle.definition.specs.Bytes.{ok};
-ghost use Rattle.definition.specs.Model.{atomics};
-ghost use Rattle.definition.specs.Pinned.Decoder.{accepted};
-ghost use Rattle.definition.specs.SavedRun.{runOf, nextDue, runFits};
+ghost use Rattle.definition.specs.SavedRun.{runOf, nextDue};
 ghost use Rattle.definition.specs.Engine.{dueNumber, reading};
 ghost use Rattle.model_file.specs.Checked.{modelOf};
-ghost use Rattle.spec_step.specs.TablesOf.{TablesOf};
 ghost use Rattle.call_read.specs.Answers.{readOf};
+ghost use Rattle.call_read.specs.Opened.{ModelOpened, RunOpened};
 use accept_routes::Counted;
 use clock::Moment;
 use limits::BAD_POSITION;
@@ -27,18 +22,6 @@ pub struct Reading {
     pub next_due: u64,
 }
 
-fn wide(x: u8) -> u64
-    ensures { λ r. ⌜ r ≡ x ⌝ }
-{
-    x as u64
-}
-
-fn wide16(x: u16) -> u64
-    ensures { λ r. ⌜ r ≡ x ⌝ }
-{
-    x as u64
-}
-
 // A refused reading: zeros in every other number.
 fn refused(number: u64) -> Reading
     ensures { λ r. ⌜ readOf r ≡ record { number = number; phase = 0; last = 0; due = 0 } ⌝ }
@@ -51,16 +34,16 @@ fn refused(number: u64) -> Reading
     }
 }
 
-// The next due moment of the whole model as a number, for a run of `count` atomics that fits.
-fn whole_due(file: &[u8], n: Counts, tables: &[u16; TABLE_SIZE], run: &[u8], count: usize) -> u64
-    requires { ⌜ (ok (modelOf (now file) n) ≡ accepted (now file)) × TablesOf (modelOf (now file) n) (now tables) × (runFits (modelOf (now file) n) (now run) ≡ true)
-        × (count ≡ length (atomics (modelOf (now file) n .components))) ⌝ }
+// The next due moment of the whole model as a number, for a run that fits.
+fn whole_due(file: &[u8], n: Counts, tables: &[u16; TABLE_SIZE], run: &[u8]) -> u64
+    requires { ⌜ RunOpened (now file) n (now tables) (now run) ⌝ }
     ensures { λ r. ⌜ r ≡ dueNumber (nextDue (modelOf (now (file .entry)) n) (runOf (modelOf (now (file .entry)) n) (now (run .entry)) .entries)) ⌝ }
 {
+    let count = table_words::atomics_in(tables);
     let mut state = [0u64; STATE_SIZE];
-    run_saved::load(run, count, &mut state);
+    run_saved::load(run, widen::u8_to_usize(count), &mut state);
     let phases = model_file::phases_of(file, n);
-    step_due::put_ends(phases, tables, count as u8, &mut state);
+    step_due::put_ends(phases, tables, count, &mut state);
     step_due::next_end(tables, &state)
 }
 
@@ -72,24 +55,24 @@ fn read_accepted(
     run: &[u8],
     position: u64,
 ) -> Reading
-    requires { ⌜ (ok (modelOf (now file) n) ≡ accepted (now file)) × TablesOf (modelOf (now file) n) (now tables) ⌝ }
+    requires { ⌜ ModelOpened (now file) n (now tables) ⌝ }
     ensures { λ r. ⌜ readOf r ≡ reading (now (file .entry)) (now (run .entry)) position ⌝ }
 {
     let components = model_file::components_of(file, n);
     if !run_saved::fits(components, model_file::phases_of(file, n), run) {
         return refused(RUN_DOES_NOT_FIT);
     }
-    let count = model_records::atomic_count(components);
-    if count as u64 <= position {
+    let count = widen::u8_to_u64(table_words::atomics_in(tables));
+    if count <= position {
         return refused(BAD_POSITION);
     }
     let entry = run_saved::entry_at(run, position as usize);
     let last: Moment = entry.last;
     Reading {
         number: 0,
-        phase: wide(entry.phase),
+        phase: widen::u8_to_u64(entry.phase),
         last: last.0,
-        next_due: whole_due(file, n, tables, run, count),
+        next_due: whole_due(file, n, tables, run),
     }
 }
 
@@ -100,7 +83,7 @@ pub fn read(file: &[u8], run: &[u8], position: u64) -> Reading
     let counted: Counted = accept_tables::open_model(file, &mut tables);
     let checked = counted.checked;
     let Checked::Accepted(n) = checked else {
-        return refused(wide16(checked.refusal()));
+        return refused(widen::u16_to_u64(checked.refusal()));
     };
     read_accepted(file, n, &tables, run, position)
 }

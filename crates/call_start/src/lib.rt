@@ -22,12 +22,6 @@ pub struct Written {
     pub bytes: u64,
 }
 
-fn wide16(x: u16) -> u64
-    ensures { λ r. ⌜ r ≡ x ⌝ }
-{
-    x as u64
-}
-
 // The run of a start, where there is room for it.
 fn start_run(components: &[u8], run: &mut [u8]) -> Written
     requires { ⌜ length (componentsIn (now components)) ≤ maxComponents ⌝ }
@@ -57,7 +51,7 @@ pub fn start(file: &[u8], run: &mut [u8]) -> Written
     let checked = accept_routes::check(file);
     let Checked::Accepted(n) = checked else {
         return Written {
-            number: wide16(checked.refusal()),
+            number: widen::u16_to_u64(checked.refusal()),
             bytes: 0,
         };
     };

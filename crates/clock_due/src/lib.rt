@@ -9,12 +9,6 @@ use clock::Moment;
 use clock::Stay;
 use limits::NEVER_FIELD;
 
-fn wide(x: u32) -> u64
-    ensures { λ r. ⌜ r ≡ x ⌝ }
-{
-    x as u64
-}
-
 // The due moment of an atomic that has been in a phase with this advance since `last`.
 pub fn due_after(last: Moment, advance: u32) -> Due
     ensures { λ r. ⌜ timeOf r ≡ dueAfter (last .0) advance ⌝ }
@@ -22,7 +16,7 @@ pub fn due_after(last: Moment, advance: u32) -> Due
     if advance == NEVER_FIELD {
         return Due::Never;
     }
-    Due::At(last.plus(Stay(wide(advance))))
+    Due::At(last.plus(Stay(widen::u32_to_u64(advance))))
 }
 
 // Nothing is due before a moment.

@@ -31,17 +31,11 @@ pub struct Reading {
     pub next_due: u64,
 }
 
-fn wide(x: u16) -> u64
-    ensures { λ r. ⌜ r ≡ x ⌝ }
-{
-    x as u64
-}
-
 // The number by which a model file is refused, or 0.
 pub fn check_model(file: &[u8]) -> u64
     ensures { λ r. ⌜ r ≡ checkModel (now (file .entry)) ⌝ }
 {
-    wide(accept_routes::check_model(file))
+    widen::u16_to_u64(accept_routes::check_model(file))
 }
 
 // Writes the first run of a model at the front of the run buffer.

@@ -23,32 +23,17 @@ use little_endian::byte_at;
 use little_endian::front;
 use little_endian::put_number;
 use little_endian::rest;
-use little_endian::size;
-use little_endian::size16;
 use model_records::Component;
 use model_records::component_at;
 use model_records::phase_count;
 use model_records::rule_count;
 use table_words::NUMBERS_AT;
 use table_words::word_at;
-
-fn wide(x: usize) -> u64
-    ensures { λ r. ⌜ r ≡ x ⌝ }
-{
-    x as u64
-}
-
-fn number(x: u8) -> u32
-    ensures { λ r. ⌜ r ≡ x ⌝ }
-{
-    x as u32
-}
-
-fn wide32(x: u32) -> u64
-    ensures { λ r. ⌜ r ≡ x ⌝ }
-{
-    x as u64
-}
+use widen::u8_to_u32;
+use widen::u8_to_usize;
+use widen::u16_to_usize;
+use widen::u32_to_u64;
+use widen::usize_to_u64;
 
 // A part of another slice.
 fn put_bytes(part: &[u8], out: &mut [u8], at: usize)
@@ -83,9 +68,9 @@ fn put_atomics(components: &[u8], tables: &[u16], n: u8, out: &mut [u8])
 {
     let mut i: u8 = 0;
     while i < n {
-        let c = word_at(tables, NUMBERS_AT + size(i));
-        let k = component_at(components, size16(c));
-        put_atomic(k, out, 7 + COMPONENT_SIZE * size(i));
+        let c = word_at(tables, NUMBERS_AT + u8_to_usize(i));
+        let k = component_at(components, u16_to_usize(c));
+        put_atomic(k, out, 7 + COMPONENT_SIZE * u8_to_usize(i));
         i = i + 1;
     }
 }
@@ -94,7 +79,7 @@ fn put_components(components: &[u8], tables: &[u16], n: u8, out: &mut [u8])
     requires { ⌜ 7 + 5 * n ≤ length (now out) ⌝ }
     ensures { λ _. ⌜ now (out .exit) ≡ sets (now (out .entry)) 0 (sectionBytes componentBytes (componentsBy (componentsIn (now (components .entry))) (now (tables .entry)) n)) ⌝ }
 {
-    put_number(out, 0, COUNT_SIZE, wide(size(n) + 1));
+    put_number(out, 0, COUNT_SIZE, usize_to_u64(u8_to_usize(n) + 1));
     put_number(out, COUNT_SIZE, COMPONENT_SIZE, 0);
     put_atomics(components, tables, n, out);
 }
@@ -106,7 +91,7 @@ fn put_phases(phases: &[u8], out: &mut [u8], at: usize)
     ensures { λ _. ⌜ now (out .exit) ≡ sets (now (out .entry)) at (sectionBytes phaseBytes (phasesIn (now (phases .entry)))) ⌝ }
 {
     let n = phase_count(phases);
-    put_number(out, at, COUNT_SIZE, wide(n));
+    put_number(out, at, COUNT_SIZE, usize_to_u64(n));
     let part = front(phases, PHASE_SIZE * n);
     put_bytes(part, out, at + COUNT_SIZE);
 }
@@ -117,8 +102,8 @@ fn put_rule(rule: &[u8], tables: &[u16], out: &mut [u8], at: usize)
     requires { ⌜ (length (now rule) ≡ ruleSize) × (at + 18 ≤ length (now out)) ⌝ }
     ensures { λ _. ⌜ now (out .exit) ≡ sets (now (out .entry)) at (ruleBytes (ruleBy (now (tables .entry)) (toRule (now (rule .entry))))) ⌝ }
 {
-    let rank = rank_of(tables, number(byte_at(rule, 0)));
-    put_number(out, at, 1, wide32(rank));
+    let rank = rank_of(tables, u8_to_u32(byte_at(rule, 0)));
+    put_number(out, at, 1, u32_to_u64(rank));
     let kept = front(rest(rule, 1), RULE_SIZE - 1);
     put_bytes(kept, out, at + 1);
 }
@@ -140,7 +125,7 @@ fn put_rules(rules: &[u8], tables: &[u16], out: &mut [u8], at: usize)
     ensures { λ _. ⌜ now (out .exit) ≡ sets (now (out .entry)) at (sectionBytes ruleBytes (map (ruleBy (now (tables .entry))) (rulesIn (now (rules .entry))))) ⌝ }
 {
     let n = rule_count(rules);
-    put_number(out, at, COUNT_SIZE, wide(n));
+    put_number(out, at, COUNT_SIZE, usize_to_u64(n));
     put_rule_list(rules, tables, n, out, at + COUNT_SIZE);
 }
 
@@ -171,7 +156,7 @@ fn put_rows(rows: &[u32], n: usize, out: &mut [u8], at: usize)
     requires { ⌜ (n ≤ length (now rows)) × (at + 2 + 4 * n ≤ length (now out)) ⌝ }
     ensures { λ _. ⌜ now (out .exit) ≡ sets (now (out .entry)) at (sectionBytes couplingBytes (map couplingOf (take n (now (rows .entry))))) ⌝ }
 {
-    put_number(out, at, COUNT_SIZE, wide(n));
+    put_number(out, at, COUNT_SIZE, usize_to_u64(n));
     put_row_list(rows, n, out, at + COUNT_SIZE);
 }
 
@@ -183,7 +168,7 @@ pub fn flat_size(phases: &[u8], rules: &[u8], n: u8, count: usize) -> usize
     ensures { λ r. ⌜ r ≡ 13 + 5 * n + 18 * length (phasesIn (now (phases .entry))) + 18 * length (rulesIn (now (rules .entry))) + 4 * count ⌝ }
 {
     13
-        + COMPONENT_SIZE * size(n)
+        + COMPONENT_SIZE * u8_to_usize(n)
         + PHASE_SIZE * phase_count(phases)
         + RULE_SIZE * rule_count(rules)
         + COUPLING_SIZE * count
@@ -203,7 +188,7 @@ pub fn put_flat(
     ensures { λ _. ⌜ now (out .exit) ≡ stored (modelBytes (flatBy (componentsIn (now (components .entry))) (phasesIn (now (phases .entry))) (rulesIn (now (rules .entry))) (now (tables .entry)) n (take count (now (rows .entry))))) (now (out .entry)) ⌝ }
 {
     put_components(components, tables, n, out);
-    let second = 7 + COMPONENT_SIZE * size(n);
+    let second = 7 + COMPONENT_SIZE * u8_to_usize(n);
     put_phases(phases, out, second);
     let third = second + COUNT_SIZE + PHASE_SIZE * phase_count(phases);
     put_rules(rules, tables, out, third);

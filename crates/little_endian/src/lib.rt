@@ -18,12 +18,6 @@ pub fn size16(x: u16) -> usize
     x as usize
 }
 
-fn wide(x: u8) -> u64
-    ensures { λ r. ⌜ r ≡ x ⌝ }
-{
-    x as u64
-}
-
 // The rest of a slice from a position on; nothing past the end.
 pub fn rest<'a>(s: &'a [u8], at: usize) -> &'a [u8]
     ensures { λ r. ⌜ now r ≡ drop at (now (s .entry)) ⌝ }
@@ -53,7 +47,7 @@ fn number_of(s: &[u8], n: usize) -> u64
     let mut v: u64 = 0;
     while 0 < k {
         k = k - 1;
-        v = v * 256 + wide(byte_at(s, k));
+        v = v * 256 + widen::u8_to_u64(byte_at(s, k));
     }
     v
 }

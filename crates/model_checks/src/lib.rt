@@ -25,12 +25,12 @@ use limits::MAX_OUTPUTS;
 use limits::MAX_OWN_PHASES;
 use limits::NEVER_FIELD;
 use limits::PORT_COUNT;
-use little_endian::size;
 use model_records::Component;
 use model_records::Coupling;
 use model_records::Phase;
 use model_records::Rule;
 use phase_slots::slots_fit;
+use widen::u8_to_usize;
 
 // ---- the answers; a number is one byte, since one that is laid over two fields of a record makes the compiler join these
 
@@ -127,11 +127,11 @@ fn component_fits(
     if i == 0 {
         return kind_fields(component) & ((component.kind == 0) & (component.parent == 0));
     }
-    let parent = size(component.parent);
+    let parent = u8_to_usize(component.parent);
     if i <= parent {
         return false;
     }
-    if !((phase_counts[parent] == 0) & (size(depths[parent]) < MAX_ANCESTORS)) {
+    if !((phase_counts[parent] == 0) & (u8_to_usize(depths[parent]) < MAX_ANCESTORS)) {
         return false;
     }
     kind_fields(component)
@@ -172,7 +172,7 @@ pub fn keep_component(
         depths[i] = 0;
         return;
     }
-    depths[i] = depths[size(component.parent)] + 1;
+    depths[i] = depths[u8_to_usize(component.parent)] + 1;
 }
 
 // ---- phases
@@ -209,7 +209,7 @@ fn rule_fields(components: &[u8], phase_counts: &[u8; MAX_COMPONENTS], rule: Rul
     requires { ⌜ Counted (componentsIn (now components)) (now «phase_counts») ⌝ }
     ensures { λ r. ⌜ r ≡ ruleFields (componentsIn (now (components .entry))) (ruleOf rule) ⌝ }
 {
-    let component = size(rule.component);
+    let component = u8_to_usize(rule.component);
     if model_records::component_count(components) <= component {
         return false;
     }
@@ -251,8 +251,8 @@ fn are_related(
     requires { ⌜ EndsThere (componentsIn (now components)) source target (now parents) ⌝ }
     ensures { λ r. ⌜ r ≡ related (componentsIn (now (components .entry))) source target ⌝ }
 {
-    let over_source = size(parents[source]);
-    let over_target = size(parents[target]);
+    let over_source = u8_to_usize(parents[source]);
+    let over_target = u8_to_usize(parents[target]);
     if source == target {
         return false;
     }
@@ -264,8 +264,8 @@ fn coupling_fields(components: &[u8], parents: &[u8; MAX_COMPONENTS], coupling: 
     ensures { λ r. ⌜ r ≡ couplingFields (componentsIn (now (components .entry))) (couplingOf coupling) ⌝ }
 {
     let component_count = model_records::component_count(components);
-    let source = size(coupling.source);
-    let target = size(coupling.target);
+    let source = u8_to_usize(coupling.source);
+    let target = u8_to_usize(coupling.target);
     if !((source < component_count)
         & (target < component_count)
         & (coupling.source_port < PORT_COUNT)
@@ -279,10 +279,10 @@ fn coupling_fields(components: &[u8], parents: &[u8; MAX_COMPONENTS], coupling: 
 pub fn coupling_key(coupling: Coupling) -> usize
     ensures { λ r. ⌜ couplingOfKey r ≡ couplingOf coupling ⌝ }
 {
-    size(coupling.source) * 16777216
-        + size(coupling.source_port) * 65536
-        + size(coupling.target) * 256
-        + size(coupling.target_port)
+    u8_to_usize(coupling.source) * 16777216
+        + u8_to_usize(coupling.source_port) * 65536
+        + u8_to_usize(coupling.target) * 256
+        + u8_to_usize(coupling.target_port)
 }
 
 // Row i, behind a row whose key is `before`.

@@ -4,10 +4,10 @@ ghost use mathlib.Core.Bool.{_&&_};
 ghost use Rattle.definition.specs.Pinned.Decoder.{usedFit, unusedFit};
 ghost use Rattle.model_records.specs.Values.{messageOf, phaseOf};
 ghost use Rattle.model_checks.specs.Reads.{messageOfKey};
-use little_endian::size;
-use little_endian::size16;
 use model_records::Message;
 use model_records::Phase;
+use widen::u8_to_usize;
+use widen::u16_to_usize;
 
 // A message whose port is in its range has a key below this one.
 const KEYS_END: usize = 262144;
@@ -16,7 +16,7 @@ const KEYS_END: usize = 262144;
 fn message_key(message: Message) -> usize
     ensures { λ r. ⌜ messageOfKey r ≡ messageOf message ⌝ }
 {
-    size(message.port) * 65536 + size16(message.value)
+    u8_to_usize(message.port) * 65536 + u16_to_usize(message.value)
 }
 
 // Slots that are not used are zero, and used ones never fall. A key below KEYS_END has a port in its range; where keys never fall, all of

@@ -1,7 +1,6 @@
 // The records of a model, read from the slice that holds a section's records. A reader `.._in` asks that there is such a record; past the
 // slice's end a reader `.._at` has zeros, so that it asks nothing.
 ghost use mathlib.Core.Path.{_≡_};
-ghost use mathlib.Core.Bool.{cond};
 ghost use Prim.Native.Nat.{_/_, _<_};
 ghost use lib.ListN.{length, getD};
 ghost use Rattle.definition.specs.Limits.{phaseSize};
@@ -254,14 +253,7 @@ pub fn is_child(components: &[u8], c: usize, d: usize) -> bool
     ensures { λ r. ⌜ r ≡ isChild (componentsIn (now (components .entry))) c d ⌝ }
 {
     let component = component_at(components, d);
-    !(d == 0) & (little_endian::size(component.parent) == c)
-}
-
-// 1 for true, 0 for false.
-pub fn one_if(b: bool) -> usize
-    ensures { λ r. ⌜ r ≡ cond b 1 0 ⌝ }
-{
-    if b { 1 } else { 0 }
+    !(d == 0) & (widen::u8_to_usize(component.parent) == c)
 }
 
 // How many of the components are atomic.
@@ -272,7 +264,7 @@ pub fn atomic_count(components: &[u8]) -> usize
     let mut k: usize = 0;
     let mut c: usize = 0;
     while c < n {
-        k = k + one_if(is_atomic(components, c));
+        k = k + widen::bool_to_usize(is_atomic(components, c));
         c = c + 1;
     }
     k
@@ -287,8 +279,8 @@ pub fn phases_before(components: &[u8], c: u8) -> usize
     let mut total: usize = 0;
     let mut i: u8 = 0;
     while i < c {
-        let component = component_at(components, little_endian::size(i));
-        total = total + little_endian::size(component.phases);
+        let component = component_at(components, widen::u8_to_usize(i));
+        total = total + widen::u8_to_usize(component.phases);
         i = i + 1;
     }
     total

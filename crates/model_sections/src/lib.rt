@@ -25,12 +25,13 @@ use limits::MODEL_CUT;
 use limits::PHASE_SIZE;
 use limits::PHASE_SUM;
 use limits::RULE_SIZE;
-use little_endian::size16;
 use little_endian::u16_at;
 use model_checks::ComponentRead;
 use model_checks::CouplingRead;
 use model_checks::PhaseRead;
 use model_checks::RuleRead;
+use widen::u8_to_usize;
+use widen::u16_to_usize;
 
 // How many records the section has, or the number of the refusal.
 pub enum SectionRead {
@@ -56,7 +57,7 @@ fn length_of(count: u16, size: usize) -> usize
     requires { ⌜ size ≤ 255 ⌝ }
     ensures { λ r. ⌜ (r ≡ count * size) × (r ≤ 16777215) ⌝ }
 {
-    size16(count) * size
+    u16_to_usize(count) * size
 }
 
 // The records of the section that comes next in the file, without their count.
@@ -140,7 +141,7 @@ pub fn read_components(
         × Learnt (now (file .entry)) r (now (parents .exit)) (now («phase_counts» .exit)) ⌝ }
 {
     let announced = u16_at(file, 0);
-    let count = size16(announced);
+    let count = u16_to_usize(announced);
     let head = head_number(file, COMPONENT_SIZE, component_count_refusal(count));
     if head != 0 {
         return SectionRead::Refused(head);
@@ -168,7 +169,7 @@ fn phase_total(components: &[u8], phase_counts: &[u8; MAX_COMPONENTS]) -> usize
     let mut total: usize = 0;
     let mut c: usize = 0;
     while c < component_count {
-        total = total + little_endian::size(phase_counts[c]);
+        total = total + u8_to_usize(phase_counts[c]);
         c = c + 1;
     }
     total
@@ -184,7 +185,7 @@ pub fn read_phases(
     ensures { λ r. ⌜ sectionRead phaseSize toPhase (now («rest_of_file» .entry)) r ≡ phaseSection (componentsIn (now (components .entry))) (now («rest_of_file» .entry)) ⌝ }
 {
     let announced = u16_at(rest_of_file, 0);
-    let count = size16(announced);
+    let count = u16_to_usize(announced);
     let component_count = model_records::component_count(components);
     let total = phase_total(components, phase_counts);
     let head = head_number(rest_of_file, PHASE_SIZE, phase_count_refusal(total, count));
@@ -219,7 +220,7 @@ pub fn read_rules(
     ensures { λ r. ⌜ sectionRead ruleSize toRule (now («rest_of_file» .entry)) r ≡ ruleSection (componentsIn (now (components .entry))) (now («rest_of_file» .entry)) ⌝ }
 {
     let announced = u16_at(rest_of_file, 0);
-    let count = size16(announced);
+    let count = u16_to_usize(announced);
     let head = head_number(rest_of_file, RULE_SIZE, limit_refusal(MAX_RULES, count));
     if head != 0 {
         return SectionRead::Refused(head);
@@ -245,7 +246,7 @@ pub fn read_couplings(
     ensures { λ r. ⌜ sectionRead couplingSize toCoupling (now («rest_of_file» .entry)) r ≡ couplingSection (componentsIn (now (components .entry))) (now («rest_of_file» .entry)) ⌝ }
 {
     let announced = u16_at(rest_of_file, 0);
-    let count = size16(announced);
+    let count = u16_to_usize(announced);
     let head = head_number(
         rest_of_file,
         COUPLING_SIZE,

@@ -1,14 +1,13 @@
 -- The entries of a state, one more at a time: as they are read from a run's bytes, and as a start gives them. Assumes nothing.
 use mathlib.Core.Path.{_≡_, refl, sym, ap, ap₂, _∙_}
 use mathlib.Core.List.{List, [], _∷_, _++_, map, map-append}
-use mathlib.Core.Bool.{Bool, true, false, cond}
-use Prim.Native.Nat.{ℕ, zero, suc, _+_, _*_, _≤_, _<_}
+use Prim.Native.Nat.{ℕ, zero, suc, _+_, _*_, _<_}
 use native.Mathlib.Omega.{arith}
 use lib.Dec.{ltb}
-use lib.ListN.{length, take, drop, getD, length-set, length-append}
+use lib.ListN.{length, take, drop, getD, length-set}
 use lib.Seq.{drop-drop, getD-set-same, getD-set-other}
 use borrow.Author.Tests.{ltb-true, lt-ltb}
-use Rattle.definition.specs.Lists.{keep, upFrom}
+use Rattle.definition.specs.Lists.{upFrom}
 use Rattle.definition.specs.Bytes.{Bytes, numberAt, chunks}
 use Rattle.definition.specs.Limits.{headSize, entrySize, maxComponents}
 use Rattle.definition.specs.SavedRun.{Entry, toEntry, toRun}

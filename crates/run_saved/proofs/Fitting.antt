@@ -18,7 +18,6 @@ use Rattle.definition.specs.Atomic.{advanceOf}
 use Rattle.definition.specs.SavedRun.{Entry, toEntry, toRun, atomicCount, runOf, dueOf, notBefore, runLength, entryFits, entriesFit, runFits}
 use Rattle.law_bytes.specs.Parts.{row}
 use Rattle.law_base.proofs.Tests.{clash}
-use Rattle.law_base.proofs.Lists.{length-up, length-keep}
 use Rattle.model_records.specs.Values.{componentsIn, phasesIn, modelIn}
 use Rattle.clock.specs.Times.{latest}
 use Rattle.clock_due.specs.After.{dueAfter}

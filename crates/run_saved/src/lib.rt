@@ -1,6 +1,6 @@
 // Saved runs: which bytes fit a model, the state that they hold, and a state's bytes.
 ghost use mathlib.Core.Path.{_≡_};
-ghost use mathlib.Core.Bool.{cond, _&&_, _||_};
+ghost use mathlib.Core.Bool.{_&&_, _||_};
 ghost use Prim.Native.Nat.{_+_, _≤_, _<_};
 ghost use lib.Dec.{ltb, eqb};
 ghost use lib.ListN.{length, getD};
@@ -79,7 +79,7 @@ fn entry_due(phases: &[u8], first: usize, e: Entry) -> Due
     requires { ⌜ first ≤ 65535 ⌝ }
     ensures { λ r. ⌜ timeOf r ≡ dueAfter (e .last .0) (getD (phasesIn (now (phases .entry))) (first + e .phase) noPhase .advance) ⌝ }
 {
-    let phase = model_records::phase_at(phases, first + little_endian::size(e.phase));
+    let phase = model_records::phase_at(phases, first + widen::u8_to_usize(e.phase));
     clock_due::due_after(e.last, phase.advance)
 }
 
@@ -110,8 +110,8 @@ fn entries_fit(components: &[u8], phases: &[u8], run: &[u8]) -> bool
         if atomic & !fit {
             return false;
         }
-        k = k + model_records::one_if(atomic);
-        first = first + little_endian::size(own.phases);
+        k = k + widen::bool_to_usize(atomic);
+        first = first + widen::u8_to_usize(own.phases);
         c = c + 1;
     }
     true
@@ -125,18 +125,12 @@ pub fn fits(components: &[u8], phases: &[u8], run: &[u8]) -> bool
     let n = model_records::atomic_count(components);
     let opening = opening_of(run);
     let long = RUN_HEAD_SIZE + RUN_ENTRY_SIZE * n <= run.len();
-    let counted = little_endian::size16(little_endian::u16_at(run, RUN_COUNT_AT)) == n;
+    let counted = widen::u16_to_usize(little_endian::u16_at(run, RUN_COUNT_AT)) == n;
     let in_time = opening.0 <= LATEST_OPENING;
     long & counted & in_time & entries_fit(components, phases, run)
 }
 
 // ---- writing
-
-fn wide(x: u8) -> u64
-    ensures { λ r. ⌜ r ≡ x ⌝ }
-{
-    x as u64
-}
 
 fn put_entry(run: &mut [u8], state: &[u64; STATE_SIZE], i: usize)
     requires { ⌜ (i < maxComponents) × (runLength (i + 1) ≤ length (now run)) ⌝ }
@@ -144,7 +138,7 @@ fn put_entry(run: &mut [u8], state: &[u64; STATE_SIZE], i: usize)
 {
     let at = RUN_HEAD_SIZE + RUN_ENTRY_SIZE * i;
     let since = run_state::last_at(state, i);
-    little_endian::put_number(run, at, 1, wide(run_state::phase_at(state, i)));
+    little_endian::put_number(run, at, 1, widen::u8_to_u64(run_state::phase_at(state, i)));
     little_endian::put_number(run, at + 1, 8, since.0);
 }
 
@@ -183,7 +177,7 @@ pub fn start_state(components: &[u8], state: &mut [u64; STATE_SIZE])
     while c < n {
         let own = component_at(components, c);
         run_state::put_at(state, k, own.initial, Moment(0));
-        k = k + model_records::one_if(own.kind == 1);
+        k = k + widen::bool_to_usize(own.kind == 1);
         c = c + 1;
     }
 }

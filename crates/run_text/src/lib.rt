@@ -17,17 +17,23 @@ use limits::MAX_PHASES;
 use limits::MAX_RULES;
 use limits::MESSAGE_SIZE;
 use limits::PHASE_SIZE;
+use limits::RECORD_COUNT_AT;
 use limits::RECORD_HEAD;
+use limits::RECORD_STEP_AT;
 use limits::RULE_SIZE;
+use limits::RUN_ENTRY_SIZE;
+use limits::RUN_HEAD_SIZE;
 use little_endian::byte_at;
 use little_endian::front;
 use little_endian::rest;
-use little_endian::size16;
 use little_endian::u16_at;
 use little_endian::u64_at;
+use widen::u8_to_u64;
+use widen::u16_to_u64;
+use widen::u16_to_usize;
 
 // The run of the largest model: 63 atomics.
-const RUN_ROOM: usize = 577;
+const RUN_ROOM: usize = RUN_HEAD_SIZE + RUN_ENTRY_SIZE * (MAX_COMPONENTS - 1);
 
 const TRACE_ROOM: usize = 16384;
 
@@ -60,18 +66,6 @@ fn digit(n: u64) -> u8
     ensures { λ r. ⌜ r ≡ Text·digit n ⌝ }
 {
     48 + n as u8
-}
-
-fn wide(x: u16) -> u64
-    ensures { λ r. ⌜ r ≡ x ⌝ }
-{
-    x as u64
-}
-
-fn wide8(x: u8) -> u64
-    ensures { λ r. ⌜ r ≡ x ⌝ }
-{
-    x as u64
 }
 
 fn put_byte(out: &mut [u8], at: usize, b: u8) -> usize
@@ -124,15 +118,15 @@ fn put_message(out: &mut [u8], at: usize, moment: u64, step: u16, row: &[u8]) ->
     ensures { λ r. ⌜ (now (out .exit), r) ≡ put (messageLine moment step (now (row .entry))) (now (out .entry), at) ⌝ }
 {
     let a = put_field(out, at, moment, b' ');
-    let b = put_field(out, a, wide(step), b' ');
-    let c = put_field(out, b, wide8(byte_at(row, 0)), b' ');
-    put_field(out, c, wide(u16_at(row, 1)), b'\n')
+    let b = put_field(out, a, u16_to_u64(step), b' ');
+    let c = put_field(out, b, u8_to_u64(byte_at(row, 0)), b' ');
+    put_field(out, c, u16_to_u64(u16_at(row, 1)), b'\n')
 }
 
 fn put_messages(out: &mut [u8], at: usize, moment: u64, step: u16, count: u16, rows: &[u8]) -> usize
     ensures { λ r. ⌜ (now (out .exit), r) ≡ put (messageLines count moment step (now (rows .entry))) (now (out .entry), at) ⌝ }
 {
-    let n = size16(count);
+    let n = u16_to_usize(count);
     let mut k: usize = 0;
     let mut to = at;
     while k < n {
@@ -150,8 +144,8 @@ fn put_record(out: &mut [u8], at: usize, trace: &[u8]) -> usize
         out,
         at,
         u64_at(trace, 0),
-        u16_at(trace, 8),
-        u16_at(trace, 10),
+        u16_at(trace, RECORD_STEP_AT),
+        u16_at(trace, RECORD_COUNT_AT),
         rest(trace, RECORD_HEAD),
     )
 }
@@ -168,7 +162,7 @@ fn put_trace(out: &mut [u8], at: usize, trace: &[u8]) -> usize
         }
         let here = rest(trace, from);
         to = put_record(out, to, here);
-        from = from + (RECORD_HEAD + MESSAGE_SIZE * size16(u16_at(here, 10)));
+        from = from + (RECORD_HEAD + MESSAGE_SIZE * u16_to_usize(u16_at(here, RECORD_COUNT_AT)));
         turns = turns - 1;
     }
     to

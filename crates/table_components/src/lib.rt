@@ -1,7 +1,6 @@
 // The tables of a call by component, by position among the atomics and by rule, filled from a model's records.
 ghost use mathlib.Core.Path.{_≡_};
 ghost use Prim.Native.Nat.{_+_, _-_, _≤_, _<_};
-ghost use mathlib.Core.Bool.{cond};
 ghost use lib.ListN.{length};
 ghost use Rattle.definition.specs.Limits.{maxComponents, maxRules};
 ghost use Rattle.definition.specs.Model.{atomics};
@@ -32,12 +31,6 @@ pub enum Field {
     Atomic,
 }
 
-fn one_if(b: bool) -> u8
-    ensures { λ r. ⌜ r ≡ cond b 1 0 ⌝ }
-{
-    if b { 1 } else { 0 }
-}
-
 fn field_of(k: Component, which: Field) -> u8
     ensures { λ r. ⌜ r ≡ fieldOf which (componentOf k) ⌝ }
 {
@@ -46,7 +39,7 @@ fn field_of(k: Component, which: Field) -> u8
         Field::Parent => k.parent,
         Field::Order => k.order,
         Field::Phases => k.phases,
-        Field::Atomic => one_if(k.kind == 1),
+        Field::Atomic => widen::bool_to_u8(k.kind == 1),
     }
 }
 
@@ -64,7 +57,7 @@ fn put_fields(components: &[u8], which: Field, at: usize, t: &mut [u16])
     let n = model_records::component_count(components);
     let mut c: usize = 0;
     while c < n {
-        t[at + c] = table_words::word(field_at(components, which, c));
+        t[at + c] = widen::u8_to_u16(field_at(components, which, c));
         c = c + 1;
     }
 }
@@ -79,7 +72,7 @@ fn put_sums(components: &[u8], which: Field, at: usize, t: &mut [u16])
     let mut c: usize = 0;
     while c < n {
         t[at + c] = total;
-        total = total + table_words::word(field_at(components, which, c));
+        total = total + widen::u8_to_u16(field_at(components, which, c));
         c = c + 1;
     }
 }
@@ -105,8 +98,8 @@ fn put_number(components: &[u8], c: u16, i: u16, t: &mut [u16]) -> u16
     requires { ⌜ (i < maxComponents) × (length (now t) ≡ tableSize) ⌝ }
     ensures { λ r. ⌜ (now (t .exit), r) ≡ numberAt (componentsIn (now (components .entry))) c (now (t .entry), i) ⌝ }
 {
-    if model_records::is_atomic(components, little_endian::size16(c)) {
-        t[NUMBERS_AT + little_endian::size16(i)] = c;
+    if model_records::is_atomic(components, widen::u16_to_usize(c)) {
+        t[NUMBERS_AT + widen::u16_to_usize(i)] = c;
         i + 1
     } else {
         i
@@ -145,7 +138,7 @@ fn rule_name(rules: &[u8], i: u16) -> u8
     requires { ⌜ i < length (rulesIn (now rules)) ⌝ }
     ensures { λ r. ⌜ r ≡ ruleNames (rulesIn (now (rules .entry))) i ⌝ }
 {
-    little_endian::byte_at(rules, RULE_SIZE * little_endian::size16(i))
+    little_endian::byte_at(rules, RULE_SIZE * widen::u16_to_usize(i))
 }
 
 fn rule_word(rules: &[u8]) -> u16
@@ -166,7 +159,7 @@ fn put_rule_starts(rules: &[u8], t: &mut [u16])
             t,
             RULES_FROM_AT,
             MAX_COMPONENTS,
-            little_endian::size(rule_name(rules, i)),
+            widen::u8_to_usize(rule_name(rules, i)),
             i,
         );
     }
@@ -183,7 +176,7 @@ fn put_rule_ends(rules: &[u8], t: &mut [u16])
             t,
             RULES_TO_AT,
             MAX_COMPONENTS,
-            little_endian::size(rule_name(rules, i)),
+            widen::u8_to_usize(rule_name(rules, i)),
             i + 1,
         );
         i = i + 1;

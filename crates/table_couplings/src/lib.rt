@@ -1,6 +1,5 @@
 // The tables of a call by node and by link, filled from a model's couplings: coupling i is link i + 1.
 ghost use mathlib.Core.Path.{_≡_};
-ghost use mathlib.Core.Bool.{cond};
 ghost use Prim.Native.Nat.{_+_, _*_, _<_, _≤_};
 ghost use lib.ListN.{length, getD};
 ghost use Rattle.definition.specs.Limits.{maxComponents, maxCouplings};
@@ -12,8 +11,6 @@ use limits::MAX_NODES;
 use limits::OUTPUTS_AT;
 use limits::PORT_COUNT;
 use limits::PORT_NODES;
-use little_endian::size;
-use little_endian::size16;
 use model_records::Coupling;
 use table_words::FIRST_AT;
 use table_words::LINKS;
@@ -21,6 +18,10 @@ use table_words::LIVE_AT;
 use table_words::NEXT_AT;
 use table_words::SOURCE_AT;
 use table_words::TABLE_SIZE;
+use widen::bool_to_u16;
+use widen::u8_to_u16;
+use widen::u8_to_usize;
+use widen::u16_to_usize;
 
 // The two ends of a coupling, as the contracts name them.
 pub enum End {
@@ -31,21 +32,20 @@ pub enum End {
 fn input_node(c: u8, q: u8) -> u16
     ensures { λ r. ⌜ r ≡ inputNode c q ⌝ }
 {
-    PORT_NODES as u16 * table_words::word(c) + table_words::word(q)
+    PORT_NODES as u16 * u8_to_u16(c) + u8_to_u16(q)
 }
 
 fn output_node(c: u8, q: u8) -> u16
     ensures { λ r. ⌜ r ≡ outputNode c q ⌝ }
 {
-    PORT_NODES as u16 * table_words::word(c)
-        + (table_words::word(PORT_COUNT) + table_words::word(q))
+    PORT_NODES as u16 * u8_to_u16(c) + (u8_to_u16(PORT_COUNT) + u8_to_u16(q))
 }
 
 // A coupling from a parent begins at an input, any other at an output.
 fn source_node(components: &[u8], k: Coupling) -> u16
     ensures { λ r. ⌜ r ≡ sourceNumber (componentsIn (now (components .entry))) (couplingOf k) ⌝ }
 {
-    if model_records::is_child(components, size(k.source), size(k.target)) {
+    if model_records::is_child(components, u8_to_usize(k.source), u8_to_usize(k.target)) {
         input_node(k.source, k.source_port)
     } else {
         output_node(k.source, k.source_port)
@@ -56,7 +56,7 @@ fn source_node(components: &[u8], k: Coupling) -> u16
 fn target_node(components: &[u8], k: Coupling) -> u16
     ensures { λ r. ⌜ r ≡ targetNumber (componentsIn (now (components .entry))) (couplingOf k) ⌝ }
 {
-    if model_records::is_child(components, size(k.target), size(k.source)) {
+    if model_records::is_child(components, u8_to_usize(k.target), u8_to_usize(k.source)) {
         output_node(k.target, k.target_port)
     } else {
         input_node(k.target, k.target_port)
@@ -91,12 +91,6 @@ pub fn put_ends(
     }
 }
 
-fn flag(b: bool) -> u16
-    ensures { λ r. ⌜ r ≡ cond b 1 0 ⌝ }
-{
-    if b { 1 } else { 0 }
-}
-
 // The sources are live, and nothing else yet: the root's inputs and the atomics' outputs, four ports at once.
 fn mark_sources(components: &[u8], t: &mut [u16; TABLE_SIZE])
     requires { ⌜ length (componentsIn (now components)) ≤ maxComponents ⌝ }
@@ -106,11 +100,11 @@ fn mark_sources(components: &[u8], t: &mut [u16; TABLE_SIZE])
     let mut c: usize = 0;
     while c < n {
         let x = PORT_NODES * c;
-        table_words::put_four(t, LIVE_AT + x, flag(c == 0));
+        table_words::put_four(t, LIVE_AT + x, bool_to_u16(c == 0));
         table_words::put_four(
             t,
             LIVE_AT + (x + OUTPUTS_AT),
-            flag(model_records::is_atomic(components, c)),
+            bool_to_u16(model_records::is_atomic(components, c)),
         );
         c = c + 1;
     }
@@ -121,8 +115,8 @@ fn spread_one(x: u16, y: u16, t: &mut [u16; TABLE_SIZE])
     requires { ⌜ (x < portNodes * maxComponents) × (y < portNodes * maxComponents) ⌝ }
     ensures { λ _. ⌜ now (t .exit) ≡ spread x y (now (t .entry)) ⌝ }
 {
-    if !(t[LIVE_AT + size16(x)] == 0) {
-        t[LIVE_AT + size16(y)] = 1;
+    if !(t[LIVE_AT + u16_to_usize(x)] == 0) {
+        t[LIVE_AT + u16_to_usize(y)] = 1;
     }
 }
 
@@ -131,7 +125,7 @@ fn spread_link(targets: &[u16; LINKS], j: u16, t: &mut [u16; TABLE_SIZE])
     requires { ⌜ (j ≤ maxCouplings) × (sourceIn (now t) j < portNodes * maxComponents) × (getD (now targets) j 0 < portNodes * maxComponents) ⌝ }
     ensures { λ _. ⌜ now (t .exit) ≡ spread (sourceIn (now (t .entry)) j) (getD (now (targets .entry)) j 0) (now (t .entry)) ⌝ }
 {
-    let at = size16(j);
+    let at = u16_to_usize(j);
     let x = t[SOURCE_AT + at];
     let y = targets[at];
     spread_one(x, y, t);

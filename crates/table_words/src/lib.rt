@@ -56,12 +56,6 @@ pub const TABLE_SIZE: usize = ATOMICS_AT + 1;
 // The flags of a step: first the mark of each component, then for each whether something may reach its inputs.
 pub const FLAGS_SIZE: usize = 2 * MAX_COMPONENTS;
 
-pub fn word(x: u8) -> u16
-    ensures { λ r. ⌜ r ≡ x ⌝ }
-{
-    x as u16
-}
-
 // A word; past the end stand zeros.
 pub fn word_at(t: &[u16], at: usize) -> u16
     ensures { λ r. ⌜ r ≡ getD (now (t .entry)) at 0 ⌝ }
@@ -82,7 +76,7 @@ pub fn row_in(t: &[u16; TABLE_SIZE], at: usize, i: u16) -> u16
     requires { ⌜ (at ≤ siblingAt) × (i < maxComponents) ⌝ }
     ensures { λ r. ⌜ r ≡ getD (now (t .entry)) (at + i) 0 ⌝ }
 {
-    word_in(t, at + little_endian::size16(i))
+    word_in(t, at + widen::u16_to_usize(i))
 }
 
 // How many atomics there are.
@@ -136,7 +130,7 @@ fn link(t: &mut [u16], first: usize, size: usize, next: usize, k: usize, j: u16)
     ensures { λ _. ⌜ now (t .exit) ≡ linkAt first size next k j (now (t .entry)) ⌝ }
 {
     if k < size {
-        t[next + little_endian::size16(j)] = t[first + k];
+        t[next + widen::u16_to_usize(j)] = t[first + k];
         t[first + k] = j;
     }
 }
@@ -148,7 +142,7 @@ pub fn link_all(keys: &[u16], n: u16, first: usize, size: usize, next: usize, t:
 {
     let mut j = n;
     while 0 < j {
-        let k = little_endian::size16(word_at(keys, little_endian::size16(j)));
+        let k = widen::u16_to_usize(word_at(keys, widen::u16_to_usize(j)));
         link(t, first, size, next, k, j);
         j = j - 1;
     }

@@ -29,7 +29,7 @@ loop-holds c = (omega arith, rw sub-zero)
 loop-again : tie.Need-loop-again Inv-loop μ-loop
 loop-again c =
     let start : tie.Start Inv-loop μ-loop = search in let after-put-four : tie.After-put-four Inv-loop μ-loop = search in
-    let after-one-if : tie.After-one-if Inv-loop μ-loop = search in let after-is-atomic : tie.After-is-atomic Inv-loop μ-loop = search in
+    let after-bool-to-u16 : tie.After-bool-to-u16 Inv-loop μ-loop = search in let after-is-atomic : tie.After-is-atomic Inv-loop μ-loop = search in
     let at-loop : tie.At-loop Inv-loop μ-loop = search in let after-component-count : tie.After-component-count Inv-loop μ-loop = search in
     let a = start .args in
     let l = at-loop .loop in
@@ -40,10 +40,15 @@ loop-again c =
     let e : portNodes * (l .c + 1) ≡ x + 4 + 4 = omega arith in
     let y : x ≡ 0 + x = omega arith in
     let z : x + 4 ≡ 0 + (x + 4) = omega arith in
-    let v : after-one-if .one-if .result ≡ cond (isAtomic cs (l .c)) 1 0 = rw (← after-is-atomic .is-atomic .ensures) (after-one-if .one-if .ensures) in
-    let one = after-put-four .put-four .ensures ∙ ap (λ i. column i (λ _. after-one-if .one-if .result) 4 0 (l .ways)) y in
-    let two = c .put-four2 .ensures ∙ ap (λ i. column i (λ _. c .before .one-if2 .result) 4 0 (after-put-four .put-four .last .0)) z in
-    (omega arith, ap (λ i. column 0 f (n - i) i (c .put-four2 .last .0)) e ∙ ap (column 0 f (n - (x + 4 + 4)) (x + 4 + 4)) two ∙ four-more 0 f n (x + 4) (c .before .one-if2 .result) (after-put-four .put-four .last .0) (omega arith) (λ k h. output-end cs (l .c) k h ∙ sym (c .before .one-if2 .ensures)) ∙ ap (column 0 f (n - (x + 4)) (x + 4)) one ∙ four-more 0 f n x (after-one-if .one-if .result) (l .ways) (omega arith) (λ k h. input-end cs (l .c) k h ∙ sym v) ∙ l .inv .1)
+    let v : after-bool-to-u16 .bool-to-u16 .result ≡ cond (isAtomic cs (l .c)) 1 0 = rw (← after-is-atomic .is-atomic .ensures) (after-bool-to-u16 .bool-to-u16 .ensures) in
+    let one = after-put-four .put-four .ensures ∙ ap (λ i. column i (λ _. after-bool-to-u16 .bool-to-u16 .result) 4 0 (l .ways)) y in
+    let two = c .put-four2 .ensures ∙ ap (λ i. column i (λ _. c .before .bool-to-u162 .result) 4 0 (after-put-four .put-four .last .0)) z in (
+      omega arith,
+      ap (λ i. column 0 f (n - i) i (c .put-four2 .last .0)) e ∙ ap (column 0 f (n - (x + 4 + 4)) (x + 4 + 4)) two
+          ∙ four-more 0 f n (x + 4) (c .before .bool-to-u162 .result) (after-put-four .put-four .last .0) (omega arith)
+          (λ k h. output-end cs (l .c) k h ∙ sym (c .before .bool-to-u162 .ensures)) ∙ ap (column 0 f (n - (x + 4)) (x + 4)) one
+          ∙ four-more 0 f n x (after-bool-to-u16 .bool-to-u16 .result) (l .ways) (omega arith) (λ k h. input-end cs (l .c) k h ∙ sym v) ∙ l .inv .1,
+    )
 
 returns : tie.Need-returns Inv-loop μ-loop
 returns c =

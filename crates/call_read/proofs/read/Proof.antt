@@ -18,7 +18,7 @@ returns c =
     let after-open-model : tie.After-open-model = search in
     let a = start .args in
     let told = sym (ap (checkedAs (a .file .now)) (after-enum-told .enum-told .given .1)) ∙ after-open-model .open-model .ensures .0 in
-    c .refused .ensures ∙ rw (c .before .wide16 .ensures, after-refusal .refusal .ensures, after-enum-told .enum-told .given .1) (read-refused (a .file .now) (a .run .now) (a .position) _ told)
+    c .refused .ensures ∙ rw (c .before .u16-to-u64 .ensures, after-refusal .refusal .ensures, after-enum-told .enum-told .given .1) (read-refused (a .file .now) (a .run .now) (a .position) _ told)
 
 read-accepted-requires : tie.Need-read-accepted-requires
 read-accepted-requires c κs =
@@ -26,7 +26,10 @@ read-accepted-requires c κs =
     let file = start .args .file .now in
     let r = after-open-model .open-model in
     let is = after-checked .checked .given .1 in
-    (sym (ap (checkedAs file) is) ∙ r .ensures .0, subst (λ (k : Checked). Opened file k (r .last .1 .0)) is (r .ensures .2))
+    record {
+      model = sym (ap (checkedAs file) is) ∙ r .ensures .0;
+      tabled = subst (λ (k : Checked). Opened file k (r .last .1 .0)) is (r .ensures .2);
+    }
 
 returns-2 : tie.Need-returns-2
 returns-2 c = c .read-accepted .ensures

@@ -9,13 +9,19 @@ use Rattle.call_read.proofs.whole_due.Tie as tie
 
 returns : tie.Need-returns
 returns c =
-    let given : tie.Start = search in let after-put-ends : tie.After-put-ends = search in let after-phases-of : tie.After-phases-of = search in
-    let after-load : tie.After-load = search in let after-shared-slice-known : tie.After-shared-slice-known = search in
+    let start : tie.Start = search in let after-put-ends : tie.After-put-ends = search in let after-phases-of : tie.After-phases-of = search in
+    let after-load : tie.After-load = search in let count : tie.After-atomics-in = search in let size : tie.After-u8-to-usize = search in
+    let known : tie.After-shared-slice-known = search in
+    let a = start .args in
+    let p = start .pre in
+    let n = count .atomics-in in
     let ends = after-put-ends .put-ends .ensures in
+    let loaded = subst (Loaded (a .run .now) (n .result)) (sym (ends .0)) (rw (size .u8-to-usize .ensures) at (after-load .load .ensures)) in
     c .next-end .ensures
-    ∙ due-whole (given .args .file .now) (given .args .n) (λ i. after-shared-slice-known .shared-slice-known .given i .fits) (given .pre .0) (given .args .run .now) _ (given .pre .1) _ (given .args .count)
-    (given .pre .2) (given .pre .3) (subst (Loaded (given .args .run .now) (given .args .count)) (sym (ends .0)) (after-load .load .ensures)) _ _ (after-phases-of .phases-of .ensures) (ends .1)
+    ∙ due-whole (a .file .now) (a .n) (λ i. known .shared-slice-known .given i .fits) (p .model) (a .run .now) _ (p .tabled) _ (n .result)
+    (p .fits) (n .ensures ∙ p .tabled .tabled .atomic-count) loaded _ _ (after-phases-of .phases-of .ensures) (ends .1)
 
 pub whole-due-spec : {M : Type 1} → statement M
 whole-due-spec =
-    tie.close (tie.spec (λ c κs. search needs) (λ c κs. search needs) (λ c. search needs) (λ c κs. search needs) (λ c κs. search needs) returns)
+    tie.close (tie.spec (λ c κs. search needs) (λ c κs. search needs) (λ c κs. search needs) (λ c κs. search needs) (λ c κs. search needs)
+    (λ c κs. search needs) returns)

@@ -16,7 +16,7 @@ returns c =
     let start : tie.Start = search in let after-enum-told : tie.After-enum-told = search in let after-check : tie.After-check = search in
     let a = start .args in
     let told = sym (ap (checkedAs (a .file .now)) (after-enum-told .enum-told .given .1)) ∙ after-check .check .ensures in
-    rw (c .wide16 .ensures, c .before .refusal .ensures, after-enum-told .enum-told .given .1) (start-refused (a .file .now) (a .run .now) _ told)
+    rw (c .u16-to-u64 .ensures, c .before .refusal .ensures, after-enum-told .enum-told .given .1) (start-refused (a .file .now) (a .run .now) _ told)
 
 start-run-requires : tie.Need-start-run-requires
 start-run-requires c κs =

@@ -15,7 +15,7 @@ returns-2 : tie.Need-returns-2
 unfolding dueAfter
 returns-2 c =
     let else1 : tie.Else1 = search in
-    rw (ne-eqb _ _ (else1 .if1 .left), ← c .before .wide .ensures) (ap finite (c .plus .ensures))
+    rw (ne-eqb _ _ (else1 .if1 .left), ← c .before .u32-to-u64 .ensures) (ap finite (c .plus .ensures))
 
 pub due-after-spec : {M : Type 1} → statement M
 due-after-spec = tie.close (tie.spec returns (λ c κs. search needs) (λ c κs. search needs) returns-2)

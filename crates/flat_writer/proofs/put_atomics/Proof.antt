@@ -27,11 +27,23 @@ loop-holds c = (omega arith, refl, refl)
 loop-again : tie.Need-loop-again Inv-loop μ-loop
 loop-again c =
     let start : tie.Start Inv-loop μ-loop = search in let after-put-atomic : tie.After-put-atomic Inv-loop μ-loop = search in
-    let after-size2 : tie.After-size2 Inv-loop μ-loop = search in let after-component-at : tie.After-component-at Inv-loop μ-loop = search in
-    let after-size16 : tie.After-size16 Inv-loop μ-loop = search in let after-word-at : tie.After-word-at Inv-loop μ-loop = search in
-    let after-size : tie.After-size Inv-loop μ-loop = search in let in-loop : tie.In-loop Inv-loop μ-loop = search in
+    let after-u8-to-usize2 : tie.After-u8-to-usize2 Inv-loop μ-loop = search in let after-component-at : tie.After-component-at Inv-loop μ-loop = search in
+    let after-u16-to-usize : tie.After-u16-to-usize Inv-loop μ-loop = search in let after-word-at : tie.After-word-at Inv-loop μ-loop = search in
+    let after-u8-to-usize : tie.After-u8-to-usize Inv-loop μ-loop = search in let in-loop : tie.In-loop Inv-loop μ-loop = search in
     let at-loop : tie.At-loop Inv-loop μ-loop = search in
-    let a = start .args in let l = at-loop .loop in (omega arith, after-put-atomic .put-atomic .kept .1 .0 ∙ l .inv .1, rw (after-put-atomic .put-atomic .ensures, after-size2 .size2 .ensures, after-component-at .component-at .ensures, after-size16 .size16 .ensures, after-word-at .word-at .ensures, after-size .size .ensures) (atomics-more (componentsIn (now (a .components))) (now (a .tables)) (a .n) (l .i) (l .out) (in-loop .loop-test .taken) ∙ l .inv .2))
+    let a = start .args in let l = at-loop .loop in (
+      omega arith,
+      after-put-atomic .put-atomic .kept .1 .0 ∙ l .inv .1,
+      rw (
+        after-put-atomic .put-atomic .ensures,
+        after-u8-to-usize2 .u8-to-usize2 .ensures,
+        after-component-at .component-at .ensures,
+        after-u16-to-usize .u16-to-usize .ensures,
+        after-word-at .word-at .ensures,
+        after-u8-to-usize .u8-to-usize .ensures,
+      )
+          (atomics-more (componentsIn (now (a .components))) (now (a .tables)) (a .n) (l .i) (l .out) (in-loop .loop-test .taken) ∙ l .inv .2),
+    )
 
 same-length : tie.Need-same-length Inv-loop μ-loop
 same-length c = c .before .loop .inv .1

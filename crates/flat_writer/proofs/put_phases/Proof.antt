@@ -18,9 +18,16 @@ put-bytes-requires c κs =
 returns : tie.Need-returns
 returns c =
     let start : tie.Start = search in let after-put-bytes : tie.After-put-bytes = search in let after-front : tie.After-front = search in
-    let after-put-number : tie.After-put-number = search in let after-wide : tie.After-wide = search in
+    let after-put-number : tie.After-put-number = search in let after-usize-to-u64 : tie.After-usize-to-u64 = search in
     let after-phase-count : tie.After-phase-count = search in let after-shared-slice-known : tie.After-shared-slice-known = search in
-    let a = start .args in rw (after-put-bytes .put-bytes .ensures, after-front .front .ensures, after-put-number .put-number .ensures, after-wide .wide .ensures, after-phase-count .phase-count .ensures) (phase-puts (now (a .phases)) (a .at) (now (a .out)) (all-bytes (now (a .phases)) (λ i. after-shared-slice-known .shared-slice-known .given i .fits)))
+    let a = start .args in
+    rw (
+      after-put-bytes .put-bytes .ensures,
+      after-front .front .ensures,
+      after-put-number .put-number .ensures,
+      after-usize-to-u64 .usize-to-u64 .ensures,
+      after-phase-count .phase-count .ensures,
+    ) (phase-puts (now (a .phases)) (a .at) (now (a .out)) (all-bytes (now (a .phases)) (λ i. after-shared-slice-known .shared-slice-known .given i .fits)))
 
 pub put-phases-spec : {M : Type 1} → statement M
 put-phases-spec =

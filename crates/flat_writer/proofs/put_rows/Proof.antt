@@ -13,8 +13,10 @@ use Rattle.flat_writer.proofs.put_rows.Tie as tie
 returns : tie.Need-returns
 returns c =
     let start : tie.Start = search in let after-put-row-list : tie.After-put-row-list = search in
-    let after-put-number : tie.After-put-number = search in let after-wide : tie.After-wide = search in
-    let a = start .args in rw (after-put-row-list .put-row-list .ensures, after-put-number .put-number .ensures, after-wide .wide .ensures) (section-puts couplingBytes (map couplingOf (take (a .n) (now (a .rows)))) (a .n) (a .at) (now (a .out)) (sym (length-rows (now (a .rows)) (a .n) (start .pre .0))))
+    let after-put-number : tie.After-put-number = search in let after-usize-to-u64 : tie.After-usize-to-u64 = search in
+    let a = start .args in
+    rw (after-put-row-list .put-row-list .ensures, after-put-number .put-number .ensures, after-usize-to-u64 .usize-to-u64 .ensures)
+    (section-puts couplingBytes (map couplingOf (take (a .n) (now (a .rows)))) (a .n) (a .at) (now (a .out)) (sym (length-rows (now (a .rows)) (a .n) (start .pre .0))))
 
 pub put-rows-spec : {M : Type 1} → statement M
 put-rows-spec =

@@ -17,9 +17,20 @@ returns : tie.Need-returns
 returns c =
     let start : tie.Start = search in let after-put-bytes : tie.After-put-bytes = search in let after-front : tie.After-front = search in
     let after-rest : tie.After-rest = search in let after-put-number : tie.After-put-number = search in
-    let after-wide32 : tie.After-wide32 = search in let after-rank-of : tie.After-rank-of = search in let after-number : tie.After-number = search in
+    let after-u32-to-u64 : tie.After-u32-to-u64 = search in let after-rank-of : tie.After-rank-of = search in let after-u8-to-u32 : tie.After-u8-to-u32 = search in
     let after-byte-at : tie.After-byte-at = search in let after-shared-slice-known : tie.After-shared-slice-known = search in
-    let a = start .args in rw (after-put-bytes .put-bytes .ensures, after-front .front .ensures, after-rest .rest .ensures, after-put-number .put-number .ensures, after-wide32 .wide32 .ensures, after-rank-of .rank-of .ensures, after-number .number .ensures, after-byte-at .byte-at .ensures) (rule-puts (now (a .tables)) (now (a .rule)) (a .at) (now (a .out)) (start .pre .0) (all-bytes (now (a .rule)) (λ i. after-shared-slice-known .shared-slice-known .given i .fits)))
+    let a = start .args in
+    rw (
+      after-put-bytes .put-bytes .ensures,
+      after-front .front .ensures,
+      after-rest .rest .ensures,
+      after-put-number .put-number .ensures,
+      after-u32-to-u64 .u32-to-u64 .ensures,
+      after-rank-of .rank-of .ensures,
+      after-u8-to-u32 .u8-to-u32 .ensures,
+      after-byte-at .byte-at .ensures,
+    )
+    (rule-puts (now (a .tables)) (now (a .rule)) (a .at) (now (a .out)) (start .pre .0) (all-bytes (now (a .rule)) (λ i. after-shared-slice-known .shared-slice-known .given i .fits)))
 
 pub put-rule-spec : {M : Type 1} → statement M
 put-rule-spec =

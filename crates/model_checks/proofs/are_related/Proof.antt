@@ -10,11 +10,11 @@ use Rattle.model_checks.proofs.Kept.{related-self, related-by}
 use Rattle.model_checks.proofs.are_related.Statement.{statement}
 use Rattle.model_checks.proofs.are_related.Tie as tie
 
-element-copy-out-size : tie.Need-element-copy-out-size
-element-copy-out-size c = let start : tie.Start = search in omega (arith, start .pre .placed .0 .few)
+element-copy-out-u8-to-usize : tie.Need-element-copy-out-u8-to-usize
+element-copy-out-u8-to-usize c = let start : tie.Start = search in omega (arith, start .pre .placed .0 .few)
 
-element-copy-out-size-2 : tie.Need-element-copy-out-size-2
-element-copy-out-size-2 c = let start : tie.Start = search in omega (arith, start .pre .placed .0 .few)
+element-copy-out-u8-to-usize-2 : tie.Need-element-copy-out-u8-to-usize-2
+element-copy-out-u8-to-usize-2 c = let start : tie.Start = search in omega (arith, start .pre .placed .0 .few)
 
 returns : tie.Need-returns
 returns c =
@@ -27,13 +27,13 @@ returns c =
 
 returns-2 : tie.Need-returns-2
 returns-2 c =
-    let start : tie.Start = search in let over-source : tie.After-size = search in let over-target : tie.After-size2 = search in
+    let start : tie.Start = search in let over-source : tie.After-u8-to-usize = search in let over-target : tie.After-u8-to-usize2 = search in
     let a = start .args in
     let q = start .pre in
     let cs = componentsIn (now (a .components)) in
-    let f = over-source .size .ensures ∙ q .placed .1 .holds (a .source) (q .sourceThere) in
-    let g = over-target .size2 .ensures ∙ q .placed .1 .holds (a .target) (q .targetThere) in
+    let f = over-source .u8-to-usize .ensures ∙ q .placed .1 .holds (a .source) (q .sourceThere) in
+    let g = over-target .u8-to-usize2 .ensures ∙ q .placed .1 .holds (a .target) (q .targetThere) in
     rw (f, g) (related-by cs (length cs) (a .source) (a .target) (q .placed .0) (q .sourceThere) (q .targetThere) (c .if1 .left))
 
 pub are-related-spec : {M : Type 1} → statement M
-are-related-spec = tie.close (tie.spec element-copy-out-size (search needs) element-copy-out-size-2 (search needs) returns returns-2)
+are-related-spec = tie.close (tie.spec element-copy-out-u8-to-usize (search needs) element-copy-out-u8-to-usize-2 (search needs) returns returns-2)

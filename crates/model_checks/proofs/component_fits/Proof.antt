@@ -21,23 +21,26 @@ returns c =
 returns-2 : tie.Need-returns-2
 unfolding fitsBehind
 returns-2 c =
-    let other : tie.Else1 = search in let parent : tie.After-size = search in
-    rw (ne-eqb _ _ (other .if1 .left), ← parent .size .ensures, le-ltb _ _ (c .if2 .taken)) (simp and-false)
+    let other : tie.Else1 = search in let parent : tie.After-u8-to-usize = search in
+    rw (ne-eqb _ _ (other .if1 .left), ← parent .u8-to-usize .ensures, le-ltb _ _ (c .if2 .taken)) (simp and-false)
 
 returns-3 : tie.Need-returns-3
 unfolding fitsBehind
 returns-3 c =
-    let start : tie.Start = search in let other : tie.Else1 = search in let parent : tie.After-size = search in let earlier : tie.Else2 = search in let depth : tie.After-size2 = search in
-    let e : (eqb (getD (now (start .args .phase-counts)) (parent .size .result) 0) 0 && ltb (depth .size2 .result) 8) ≡ false = not-true _ (c .if3 .taken) in
-    rw (ne-eqb _ _ (other .if1 .left), ← parent .size .ensures, lt-ltb _ _ (earlier .if2 .left), ← depth .size2 .ensures, e) (simp and-false)
+    let start : tie.Start = search in let other : tie.Else1 = search in let parent : tie.After-u8-to-usize = search in let earlier : tie.Else2 = search in
+    let depth : tie.After-u8-to-usize2 = search in
+    let e : (eqb (getD (now (start .args .phase-counts)) (parent .u8-to-usize .result) 0) 0 && ltb (depth .u8-to-usize2 .result) 8) ≡ false = not-true _ (c .if3 .taken) in
+    rw (ne-eqb _ _ (other .if1 .left), ← parent .u8-to-usize .ensures, lt-ltb _ _ (earlier .if2 .left), ← depth .u8-to-usize2 .ensures, e) (simp and-false)
 
 returns-4 : tie.Need-returns-4
 unfolding fitsBehind
 returns-4 c =
-    let start : tie.Start = search in let other : tie.Else1 = search in let parent : tie.After-size = search in let earlier : tie.Else2 = search in let depth : tie.After-size2 = search in
-    let e : (eqb (getD (now (start .args .phase-counts)) (parent .size .result) 0) 0 && ltb (depth .size2 .result) 8) ≡ true = not-false _ (c .before .if3 .left) in
+    let start : tie.Start = search in let other : tie.Else1 = search in let parent : tie.After-u8-to-usize = search in let earlier : tie.Else2 = search in
+    let depth : tie.After-u8-to-usize2 = search in
+    let e : (eqb (getD (now (start .args .phase-counts)) (parent .u8-to-usize .result) 0) 0 && ltb (depth .u8-to-usize2 .result) 8) ≡ true = not-false _ (c .before .if3 .left) in
     let k = componentOf (start .args .component) in
-    let f : fitsBehind k (start .args .i) (now (start .args .phase-counts)) (now (start .args .depths)) ≡ kindFields k = rw (ne-eqb _ _ (other .if1 .left), ← parent .size .ensures, lt-ltb _ _ (earlier .if2 .left), ← depth .size2 .ensures, e) (simp and-true) in
+    let f : fitsBehind k (start .args .i) (now (start .args .phase-counts)) (now (start .args .depths)) ≡ kindFields k =
+    rw (ne-eqb _ _ (other .if1 .left), ← parent .u8-to-usize .ensures, lt-ltb _ _ (earlier .if2 .left), ← depth .u8-to-usize2 .ensures, e) (simp and-true) in
     c .kind-fields2 .ensures ∙ sym f
 
 pub component-fits-spec : {M : Type 1} → statement M

@@ -8,8 +8,9 @@ use Rattle.model_checks.proofs.coupling_key.Tie as tie
 
 returns : tie.Need-returns
 returns c =
-    let start : tie.Start = search in let after-size2 : tie.After-size2 = search in let after-size : tie.After-size = search in
-    rw (c .size4 .ensures, c .before .size3 .ensures, after-size2 .size2 .ensures, after-size .size .ensures) (coupling-of-key (couplingOf (start .args .coupling)) (omega arith) (omega arith) (omega arith))
+    let start : tie.Start = search in let after-u8-to-usize2 : tie.After-u8-to-usize2 = search in let after-u8-to-usize : tie.After-u8-to-usize = search in
+    rw (c .u8-to-usize4 .ensures, c .before .u8-to-usize3 .ensures, after-u8-to-usize2 .u8-to-usize2 .ensures, after-u8-to-usize .u8-to-usize .ensures)
+    (coupling-of-key (couplingOf (start .args .coupling)) (omega arith) (omega arith) (omega arith))
 
 pub coupling-key-spec : {M : Type 1} → statement M
 coupling-key-spec =

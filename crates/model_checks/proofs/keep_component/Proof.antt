@@ -18,14 +18,14 @@ element-copy-out-depths c =
 
 add-depths : tie.Need-add-depths
 add-depths c =
-    let else1 : tie.Else1 = search in let start : tie.Start = search in let parent : tie.After-size = search in
+    let else1 : tie.Else1 = search in let start : tie.Start = search in let parent : tie.After-u8-to-usize = search in
     let shallow = start .pre .shallow (else1 .if1 .left) in
-    record { fits = rw (parent .size .ensures) (omega arith) }
+    record { fits = rw (parent .u8-to-usize .ensures) (omega arith) }
 
 returns-2 : tie.Need-returns-2
 returns-2 c =
-    let else1 : tie.Else1 = search in let parent : tie.After-size = search in
-    record { parent = refl; count = refl; depth = rw (ne-eqb _ _ (else1 .if1 .left), parent .size .ensures) }
+    let else1 : tie.Else1 = search in let parent : tie.After-u8-to-usize = search in
+    record { parent = refl; count = refl; depth = rw (ne-eqb _ _ (else1 .if1 .left), parent .u8-to-usize .ensures) }
 
 pub keep-component-spec : {M : Type 1} → statement M
 keep-component-spec =

@@ -17,8 +17,8 @@ use Rattle.model_checks.proofs.rule_fields.Tie as tie
 returns : tie.Need-returns
 unfolding ruleFields
 returns c =
-    let component : tie.After-size = search in
-    rw (← c .before .component-count .ensures, ← component .size .ensures, le-ltb _ _ (c .if1 .taken))
+    let component : tie.After-u8-to-usize = search in
+    rw (← c .before .component-count .ensures, ← component .u8-to-usize .ensures, le-ltb _ _ (c .if1 .taken))
 
 element-copy-out-phases : tie.Need-element-copy-out-phases
 element-copy-out-phases c =
@@ -27,10 +27,10 @@ element-copy-out-phases c =
 
 returns-2 : tie.Need-returns-2
 returns-2 c =
-    let start : tie.Start = search in let component : tie.After-size = search in let there : tie.After-component-count = search in
+    let start : tie.Start = search in let component : tie.After-u8-to-usize = search in let there : tie.After-component-count = search in
     let cs = componentsIn (now (start .args .components)) in
-    let number = component .size .result in
-    let e = component .size .ensures in
+    let number = component .u8-to-usize .result in
+    let e = component .u8-to-usize .ensures in
     let l : number < length cs = omega (arith, there .component-count .ensures) in
     rule-by cs (ruleOf (start .args .rule)) (start .pre .0) (rw (← e) l) (start .pre .1 .holds number l ∙ ap (λ c. componentAt cs c .phases) e)
 

@@ -35,8 +35,8 @@ loop-again c =
     let l = at-loop .loop in
     let b = one-most (c .before .is-atomic .result) in (
       omega arith,
-      omega (arith, c .one-if .ensures, b),
-      ap₂ _+_ (l .inv .2) (c .one-if .ensures ∙ ap (λ (b : Bool). cond b 1 0) (c .before .is-atomic .ensures)) ∙ kept-more (isAtomic (componentsIn (start .args .components .now))) (l .c),
+      omega (arith, c .bool-to-usize .ensures, b),
+      ap₂ _+_ (l .inv .2) (c .bool-to-usize .ensures ∙ ap (λ (b : Bool). cond b 1 0) (c .before .is-atomic .ensures)) ∙ kept-more (isAtomic (componentsIn (start .args .components .now))) (l .c),
     )
 
 returns : tie.Need-returns Inv-loop μ-loop

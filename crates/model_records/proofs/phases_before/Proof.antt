@@ -22,11 +22,12 @@ loop-holds c = (omega arith, omega arith, sym (before-none (componentsIn (now (c
 
 loop-again : tie.Need-loop-again Inv-loop μ-loop
 loop-again c =
-    let start : tie.Start Inv-loop μ-loop = search in let after-size : tie.After-size Inv-loop μ-loop = search in
+    let start : tie.Start Inv-loop μ-loop = search in let after-u8-to-usize : tie.After-u8-to-usize Inv-loop μ-loop = search in
     let at-loop : tie.At-loop Inv-loop μ-loop = search in
     let l = at-loop .loop in
     let cs = componentsIn (now (start .args .components)) in
-    let e : c .size2 .result ≡ componentAt cs (l .i) .phases = c .size2 .ensures ∙ ap (λ k. k .phases) (c .before .component-at .ensures) ∙ ap (λ i. componentAt cs i .phases) (after-size .size .ensures) in
+    let e : c .u8-to-usize2 .result ≡ componentAt cs (l .i) .phases = c .u8-to-usize2 .ensures ∙ ap (λ k. k .phases) (c .before .component-at .ensures)
+    ∙ ap (λ i. componentAt cs i .phases) (after-u8-to-usize .u8-to-usize .ensures) in
     (omega arith, omega arith, omega (arith, before-more cs (l .i)))
 
 returns : tie.Need-returns Inv-loop μ-loop

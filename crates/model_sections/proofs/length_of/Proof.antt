@@ -10,10 +10,10 @@ few : (count size : ℕ) → count ≤ 65535 → size ≤ 255 → count * size �
 few count size h l = mul-le-mul {n₁ = count} {m₁ = size} {n₂ = 65535} {m₂ = 255} h l
 
 mul-result : tie.Need-mul-result
-mul-result c = omega (arith, few (c .size16 .result) (c .before .args .size) (omega arith) (omega arith))
+mul-result c = omega (arith, few (c .u16-to-usize .result) (c .before .args .size) (omega arith) (omega arith))
 
 returns : tie.Need-returns
-returns c = (rw (c .size16 .ensures), omega (arith, few (c .size16 .result) (c .before .args .size) (omega arith) (omega arith)))
+returns c = (rw (c .u16-to-usize .ensures), omega (arith, few (c .u16-to-usize .result) (c .before .args .size) (omega arith) (omega arith)))
 
 pub length-of-spec : {M : Type 1} → statement M
 length-of-spec = tie.close (tie.spec (search needs) mul-result returns)

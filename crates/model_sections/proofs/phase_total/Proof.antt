@@ -20,13 +20,14 @@ abbrev μ-loop : tie.MeasureT-loop
 μ-loop components phase-counts owners total₀ c₀ total c = owners - c
 
 -- The phase count that is read, and its bound.
-own : (c : tie.After-size Inv-loop μ-loop) → (c .size .result ≡ componentAt (componentsIn (now (c .before .before .before .before .before .before .args .components))) (c .before .before .before .loop .c) .phases) × (c .size .result ≤ 64)
+own : (c : tie.After-u8-to-usize Inv-loop μ-loop) → (c .u8-to-usize .result ≡ componentAt
+    (componentsIn (now (c .before .before .before .before .before .before .args .components))) (c .before .before .before .loop .c) .phases) × (c .u8-to-usize .result ≤ 64)
 own c =
     let start : tie.Start Inv-loop μ-loop = search in let at-loop : tie.At-loop Inv-loop μ-loop = search in
     let after-component-count : tie.After-component-count Inv-loop μ-loop = search in
     let cs = componentsIn (now (start .args .components)) in
     let b : at-loop .loop .c < length cs = omega (arith, after-component-count .component-count .ensures) in
-    let e = c .size .ensures ∙ start .pre .1 .holds (at-loop .loop .c) b in
+    let e = c .u8-to-usize .ensures ∙ start .pre .1 .holds (at-loop .loop .c) b in
     (e, rw e (phases-few cs (at-loop .loop .c) (start .pre .0 .fit (at-loop .loop .c) b)))
 
 loop-holds : tie.Need-loop-holds Inv-loop μ-loop
@@ -34,8 +35,8 @@ loop-holds c =
     let start : tie.Start Inv-loop μ-loop = search in
     (omega arith, omega arith, sym (before-none (componentsIn (now (start .args .components)))))
 
-element-copy-out-size : tie.Need-element-copy-out-size Inv-loop μ-loop
-element-copy-out-size c =
+element-copy-out-u8-to-usize : tie.Need-element-copy-out-u8-to-usize Inv-loop μ-loop
+element-copy-out-u8-to-usize c =
     let start : tie.Start Inv-loop μ-loop = search in let after-component-count : tie.After-component-count Inv-loop μ-loop = search in
     omega (arith, after-component-count .component-count .ensures, start .pre .0 .few)
 
@@ -63,5 +64,5 @@ returns c =
 
 pub phase-total-spec : {M : Type 1} → statement M
 phase-total-spec =
-    tie.close (tie.spec Inv-loop μ-loop (λ c κs. search needs) loop-holds element-copy-out-size (λ c κs. search needs) add-total (λ c. search needs)
+    tie.close (tie.spec Inv-loop μ-loop (λ c κs. search needs) loop-holds element-copy-out-u8-to-usize (λ c κs. search needs) add-total (λ c. search needs)
     (λ c. search needs) loop-again returns)

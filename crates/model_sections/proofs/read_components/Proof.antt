@@ -32,16 +32,19 @@ few c =
 returns : tie.Need-returns Inv-loop μ-loop
 unfolding componentSection
 returns c =
-    let announced : tie.After-u16-at Inv-loop μ-loop = search in let count : tie.After-size16 Inv-loop μ-loop = search in
+    let announced : tie.After-u16-at Inv-loop μ-loop = search in let count : tie.After-u16-to-usize Inv-loop μ-loop = search in
     let judged : tie.After-component-count-refusal Inv-loop μ-loop = search in
-    (head-refused componentForm _ (announced .u16-at .ensures) (count .size16 .ensures) (judged .component-count-refusal .ensures) (c .before .head-number .ensures) (c .if1 .taken), tt)
+    (head-refused componentForm _ (announced .u16-at .ensures) (count .u16-to-usize .ensures) (judged .component-count-refusal .ensures) (c .before .head-number .ensures) (c .if1 .taken), tt)
 
 loop-holds : tie.Need-loop-holds Inv-loop μ-loop
 loop-holds c =
     let start : tie.Start Inv-loop μ-loop = search in let announced : tie.After-u16-at Inv-loop μ-loop = search in
-    let count : tie.After-size16 Inv-loop μ-loop = search in let judged : tie.After-component-count-refusal Inv-loop μ-loop = search in
-    let head : tie.After-head-number Inv-loop μ-loop = search in
-    (reading-starts componentForm _ (announced .u16-at .ensures) (count .size16 .ensures) (judged .component-count-refusal .ensures) (head .head-number .ensures) (c .before .if1 .left) (c .section-part .ensures) (omega arith), known-none (start .pre .0) (start .pre .1) (length-replicate {A = ℕ} 64 0))
+    let count : tie.After-u16-to-usize Inv-loop μ-loop = search in let judged : tie.After-component-count-refusal Inv-loop μ-loop = search in
+    let head : tie.After-head-number Inv-loop μ-loop = search in (
+      reading-starts componentForm _ (announced .u16-at .ensures) (count .u16-to-usize .ensures) (judged .component-count-refusal .ensures) (head .head-number .ensures)
+          (c .before .if1 .left) (c .section-part .ensures) (omega arith),
+      known-none (start .pre .0) (start .pre .1) (length-replicate {A = ℕ} 64 0),
+    )
 
 read-component-requires : tie.Need-read-component-requires Inv-loop μ-loop
 unfolding componentsIn

@@ -35,19 +35,24 @@ returns : tie.Need-returns Inv-loop2 μ-loop2 Inv-loop μ-loop
 unfolding phaseSection
 returns c =
     let announced : tie.After-u16-at Inv-loop2 μ-loop2 Inv-loop μ-loop = search in
-    let count : tie.After-size16 Inv-loop2 μ-loop2 Inv-loop μ-loop = search in
+    let count : tie.After-u16-to-usize Inv-loop2 μ-loop2 Inv-loop μ-loop = search in
     let sum : tie.After-phase-total Inv-loop2 μ-loop2 Inv-loop μ-loop = search in
     let judged : tie.After-phase-count-refusal Inv-loop2 μ-loop2 Inv-loop μ-loop = search in
-    head-refused (phaseForm _) _ (announced .u16-at .ensures) (count .size16 .ensures) (rw (← sum .phase-total .ensures) (judged .phase-count-refusal .ensures)) (c .before .head-number .ensures) (c .if1 .taken)
+    head-refused (phaseForm _) _ (announced .u16-at .ensures) (count .u16-to-usize .ensures) (rw (← sum .phase-total .ensures) (judged .phase-count-refusal .ensures))
+    (c .before .head-number .ensures) (c .if1 .taken)
 
 loop-holds : tie.Need-loop-holds Inv-loop2 μ-loop2 Inv-loop μ-loop
 loop-holds c =
     let announced : tie.After-u16-at Inv-loop2 μ-loop2 Inv-loop μ-loop = search in
-    let count : tie.After-size16 Inv-loop2 μ-loop2 Inv-loop μ-loop = search in
+    let count : tie.After-u16-to-usize Inv-loop2 μ-loop2 Inv-loop μ-loop = search in
     let sum : tie.After-phase-total Inv-loop2 μ-loop2 Inv-loop μ-loop = search in
     let judged : tie.After-phase-count-refusal Inv-loop2 μ-loop2 Inv-loop μ-loop = search in
-    let head : tie.After-head-number Inv-loop2 μ-loop2 Inv-loop μ-loop = search in
-    (reading-starts (phaseForm _) _ (announced .u16-at .ensures) (count .size16 .ensures) (rw (← sum .phase-total .ensures) (judged .phase-count-refusal .ensures)) (head .head-number .ensures) (c .before .if1 .left) (c .section-part .ensures) (omega arith), omega arith, sym (before-none _))
+    let head : tie.After-head-number Inv-loop2 μ-loop2 Inv-loop μ-loop = search in (
+      reading-starts (phaseForm _) _ (announced .u16-at .ensures) (count .u16-to-usize .ensures) (rw (← sum .phase-total .ensures) (judged .phase-count-refusal .ensures))
+          (head .head-number .ensures) (c .before .if1 .left) (c .section-part .ensures) (omega arith),
+      omega arith,
+      sym (before-none _),
+    )
 
 element-copy-out-bound : tie.Need-element-copy-out-bound Inv-loop2 μ-loop2 Inv-loop μ-loop
 element-copy-out-bound c =
@@ -83,9 +88,9 @@ returns-2 c =
 
 add-i : tie.Need-add-i Inv-loop2 μ-loop2 Inv-loop μ-loop
 add-i c =
-    let count : tie.After-size16 Inv-loop2 μ-loop2 Inv-loop μ-loop = search in let loop : tie.At-loop2 Inv-loop2 μ-loop2 Inv-loop μ-loop = search in
+    let count : tie.After-u16-to-usize Inv-loop2 μ-loop2 Inv-loop μ-loop = search in let loop : tie.At-loop2 Inv-loop2 μ-loop2 Inv-loop μ-loop = search in
     let turn : tie.In-loop2 Inv-loop2 μ-loop2 Inv-loop μ-loop = search in
-    let below : loop .loop2 .i < count .size16 .result = standing-below (loop .loop2 .inv .1) (turn .loop2-test .taken) _ (reading-right (loop .loop2 .inv .0)) in
+    let below : loop .loop2 .i < count .u16-to-usize .result = standing-below (loop .loop2 .inv .1) (turn .loop2-test .taken) _ (reading-right (loop .loop2 .inv .0)) in
     omega arith
 
 add-p : tie.Need-add-p Inv-loop2 μ-loop2 Inv-loop μ-loop

@@ -21,15 +21,16 @@ abbrev μ-loop : tie.MeasureT-loop
 returns : tie.Need-returns Inv-loop μ-loop
 unfolding ruleSection
 returns c =
-    let announced : tie.After-u16-at Inv-loop μ-loop = search in let count : tie.After-size16 Inv-loop μ-loop = search in
+    let announced : tie.After-u16-at Inv-loop μ-loop = search in let count : tie.After-u16-to-usize Inv-loop μ-loop = search in
     let judged : tie.After-limit-refusal Inv-loop μ-loop = search in
-    head-refused (ruleForm _) _ (announced .u16-at .ensures) (count .size16 .ensures) (judged .limit-refusal .ensures) (c .before .head-number .ensures) (c .if1 .taken)
+    head-refused (ruleForm _) _ (announced .u16-at .ensures) (count .u16-to-usize .ensures) (judged .limit-refusal .ensures) (c .before .head-number .ensures) (c .if1 .taken)
 
 loop-holds : tie.Need-loop-holds Inv-loop μ-loop
 loop-holds c =
-    let announced : tie.After-u16-at Inv-loop μ-loop = search in let count : tie.After-size16 Inv-loop μ-loop = search in
+    let announced : tie.After-u16-at Inv-loop μ-loop = search in let count : tie.After-u16-to-usize Inv-loop μ-loop = search in
     let judged : tie.After-limit-refusal Inv-loop μ-loop = search in let head : tie.After-head-number Inv-loop μ-loop = search in
-    reading-starts (ruleForm _) _ (announced .u16-at .ensures) (count .size16 .ensures) (judged .limit-refusal .ensures) (head .head-number .ensures) (c .before .if1 .left) (c .section-part .ensures) (omega arith)
+    reading-starts (ruleForm _) _ (announced .u16-at .ensures) (count .u16-to-usize .ensures) (judged .limit-refusal .ensures) (head .head-number .ensures) (c .before .if1 .left)
+    (c .section-part .ensures) (omega arith)
 
 read-rule-requires : tie.Need-read-rule-requires Inv-loop μ-loop
 unfolding rulesIn

@@ -69,11 +69,11 @@ loop-again c =
     let g = atomic-said (componentsIn (a .components .now)) (l .c) (componentOf (after-component-at .component-at .result)) (after-component-at .component-at .ensures) in
     let e = ap₂ (λ (x y : Bool). x && not y) g f in
     let h : l .c < length (componentsIn (a .components .now)) = omega (arith, after-component-count .component-count .ensures) in
-    let o = c .before .one-if .ensures ∙ ap (λ (b : Bool). cond b 1 0) g in (
+    let o = c .before .bool-to-usize .ensures ∙ ap (λ (b : Bool). cond b 1 0) g in (
       omega arith,
-      omega (arith, c .before .one-if .ensures, one-most (eqb (after-component-at .component-at .result .kind) 1)),
-      omega (arith, c .size .ensures, after-struct-known .struct-known .given),
-      ap₂ _+_ (l .inv .3) (c .size .ensures ∙ ap (λ (k : Component). k .phases) (after-component-at .component-at .ensures)) ∙ sym (before-more (componentsIn (a .components .now)) (l .c)),
+      omega (arith, c .before .bool-to-usize .ensures, one-most (eqb (after-component-at .component-at .result .kind) 1)),
+      omega (arith, c .u8-to-usize .ensures, after-struct-known .struct-known .given),
+      ap₂ _+_ (l .inv .3) (c .u8-to-usize .ensures ∙ ap (λ (k : Component). k .phases) (after-component-at .component-at .ensures)) ∙ sym (before-more (componentsIn (a .components .now)) (l .c)),
       rw o (left-more (componentsIn (a .components .now)) (l .c) h (l .k) _ (l .inv .4)),
       rw o (fit-more (a .components .now) (a .phases .now) s (l .c) (l .k) h (l .inv .4) (sym e ∙ else1 .if1 .left)) ∙ l .inv .5,
     )

@@ -22,10 +22,10 @@ add-long c =
 
 returns : tie.Need-returns
 returns c =
-    let start : tie.Start = search in let after-size16 : tie.After-size16 = search in let after-u16-at : tie.After-u16-at = search in
+    let start : tie.Start = search in let after-u16-to-usize : tie.After-u16-to-usize = search in let after-u16-at : tie.After-u16-at = search in
     let after-opening-of : tie.After-opening-of = search in let after-atomic-count : tie.After-atomic-count = search in
     let a = start .args in
-    rw (c .entries-fit .ensures, after-size16 .size16 .ensures, after-u16-at .u16-at .ensures, after-opening-of .opening-of .ensures)
+    rw (c .entries-fit .ensures, after-u16-to-usize .u16-to-usize .ensures, after-u16-at .u16-at .ensures, after-opening-of .opening-of .ensures)
     (fits-said (a .components .now) (a .phases .now) (a .run .now) (after-atomic-count .atomic-count .result) (after-atomic-count .atomic-count .ensures))
 
 pub fits-spec : {M : Type 1} → statement M

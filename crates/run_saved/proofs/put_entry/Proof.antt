@@ -18,10 +18,16 @@ put-number-requires-2 c κs = search needs
 returns : tie.Need-returns
 returns c =
     let start : tie.Start = search in let after-put-number2 : tie.After-put-number2 = search in
-    let after-put-number : tie.After-put-number = search in let after-wide : tie.After-wide = search in
+    let after-put-number : tie.After-put-number = search in let after-u8-to-u64 : tie.After-u8-to-u64 = search in
     let after-phase-at : tie.After-phase-at = search in let after-last-at : tie.After-last-at = search in
     let a = start .args in
-    rw (after-put-number2 .put-number2 .ensures, after-put-number .put-number .ensures, after-wide .wide .ensures, after-phase-at .phase-at .ensures, after-last-at .last-at .ensures) (entry-put (a .run .now) (a .i) (heldAt (heldIn (a .state .now)) (a .i)))
+    rw (
+      after-put-number2 .put-number2 .ensures,
+      after-put-number .put-number .ensures,
+      after-u8-to-u64 .u8-to-u64 .ensures,
+      after-phase-at .phase-at .ensures,
+      after-last-at .last-at .ensures,
+    ) (entry-put (a .run .now) (a .i) (heldAt (heldIn (a .state .now)) (a .i)))
 
 pub put-entry-spec : {M : Type 1} → statement M
 put-entry-spec =

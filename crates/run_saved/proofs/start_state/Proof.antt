@@ -46,14 +46,16 @@ loop-again c =
     let cs = componentsIn (start .args .components .now) in
     let own = after-component-at .component-at .result in
     let g = atomic-said cs (l .c) (componentOf own) (after-component-at .component-at .ensures) in
-    let o = c .one-if .ensures ∙ ap (λ (b : Bool). cond b 1 0) g in
+    let o = c .bool-to-usize .ensures ∙ ap (λ (b : Bool). cond b 1 0) g in
     let st = heldIn (l .state) in
     let new = sym (after-put-at .put-at .ensures .held) in (
       omega arith,
-      omega (arith, c .one-if .ensures, one-most (eqb (own .kind) 1)),
+      omega (arith, c .bool-to-usize .ensures, one-most (eqb (own .kind) 1)),
       ap₂ _+_ (l .inv .2) o ∙ kept-more (isAtomic cs) (l .c),
       subst Wide new (wide-changed st (l .k) (own .initial) 0 (l .inv .3)),
-      subst (λ (s : State). entriesOf (l .k + c .one-if .result) s ≡ startedTo cs (l .c + 1)) new (rw o (started-more cs st (l .c) (l .k) (own .initial) (l .inv .3) (omega (arith, after-component-count .component-count .ensures, start .pre)) (ap (λ (k : Component). k .initial) (after-component-at .component-at .ensures)) (l .inv .4))),
+      subst (λ (s : State). entriesOf (l .k + c .bool-to-usize .result) s ≡ startedTo cs (l .c + 1)) new
+          (rw o (started-more cs st (l .c) (l .k) (own .initial) (l .inv .3) (omega (arith, after-component-count .component-count .ensures, start .pre))
+          (ap (λ (k : Component). k .initial) (after-component-at .component-at .ensures)) (l .inv .4))),
     )
 
 returns : tie.Need-returns Inv-loop μ-loop

@@ -14,13 +14,23 @@ same-length c =
 
 returns : tie.Need-returns
 returns c =
-    let start : tie.Start = search in let after-put-field4 : tie.After-put-field4 = search in let after-wide2 : tie.After-wide2 = search in
+    let start : tie.Start = search in let after-put-field4 : tie.After-put-field4 = search in let after-u16-to-u642 : tie.After-u16-to-u642 = search in
     let after-u16-at : tie.After-u16-at = search in let after-put-field3 : tie.After-put-field3 = search in
-    let after-wide8 : tie.After-wide8 = search in let after-byte-at : tie.After-byte-at = search in
-    let after-put-field2 : tie.After-put-field2 = search in let after-wide : tie.After-wide = search in
+    let after-u8-to-u64 : tie.After-u8-to-u64 = search in let after-byte-at : tie.After-byte-at = search in
+    let after-put-field2 : tie.After-put-field2 = search in let after-u16-to-u64 : tie.After-u16-to-u64 = search in
     let after-put-field : tie.After-put-field = search in
     let a = start .args in
-    rw (after-put-field4 .put-field4 .ensures, after-wide2 .wide2 .ensures, after-u16-at .u16-at .ensures, after-put-field3 .put-field3 .ensures, after-wide8 .wide8 .ensures, after-byte-at .byte-at .ensures, after-put-field2 .put-field2 .ensures, after-wide .wide .ensures, after-put-field .put-field .ensures)
+    rw (
+      after-put-field4 .put-field4 .ensures,
+      after-u16-to-u642 .u16-to-u642 .ensures,
+      after-u16-at .u16-at .ensures,
+      after-put-field3 .put-field3 .ensures,
+      after-u8-to-u64 .u8-to-u64 .ensures,
+      after-byte-at .byte-at .ensures,
+      after-put-field2 .put-field2 .ensures,
+      after-u16-to-u64 .u16-to-u64 .ensures,
+      after-put-field .put-field .ensures,
+    )
     (sym (message-line (a .moment) (a .step) (now (a .row)) (now (a .out), a .at)))
 
 pub put-message-spec : {M : Type 1} → statement M

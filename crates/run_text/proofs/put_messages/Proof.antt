@@ -20,24 +20,28 @@ abbrev μ-loop : tie.MeasureT-loop
 μ-loop out₀ at moment step count rows n k₀ to₀ out k to = n - k
 
 loop-holds : tie.Need-loop-holds Inv-loop μ-loop
-loop-holds c = (refl, omega arith, rw (c .size16 .ensures, sub-zero))
+loop-holds c = (refl, omega arith, rw (c .u16-to-usize .ensures, sub-zero))
 
 loop-again : tie.Need-loop-again Inv-loop μ-loop
 loop-again c =
     let start : tie.Start Inv-loop μ-loop = search in let after-put-message : tie.After-put-message Inv-loop μ-loop = search in
     let after-rest : tie.After-rest Inv-loop μ-loop = search in let at-loop : tie.At-loop Inv-loop μ-loop = search in
-    let after-size16 : tie.After-size16 Inv-loop μ-loop = search in
-    let a = start .args in let l = at-loop .loop in
-    (after-put-message .put-message .kept .0 ∙ l .inv .0, omega arith, rw (after-put-message .put-message .ensures, after-rest .rest .ensures) (messages-more (after-size16 .size16 .result) (l .k) (a .moment) (a .step) (now (a .rows)) (l .out, l .to) (omega arith) ∙ l .inv .2))
+    let after-u16-to-usize : tie.After-u16-to-usize Inv-loop μ-loop = search in
+    let a = start .args in let l = at-loop .loop in (
+      after-put-message .put-message .kept .0 ∙ l .inv .0,
+      omega arith,
+      rw (after-put-message .put-message .ensures, after-rest .rest .ensures)
+          (messages-more (after-u16-to-usize .u16-to-usize .result) (l .k) (a .moment) (a .step) (now (a .rows)) (l .out, l .to) (omega arith) ∙ l .inv .2),
+    )
 
 same-length : tie.Need-same-length Inv-loop μ-loop
 same-length c = c .before .loop .inv .0
 
 returns : tie.Need-returns Inv-loop μ-loop
 returns c =
-    let start : tie.Start Inv-loop μ-loop = search in let after-size16 : tie.After-size16 Inv-loop μ-loop = search in
+    let start : tie.Start Inv-loop μ-loop = search in let after-u16-to-usize : tie.After-u16-to-usize Inv-loop μ-loop = search in
     let a = start .args in let l = c .before .loop in
-    let z : after-size16 .size16 .result - l .k ≡ 0 = omega arith in
+    let z : after-u16-to-usize .u16-to-usize .result - l .k ≡ 0 = omega arith in
     sym (messages-none (a .moment) (a .step) (drop (messageSize * l .k) (now (a .rows))) (l .out, l .to)) ∙ rw (← z) (l .inv .2)
 
 pub put-messages-spec : {M : Type 1} → statement M

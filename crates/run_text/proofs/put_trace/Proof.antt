@@ -36,8 +36,11 @@ loop-again : tie.Need-loop-again Inv-loop μ-loop
 loop-again c =
     let start : tie.Start Inv-loop μ-loop = search in let after-put-record : tie.After-put-record Inv-loop μ-loop = search in
     let after-rest : tie.After-rest Inv-loop μ-loop = search in let at-loop : tie.At-loop Inv-loop μ-loop = search in
-    let a = start .args in let l = at-loop .loop in
-    (after-put-record .put-record .kept .0 ∙ l .inv .0, rw (c .size16 .ensures, c .before .u16-at .ensures, after-put-record .put-record .ensures, after-rest .rest .ensures) (lines-more (l .turns) (l .from) (now (a .trace)) (l .out, l .to) (omega arith) (omega arith) ∙ l .inv .1))
+    let a = start .args in let l = at-loop .loop in (
+      after-put-record .put-record .kept .0 ∙ l .inv .0,
+      rw (c .u16-to-usize .ensures, c .before .u16-at .ensures, after-put-record .put-record .ensures, after-rest .rest .ensures)
+          (lines-more (l .turns) (l .from) (now (a .trace)) (l .out, l .to) (omega arith) (omega arith) ∙ l .inv .1),
+    )
 
 same-length-2 : tie.Need-same-length-2 Inv-loop μ-loop
 same-length-2 c = c .before .loop .inv .0

@@ -6,7 +6,7 @@ use Rattle.table_components.proofs.field_of.Tie as tie
 returns-5 : tie.Need-returns-5
 returns-5 c =
     let after-enum-told5 : tie.After-enum-told5 = search in
-    rw (after-enum-told5 .enum-told5 .given .1) (c .one-if .ensures)
+    rw (after-enum-told5 .enum-told5 .given .1) (c .bool-to-u8 .ensures)
 
 pub field-of-spec : {M : Type 1} → statement M
 field-of-spec =

@@ -29,7 +29,7 @@ loop-again c =
     let a = start .args in
     let l = at-loop .loop in
     let f = fieldAt (a .which) (componentsIn (now (a .components))) in
-    let v : c .word .result ≡ f (l .c) = c .word .ensures ∙ c .before .field-at .ensures in
+    let v : c .u8-to-u16 .result ≡ f (l .c) = c .u8-to-u16 .ensures ∙ c .before .field-at .ensures in
     (omega arith, simp length-set (l .inv .1), rw v (column-more (a .at) f (after-component-count .component-count .result) (l .c) (l .t) (omega arith)) ∙ l .inv .2)
 
 same-length : tie.Need-same-length Inv-loop μ-loop

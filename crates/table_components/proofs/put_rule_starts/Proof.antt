@@ -26,12 +26,12 @@ loop-holds c = (omega arith, refl, rw (c .rule-word .ensures))
 loop-again : tie.Need-loop-again Inv-loop μ-loop
 loop-again c =
     let start : tie.Start Inv-loop μ-loop = search in let after-put-in : tie.After-put-in Inv-loop μ-loop = search in
-    let after-size : tie.After-size Inv-loop μ-loop = search in let after-rule-name : tie.After-rule-name Inv-loop μ-loop = search in
+    let after-u8-to-usize : tie.After-u8-to-usize Inv-loop μ-loop = search in let after-rule-name : tie.After-rule-name Inv-loop μ-loop = search in
     let at-loop : tie.At-loop Inv-loop μ-loop = search in
     let a = start .args in
     let l = at-loop .loop in
     let rs = rulesIn (now (a .rules)) in
-    let k : after-size .size .result ≡ ruleNames rs (l .i - 1) = after-size .size .ensures ∙ after-rule-name .rule-name .ensures in
+    let k : after-u8-to-usize .u8-to-usize .result ≡ ruleNames rs (l .i - 1) = after-u8-to-usize .u8-to-usize .ensures ∙ after-rule-name .rule-name .ensures in
     let e : after-put-in .put-in .last .0 ≡ putIn rulesFromAt maxComponents (ruleNames rs (l .i - 1)) (l .i - 1) (l .t) = rw k at (after-put-in .put-in .ensures) in
     (omega arith, after-put-in .put-in .kept .0 ∙ l .inv .1, ap (ruleStarts rs (l .i - 1)) e ∙ starts-more rs (l .i) (l .t) (omega arith) ∙ l .inv .2)
 

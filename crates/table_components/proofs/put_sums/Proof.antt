@@ -33,7 +33,7 @@ loop-again c =
     let l = at-loop .loop in
     let cs = componentsIn (now (a .components)) in
     let f = fieldsBefore (a .which) cs in
-    let v : c .word .result ≡ fieldAt (a .which) cs (l .c) = c .word .ensures ∙ c .before .field-at .ensures in
+    let v : c .u8-to-u16 .result ≡ fieldAt (a .which) cs (l .c) = c .u8-to-u16 .ensures ∙ c .before .field-at .ensures in
     let s : l .c < length cs = omega (arith, after-component-count .component-count .ensures) in
     (omega arith, omega arith, omega (arith, fields-more (a .which) cs (l .c) s), simp length-set (l .inv .3), rw (l .inv .2) (column-more (a .at) f (after-component-count .component-count .result) (l .c) (l .t) (omega arith)) ∙ l .inv .4)
 

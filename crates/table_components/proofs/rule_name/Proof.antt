@@ -22,7 +22,7 @@ returns c =
     let a = start .args in
     let n = length-records 18 toRule (now (a .rules)) in
     let e : getD (rulesIn (now (a .rules))) (a .i) noRule ≡ toRule (row 18 (a .i) (now (a .rules))) = record-in 18 toRule (now (a .rules)) (a .i) noRule (omega (arith, start .pre)) in
-    rw (c .byte-at .ensures, c .before .size16 .ensures) (sym (ap (λ k. k .component) e ∙ rw (number-row 1 0 18 (a .i) (now (a .rules)) (omega arith), add-zero)))
+    rw (c .byte-at .ensures, c .before .u16-to-usize .ensures) (sym (ap (λ k. k .component) e ∙ rw (number-row 1 0 18 (a .i) (now (a .rules)) (omega arith), add-zero)))
 
 pub rule-name-spec : {M : Type 1} → statement M
 rule-name-spec = tie.close (tie.spec (λ c κs. search needs) (λ c. search needs) (λ c κs. search needs) returns)

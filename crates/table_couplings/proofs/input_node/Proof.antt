@@ -6,7 +6,7 @@ use Rattle.table_couplings.proofs.input_node.Tie as tie
 
 returns : tie.Need-returns
 unfolding inputNode
-returns c = rw (c .word2 .ensures, c .before .word .ensures)
+returns c = rw (c .u8-to-u162 .ensures, c .before .u8-to-u16 .ensures)
 
 pub input-node-spec : {M : Type 1} → statement M
 input-node-spec =

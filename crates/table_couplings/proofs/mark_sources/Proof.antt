@@ -29,7 +29,7 @@ loop-holds c = (omega arith, rw sub-zero)
 loop-again : tie.Need-loop-again Inv-loop μ-loop
 loop-again c =
     let start : tie.Start Inv-loop μ-loop = search in let after-is-atomic : tie.After-is-atomic Inv-loop μ-loop = search in
-    let after-put-four : tie.After-put-four Inv-loop μ-loop = search in let after-flag : tie.After-flag Inv-loop μ-loop = search in
+    let after-put-four : tie.After-put-four Inv-loop μ-loop = search in let after-bool-to-u16 : tie.After-bool-to-u16 Inv-loop μ-loop = search in
     let at-loop : tie.At-loop Inv-loop μ-loop = search in let after-component-count : tie.After-component-count Inv-loop μ-loop = search in
     let a = start .args in
     let l = at-loop .loop in
@@ -38,8 +38,13 @@ loop-again c =
     let n = portNodes * after-component-count .component-count .result in
     let x = portNodes * l .c in
     let e : portNodes * (l .c + 1) ≡ x + 4 + 4 = omega arith in
-    let v : c .before .flag2 .result ≡ cond (isAtomic cs (l .c)) 1 0 = rw (← after-is-atomic .is-atomic .ensures) (c .before .flag2 .ensures) in
-    (omega arith, ap (λ y. column liveAt f (n - y) y (c .put-four2 .last .0)) e ∙ ap (column liveAt f (n - (x + 4 + 4)) (x + 4 + 4)) (c .put-four2 .ensures) ∙ four-more liveAt f n (x + 4) (c .before .flag2 .result) (after-put-four .put-four .last .0) (omega arith) (λ k h. output-flag cs (l .c) k h ∙ sym v) ∙ ap (column liveAt f (n - (x + 4)) (x + 4)) (after-put-four .put-four .ensures) ∙ four-more liveAt f n x (after-flag .flag .result) (l .t) (omega arith) (λ k h. input-flag cs (l .c) k h ∙ sym (after-flag .flag .ensures)) ∙ l .inv .1)
+    let v : c .before .bool-to-u162 .result ≡ cond (isAtomic cs (l .c)) 1 0 = rw (← after-is-atomic .is-atomic .ensures) (c .before .bool-to-u162 .ensures) in (
+      omega arith,
+      ap (λ y. column liveAt f (n - y) y (c .put-four2 .last .0)) e ∙ ap (column liveAt f (n - (x + 4 + 4)) (x + 4 + 4)) (c .put-four2 .ensures)
+          ∙ four-more liveAt f n (x + 4) (c .before .bool-to-u162 .result) (after-put-four .put-four .last .0) (omega arith) (λ k h. output-flag cs (l .c) k h ∙ sym v)
+          ∙ ap (column liveAt f (n - (x + 4)) (x + 4)) (after-put-four .put-four .ensures)
+          ∙ four-more liveAt f n x (after-bool-to-u16 .bool-to-u16 .result) (l .t) (omega arith) (λ k h. input-flag cs (l .c) k h ∙ sym (after-bool-to-u16 .bool-to-u16 .ensures)) ∙ l .inv .1,
+    )
 
 returns : tie.Need-returns Inv-loop μ-loop
 returns c =

@@ -7,8 +7,8 @@ use Rattle.table_couplings.proofs.output_node.Tie as tie
 returns : tie.Need-returns
 unfolding outputNode
 returns c =
-    let after-word : tie.After-word = search in
-    rw (c .word3 .ensures, c .before .word2 .ensures, after-word .word .ensures)
+    let after-u8-to-u16 : tie.After-u8-to-u16 = search in
+    rw (c .u8-to-u163 .ensures, c .before .u8-to-u162 .ensures, after-u8-to-u16 .u8-to-u16 .ensures)
 
 pub output-node-spec : {M : Type 1} → statement M
 output-node-spec =

@@ -12,19 +12,21 @@ use Rattle.table_couplings.proofs.source_node.Tie as tie
 returns : tie.Need-returns
 unfolding sourceNumber
 returns c =
-    let start : tie.Start = search in let after-is-child : tie.After-is-child = search in let after-size2 : tie.After-size2 = search in
-    let after-size : tie.After-size = search in
+    let start : tie.Start = search in let after-is-child : tie.After-is-child = search in let after-u8-to-usize2 : tie.After-u8-to-usize2 = search in
+    let after-u8-to-usize : tie.After-u8-to-usize = search in
     let k = start .args .k in
-    let e : isChild (componentsIn (now (start .args .components))) (k .source) (k .target) ≡ true = rw (after-size .size .ensures, after-size2 .size2 .ensures) at (sym (after-is-child .is-child .ensures) ∙ c .before .if1 .taken) in
+    let e : isChild (componentsIn (now (start .args .components))) (k .source) (k .target) ≡ true =
+    rw (after-u8-to-usize .u8-to-usize .ensures, after-u8-to-usize2 .u8-to-usize2 .ensures) at (sym (after-is-child .is-child .ensures) ∙ c .before .if1 .taken) in
     rw e (c .input-node .ensures)
 
 returns-2 : tie.Need-returns-2
 unfolding sourceNumber
 returns-2 c =
-    let start : tie.Start = search in let after-is-child : tie.After-is-child = search in let after-size2 : tie.After-size2 = search in
-    let after-size : tie.After-size = search in
+    let start : tie.Start = search in let after-is-child : tie.After-is-child = search in let after-u8-to-usize2 : tie.After-u8-to-usize2 = search in
+    let after-u8-to-usize : tie.After-u8-to-usize = search in
     let k = start .args .k in
-    let e : isChild (componentsIn (now (start .args .components))) (k .source) (k .target) ≡ false = rw (after-size .size .ensures, after-size2 .size2 .ensures) at (sym (after-is-child .is-child .ensures) ∙ c .before .if1 .left) in
+    let e : isChild (componentsIn (now (start .args .components))) (k .source) (k .target) ≡ false =
+    rw (after-u8-to-usize .u8-to-usize .ensures, after-u8-to-usize2 .u8-to-usize2 .ensures) at (sym (after-is-child .is-child .ensures) ∙ c .before .if1 .left) in
     rw e (c .output-node .ensures)
 
 pub source-node-spec : {M : Type 1} → statement M

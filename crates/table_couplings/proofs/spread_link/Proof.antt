@@ -9,15 +9,15 @@ use Rattle.table_couplings.proofs.spread_link.Tie as tie
 
 spread-one-requires : tie.Need-spread-one-requires
 spread-one-requires c κs =
-    let start : tie.Start = search in let after-size16 : tie.After-size16 = search in
+    let start : tie.Start = search in let after-u16-to-usize : tie.After-u16-to-usize = search in
     let p = start .pre in
-    rw (after-size16 .size16 .ensures) (p .1, p .2)
+    rw (after-u16-to-usize .u16-to-usize .ensures) (p .1, p .2)
 
 returns : tie.Need-returns
 returns c =
-    let start : tie.Start = search in let after-size16 : tie.After-size16 = search in
+    let start : tie.Start = search in let after-u16-to-usize : tie.After-u16-to-usize = search in
     let a = start .args in
-    c .spread-one .ensures ∙ ap (λ j. spread (sourceIn (now (a .t)) j) (getD (now (a .targets)) j 0) (now (a .t))) (after-size16 .size16 .ensures)
+    c .spread-one .ensures ∙ ap (λ j. spread (sourceIn (now (a .t)) j) (getD (now (a .targets)) j 0) (now (a .t))) (after-u16-to-usize .u16-to-usize .ensures)
 
 pub spread-link-spec : {M : Type 1} → statement M
 spread-link-spec =

@@ -16,17 +16,17 @@ use Rattle.table_couplings.proofs.spread_one.Tie as tie
 returns : tie.Need-returns
 unfolding spread putIn
 returns c =
-    let start : tie.Start = search in let after-size16 : tie.After-size16 = search in
+    let start : tie.Start = search in let after-u16-to-usize : tie.After-u16-to-usize = search in
     let a = start .args in
-    let e : isLive (now (a .t)) (a .x) ≡ true = unfold isLive in rw (after-size16 .size16 .ensures) at (c .before .if1 .taken) in
-    rw (e, c .size162 .ensures, lt-ltb (a .y) (portNodes * maxComponents) (start .pre .1))
+    let e : isLive (now (a .t)) (a .x) ≡ true = unfold isLive in rw (after-u16-to-usize .u16-to-usize .ensures) at (c .before .if1 .taken) in
+    rw (e, c .u16-to-usize2 .ensures, lt-ltb (a .y) (portNodes * maxComponents) (start .pre .1))
 
 returns-2 : tie.Need-returns-2
 unfolding spread
 returns-2 c =
-    let start : tie.Start = search in let after-size16 : tie.After-size16 = search in
+    let start : tie.Start = search in let after-u16-to-usize : tie.After-u16-to-usize = search in
     let a = start .args in
-    let e : isLive (now (a .t)) (a .x) ≡ false = unfold isLive in rw (after-size16 .size16 .ensures) at (c .if1 .left) in
+    let e : isLive (now (a .t)) (a .x) ≡ false = unfold isLive in rw (after-u16-to-usize .u16-to-usize .ensures) at (c .if1 .left) in
     rw e
 
 pub spread-one-spec : {M : Type 1} → statement M

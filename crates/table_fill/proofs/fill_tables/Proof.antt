@@ -4,11 +4,10 @@ use borrow.Author.Needs.{needs}
 use native.Mathlib.Omega.{arith}
 use mathlib.Core.Path.{sym, ap, _∙_}
 use denote.Ref.{now}
-use lib.ListN.{getD, set}
+use lib.ListN.{getD}
 use Rattle.model_records.specs.Values.{componentsIn, rulesIn, couplingsIn}
-use Rattle.spec_step.specs.Tables.{countAt}
 use Rattle.table_components.specs.Columns.{byComponent, byRule, byParent}
-use Rattle.table_couplings.specs.Links.{zeros, begun, byCoupling}
+use Rattle.table_couplings.specs.Links.{byCoupling}
 use Rattle.table_couplings.proofs.Begun.{joined-kept}
 use Rattle.table_fill.specs.Filled.{filled}
 use Rattle.table_fill.proofs.Holding.{above3}

@@ -14,7 +14,7 @@ returns : tie.Need-returns
 unfolding linkAt
 returns c =
     let then1 : tie.Then1 = search in
-    rw (lt-ltb _ _ (then1 .if1 .taken), c .size16 .ensures)
+    rw (lt-ltb _ _ (then1 .if1 .taken), c .u16-to-usize .ensures)
 
 returns-2 : tie.Need-returns-2
 unfolding linkAt

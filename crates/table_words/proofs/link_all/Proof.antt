@@ -22,12 +22,13 @@ loop-holds c = (omega arith, refl, refl)
 loop-again : tie.Need-loop-again Inv-loop μ-loop
 loop-again c =
     let start : tie.Start Inv-loop μ-loop = search in let after-link : tie.After-link Inv-loop μ-loop = search in
-    let after-size162 : tie.After-size162 Inv-loop μ-loop = search in let after-word-at : tie.After-word-at Inv-loop μ-loop = search in
-    let after-size16 : tie.After-size16 Inv-loop μ-loop = search in let at-loop : tie.At-loop Inv-loop μ-loop = search in
+    let after-u16-to-usize2 : tie.After-u16-to-usize2 Inv-loop μ-loop = search in let after-word-at : tie.After-word-at Inv-loop μ-loop = search in
+    let after-u16-to-usize : tie.After-u16-to-usize Inv-loop μ-loop = search in let at-loop : tie.At-loop Inv-loop μ-loop = search in
     let a = start .args in
     let l = at-loop .loop in
     let key : ℕ → ℕ = λ j. getD (now (a .keys)) j 0 in
-    let k : after-size162 .size162 .result ≡ key (l .j) = after-size162 .size162 .ensures ∙ after-word-at .word-at .ensures ∙ ap key (after-size16 .size16 .ensures) in
+    let k : after-u16-to-usize2 .u16-to-usize2 .result ≡ key (l .j) = after-u16-to-usize2 .u16-to-usize2 .ensures ∙ after-word-at .word-at .ensures
+    ∙ ap key (after-u16-to-usize .u16-to-usize .ensures) in
     let s : after-link .link .last .0 ≡ linkAt (a .first) (a .size) (a .next) (key (l .j)) (l .j) (l .t) = rw k at (after-link .link .ensures) in
     (omega arith, after-link .link .kept .0 ∙ l .inv .1, ap (linked (a .first) (a .size) (a .next) key (l .j - 1)) s ∙ linked-more (a .first) (a .size) (a .next) key (l .j) (l .t) (omega arith) ∙ l .inv .2)
 

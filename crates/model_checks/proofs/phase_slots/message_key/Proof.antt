@@ -9,8 +9,8 @@ use Rattle.model_checks.proofs.phase_slots.message_key.Tie as tie
 
 returns : tie.Need-returns
 returns c =
-    let start : tie.Start = search in let port : tie.After-size = search in
-    rw (c .size16 .ensures, port .size .ensures) (message-of-key (messageOf (start .args .message)) (omega arith))
+    let start : tie.Start = search in let port : tie.After-u8-to-usize = search in
+    rw (c .u16-to-usize .ensures, port .u8-to-usize .ensures) (message-of-key (messageOf (start .args .message)) (omega arith))
 
 pub message-key-spec : {M : Type 1} → statement M
 message-key-spec = tie.close (tie.spec (search needs) (search needs) (search needs) (search needs) returns)
