@@ -35,15 +35,6 @@ put-decimal-returns t c =
     let start : put-decimal-lts.Start (put-decimal-calls t) (put-decimal-at t) put-decimal.Post = search in
     let a = start .args in sym (decimal-none (a .k) (a .n) (now (a .out), a .at) (c .if1 .taken))
 
-put-decimal-digit-requires : (t : ℕ) → put-decimal-lts.Need-digit-requires (put-decimal-calls t) (put-decimal-at t) put-decimal.Post
-put-decimal-digit-requires t c κs = search needs
-
-put-decimal-put-byte-requires : (t : ℕ) → put-decimal-lts.Need-put-byte-requires (put-decimal-calls t) (put-decimal-at t) put-decimal.Post
-put-decimal-put-byte-requires t c κs = search needs
-
-put-decimal-same-length : (t : ℕ) → put-decimal-lts.Need-same-length (put-decimal-calls t) (put-decimal-at t) put-decimal.Post
-put-decimal-same-length t c = search needs
-
 put-decimal-returns-2 : (t : ℕ) → put-decimal-lts.Need-returns-2 (put-decimal-calls t) (put-decimal-at t) put-decimal.Post
 put-decimal-returns-2 t c =
     let start : put-decimal-lts.Start (put-decimal-calls t) (put-decimal-at t) put-decimal.Post = search in
@@ -53,21 +44,6 @@ put-decimal-returns-2 t c =
     let a = start .args in
     let page : Page = (now (a .out), a .at) in
     after-put-byte .put-byte .ensures ∙ ap (λ b. put1 b page) (after-digit .digit .ensures) ∙ sym (decimal-one (a .k) (a .n) page (omega arith) (then2 .if2 .taken))
-
-put-decimal-sub-put-decimal : (t : ℕ) → put-decimal-lts.Need-sub-put-decimal (put-decimal-calls t) (put-decimal-at t) put-decimal.Post
-put-decimal-sub-put-decimal t c = search needs
-
-put-decimal-put-decimal-requires : (t : ℕ) → put-decimal-lts.Need-put-decimal-requires (put-decimal-calls t) (put-decimal-at t) put-decimal.Post
-put-decimal-put-decimal-requires t c κs = search needs
-
-put-decimal-digit-requires-2 : (t : ℕ) → put-decimal-lts.Need-digit-requires-2 (put-decimal-calls t) (put-decimal-at t) put-decimal.Post
-put-decimal-digit-requires-2 t c κs = search needs
-
-put-decimal-put-byte-requires-2 : (t : ℕ) → put-decimal-lts.Need-put-byte-requires-2 (put-decimal-calls t) (put-decimal-at t) put-decimal.Post
-put-decimal-put-byte-requires-2 t c κs = search needs
-
-put-decimal-same-length-2 : (t : ℕ) → put-decimal-lts.Need-same-length-2 (put-decimal-calls t) (put-decimal-at t) put-decimal.Post
-put-decimal-same-length-2 t c = search needs
 
 put-decimal-returns-3 : (t : ℕ) → put-decimal-lts.Need-returns-3 (put-decimal-calls t) (put-decimal-at t) put-decimal.Post
 put-decimal-returns-3 t c =
@@ -82,17 +58,7 @@ put-decimal-returns-3 t c =
     ∙ sym (decimal-more (a .k) (a .n) page (omega arith) (omega arith))
 
 pub +put-decimal-spec : {M : Type 1} → statement M
-+put-decimal-spec = close μ-put-decimal λ t. put-decimal-lts.spec (put-decimal-calls t)
-    (put-decimal-at t)
-    put-decimal.Post
-    (put-decimal-returns t)
-    (put-decimal-digit-requires t)
-    (put-decimal-put-byte-requires t)
-    (put-decimal-same-length t)
-    (put-decimal-returns-2 t)
-    (put-decimal-sub-put-decimal t)
-    (put-decimal-put-decimal-requires t)
-    (put-decimal-digit-requires-2 t)
-    (put-decimal-put-byte-requires-2 t)
-    (put-decimal-same-length-2 t)
-    (put-decimal-returns-3 t)
++put-decimal-spec =
+    close μ-put-decimal λ t. put-decimal-lts.spec (put-decimal-calls t) (put-decimal-at t) put-decimal.Post (put-decimal-returns t) (λ c κs. search needs)
+    (λ c κs. search needs) (λ c. search needs) (put-decimal-returns-2 t) (λ c. search needs) (λ c κs. search needs) (λ c κs. search needs)
+    (λ c κs. search needs) (λ c. search needs) (put-decimal-returns-3 t)

@@ -47,28 +47,32 @@ end-below-μ-loop tables state c least₀ left₀ d₀ least left d = left
 abbrev end-below-calls : ℕ → end-below-lts.Claims
 end-below-calls t = (is-atomic-reads.Asked, is-atomic-reads.Learnt, end-of-reads.Asked, end-of-reads.Learnt, row-in-reads.Asked, row-in-reads.Learnt, lesser-reads.Asked, lesser-reads.Learnt, end-below-below t, end-below.Post)
 
-end-below-is-atomic-requires : (t : ℕ) → end-below-lts.Need-is-atomic-requires (end-below-calls t) (end-below-at t) end-below.Post end-below-Inv-loop end-below-μ-loop
-end-below-is-atomic-requires t c κs = search needs
+abbrev end-below-Start : ℕ → Type 0
+end-below-Start t = end-below-lts.Start (end-below-calls t) (end-below-at t) end-below.Post end-below-Inv-loop end-below-μ-loop
+
+abbrev end-below-After-is-atomic : ℕ → Type 0
+end-below-After-is-atomic t = end-below-lts.After-is-atomic (end-below-calls t) (end-below-at t) end-below.Post end-below-Inv-loop end-below-μ-loop
+
+abbrev end-below-At-loop : ℕ → Type 0
+end-below-At-loop t = end-below-lts.At-loop (end-below-calls t) (end-below-at t) end-below.Post end-below-Inv-loop end-below-μ-loop
+
+abbrev end-below-In-loop : ℕ → Type 0
+end-below-In-loop t = end-below-lts.In-loop (end-below-calls t) (end-below-at t) end-below.Post end-below-Inv-loop end-below-μ-loop
 
 end-below-end-of-requires : (t : ℕ) → end-below-lts.Need-end-of-requires (end-below-calls t) (end-below-at t) end-below.Post end-below-Inv-loop end-below-μ-loop
 end-below-end-of-requires t c κs =
-    let start : end-below-lts.Start (end-below-calls t) (end-below-at t) end-below.Post end-below-Inv-loop end-below-μ-loop = search in
+    let start : end-below-Start t = search in
     start .pre .1
 
 end-below-returns : (t : ℕ) → end-below-lts.Need-returns (end-below-calls t) (end-below-at t) end-below.Post end-below-Inv-loop end-below-μ-loop
 end-below-returns t c =
-    let start : end-below-lts.Start (end-below-calls t) (end-below-at t) end-below.Post end-below-Inv-loop end-below-μ-loop = search in
-    let after-is-atomic : end-below-lts.After-is-atomic (end-below-calls t) (end-below-at t) end-below.Post end-below-Inv-loop end-below-μ-loop = search in
+    let start : end-below-Start t = search in let after-is-atomic : end-below-After-is-atomic t = search in
     let a = start .args in
     c .end-of .ensures ∙ end-atomic (now (a .tables)) (endsIn (now (a .state))) (a .c) (sym (after-is-atomic .is-atomic .ensures) ∙ c .before .if1 .taken)
 
-end-below-row-in-requires : (t : ℕ) → end-below-lts.Need-row-in-requires (end-below-calls t) (end-below-at t) end-below.Post end-below-Inv-loop end-below-μ-loop
-end-below-row-in-requires t c κs = search needs
-
 end-below-loop-holds : (t : ℕ) → end-below-lts.Need-loop-holds (end-below-calls t) (end-below-at t) end-below.Post end-below-Inv-loop end-below-μ-loop
 end-below-loop-holds t c =
-    let start : end-below-lts.Start (end-below-calls t) (end-below-at t) end-below.Post end-below-Inv-loop end-below-μ-loop = search in
-    let after-is-atomic : end-below-lts.After-is-atomic (end-below-calls t) (end-below-at t) end-below.Post end-below-Inv-loop end-below-μ-loop = search in
+    let start : end-below-Start t = search in let after-is-atomic : end-below-After-is-atomic t = search in
     let a = start .args in
     let q = start .pre .1 in
     let child = c .row-in .ensures in
@@ -79,50 +83,38 @@ end-below-is-atomic-requires-2 t c κs = c .before .loop .inv .1
 
 end-below-end-of-requires-2 : (t : ℕ) → end-below-lts.Need-end-of-requires-2 (end-below-calls t) (end-below-at t) end-below.Post end-below-Inv-loop end-below-μ-loop
 end-below-end-of-requires-2 t c κs =
-    let start : end-below-lts.Start (end-below-calls t) (end-below-at t) end-below.Post end-below-Inv-loop end-below-μ-loop = search in
-    let at-loop : end-below-lts.At-loop (end-below-calls t) (end-below-at t) end-below.Post end-below-Inv-loop end-below-μ-loop = search in
+    let start : end-below-Start t = search in let at-loop : end-below-At-loop t = search in
     (at-loop .loop .inv .1, start .pre .1 .1)
-
-end-below-lesser-requires : (t : ℕ) → end-below-lts.Need-lesser-requires (end-below-calls t) (end-below-at t) end-below.Post end-below-Inv-loop end-below-μ-loop
-end-below-lesser-requires t c κs = search needs
 
 end-below-end-below-requires : (t : ℕ) → end-below-lts.Need-end-below-requires (end-below-calls t) (end-below-at t) end-below.Post end-below-Inv-loop end-below-μ-loop
 end-below-end-below-requires t c κs =
-    let start : end-below-lts.Start (end-below-calls t) (end-below-at t) end-below.Post end-below-Inv-loop end-below-μ-loop = search in
-    let in-loop : end-below-lts.In-loop (end-below-calls t) (end-below-at t) end-below.Post end-below-Inv-loop end-below-μ-loop = search in
-    let at-loop : end-below-lts.At-loop (end-below-calls t) (end-below-at t) end-below.Post end-below-Inv-loop end-below-μ-loop = search in
+    let start : end-below-Start t = search in let in-loop : end-below-In-loop t = search in let at-loop : end-below-At-loop t = search in
     let l = at-loop .loop in
     let p : 0 < l .d = ltb-true 0 (l .d) (and-right (ltb 0 (l .left)) (ltb 0 (l .d)) (in-loop .loop-test .taken)) in
     (omega (arith, l .inv .1, l .inv .2 p, start .pre .0), (l .inv .1, start .pre .1 .1))
 
-end-below-lesser-requires-2 : (t : ℕ) → end-below-lts.Need-lesser-requires-2 (end-below-calls t) (end-below-at t) end-below.Post end-below-Inv-loop end-below-μ-loop
-end-below-lesser-requires-2 t c κs = search needs
-
 end-below-row-in-requires-2 : (t : ℕ) → end-below-lts.Need-row-in-requires-2 (end-below-calls t) (end-below-at t) end-below.Post end-below-Inv-loop end-below-μ-loop
 end-below-row-in-requires-2 t c κs =
-    let at-loop : end-below-lts.At-loop (end-below-calls t) (end-below-at t) end-below.Post end-below-Inv-loop end-below-μ-loop = search in
+    let at-loop : end-below-At-loop t = search in
     (omega arith, at-loop .loop .inv .1)
 
 end-below-sub-left : (t : ℕ) → end-below-lts.Need-sub-left (end-below-calls t) (end-below-at t) end-below.Post end-below-Inv-loop end-below-μ-loop
 end-below-sub-left t c =
-    let in-loop : end-below-lts.In-loop (end-below-calls t) (end-below-at t) end-below.Post end-below-Inv-loop end-below-μ-loop = search in
-    let at-loop : end-below-lts.At-loop (end-below-calls t) (end-below-at t) end-below.Post end-below-Inv-loop end-below-μ-loop = search in
+    let in-loop : end-below-In-loop t = search in let at-loop : end-below-At-loop t = search in
     let l = at-loop .loop in
     omega (arith, ltb-true 0 (l .left) (and-left (ltb 0 (l .left)) (ltb 0 (l .d)) (in-loop .loop-test .taken)))
 
 end-below-loop-less : (t : ℕ) → end-below-lts.Need-loop-less (end-below-calls t) (end-below-at t) end-below.Post end-below-Inv-loop end-below-μ-loop
 end-below-loop-less t c =
-    let in-loop : end-below-lts.In-loop (end-below-calls t) (end-below-at t) end-below.Post end-below-Inv-loop end-below-μ-loop = search in
-    let at-loop : end-below-lts.At-loop (end-below-calls t) (end-below-at t) end-below.Post end-below-Inv-loop end-below-μ-loop = search in
+    let in-loop : end-below-In-loop t = search in let at-loop : end-below-At-loop t = search in
     let l = at-loop .loop in
     omega (arith, ltb-true 0 (l .left) (and-left (ltb 0 (l .left)) (ltb 0 (l .d)) (in-loop .loop-test .taken)))
 
 end-below-loop-again : (t : ℕ) → end-below-lts.Need-loop-again (end-below-calls t) (end-below-at t) end-below.Post end-below-Inv-loop end-below-μ-loop
 end-below-loop-again t c =
-    let start : end-below-lts.Start (end-below-calls t) (end-below-at t) end-below.Post end-below-Inv-loop end-below-μ-loop = search in
+    let start : end-below-Start t = search in
     let after-is-atomic2 : end-below-lts.After-is-atomic2 (end-below-calls t) (end-below-at t) end-below.Post end-below-Inv-loop end-below-μ-loop = search in
-    let in-loop : end-below-lts.In-loop (end-below-calls t) (end-below-at t) end-below.Post end-below-Inv-loop end-below-μ-loop = search in
-    let at-loop : end-below-lts.At-loop (end-below-calls t) (end-below-at t) end-below.Post end-below-Inv-loop end-below-μ-loop = search in
+    let in-loop : end-below-In-loop t = search in let at-loop : end-below-At-loop t = search in
     let a = start .args in
     let q = start .pre .1 in
     let l = at-loop .loop in
@@ -140,29 +132,15 @@ end-below-loop-again t c =
 
 end-below-returns-2 : (t : ℕ) → end-below-lts.Need-returns-2 (end-below-calls t) (end-below-at t) end-below.Post end-below-Inv-loop end-below-μ-loop
 end-below-returns-2 t c =
-    let start : end-below-lts.Start (end-below-calls t) (end-below-at t) end-below.Post end-below-Inv-loop end-below-μ-loop = search in
+    let start : end-below-Start t = search in
     let a = start .args in
     let l = c .before .loop in
     least-end (now (a .tables)) (endBelow (now (a .tables)) (endsIn (now (a .state))) levelsLeft) (l .left) (l .d) (l .least) (l .inv .3) (c .loop-test .left) ∙ l .inv .4
 
 pub +end-below-spec : {M : Type 1} → statement M
-+end-below-spec = close μ-end-below λ t. end-below-lts.spec (end-below-calls t)
-    (end-below-at t)
-    end-below.Post
-    end-below-Inv-loop
-    end-below-μ-loop
-    (end-below-is-atomic-requires t)
-    (end-below-end-of-requires t)
-    (end-below-returns t)
-    (end-below-row-in-requires t)
-    (end-below-loop-holds t)
-    (end-below-is-atomic-requires-2 t)
-    (end-below-end-of-requires-2 t)
-    (end-below-lesser-requires t)
-    (end-below-end-below-requires t)
-    (end-below-lesser-requires-2 t)
-    (end-below-row-in-requires-2 t)
-    (end-below-sub-left t)
-    (end-below-loop-less t)
-    (end-below-loop-again t)
++end-below-spec =
+    close μ-end-below λ t. end-below-lts.spec (end-below-calls t) (end-below-at t) end-below.Post end-below-Inv-loop end-below-μ-loop
+    (λ c κs. search needs) (end-below-end-of-requires t) (end-below-returns t) (λ c κs. search needs) (end-below-loop-holds t)
+    (end-below-is-atomic-requires-2 t) (end-below-end-of-requires-2 t) (λ c κs. search needs) (end-below-end-below-requires t)
+    (λ c κs. search needs) (end-below-row-in-requires-2 t) (end-below-sub-left t) (end-below-loop-less t) (end-below-loop-again t)
     (end-below-returns-2 t)

@@ -170,11 +170,6 @@ collect-input-returns-2 t c =
     let f = arrivingFrom (now (a .phases)) (now (a .tables)) (now (a .flags)) (now (a .given)) (a .depth - 1) in
     sym (chain-end f (now (a .tables)) (a .port) (l .left) (l .link) (l .buf, l .next) (c .loop-test .left)) ∙ l .inv .3
 
-collect-source-same-length : (t : ℕ) → collect-source-lts.Need-same-length (collect-source-calls t) (collect-source-at t) collect-source.Post
-collect-source-same-length t c =
-    let after-put-given : collect-source-lts.After-put-given (collect-source-calls t) (collect-source-at t) collect-source.Post = search in
-    after-put-given .put-given .kept .1 .1 .1 .0
-
 collect-source-returns : (t : ℕ) → collect-source-lts.Need-returns (collect-source-calls t) (collect-source-at t) collect-source.Post
 unfolding sourceIn isOutput
 collect-source-returns t c =
@@ -208,22 +203,12 @@ collect-source-collect-input-requires t c κs =
     let entered = sym (after-is-open .is-open .ensures) ∙ not-false _ (c .before .if3 .left) in
     (search needs, record { below = p .below; in-range = p .in-range; enters = entered; not-root = else2 .if2 .left })
 
-collect-source-same-length-2 : (t : ℕ) → collect-source-lts.Need-same-length-2 (collect-source-calls t) (collect-source-at t) collect-source.Post
-collect-source-same-length-2 t c =
-    let after-collect-input : collect-source-lts.After-collect-input (collect-source-calls t) (collect-source-at t) collect-source.Post = search in
-    after-collect-input .collect-input .kept .1 .1 .1 .1 .1 .1 .1 .0
-
 collect-source-returns-3 : (t : ℕ) → collect-source-lts.Need-returns-3 (collect-source-calls t) (collect-source-at t) collect-source.Post
 unfolding sourceIn isOutput
 collect-source-returns-3 t c =
     let after-collect-input : collect-source-lts.After-collect-input (collect-source-calls t) (collect-source-at t) collect-source.Post = search in
     let then1 : collect-source-lts.Then1 (collect-source-calls t) (collect-source-at t) collect-source.Post = search in
     rw (lt-ltb _ _ (then1 .if1 .taken)) (after-collect-input .collect-input .ensures)
-
-collect-source-same-length-3 : (t : ℕ) → collect-source-lts.Need-same-length-3 (collect-source-calls t) (collect-source-at t) collect-source.Post
-collect-source-same-length-3 t c =
-    let after-put-output : collect-source-lts.After-put-output (collect-source-calls t) (collect-source-at t) collect-source.Post = search in
-    after-put-output .put-output .kept .1 .1 .1 .1 .0
 
 collect-source-returns-4 : (t : ℕ) → collect-source-lts.Need-returns-4 (collect-source-calls t) (collect-source-at t) collect-source.Post
 unfolding sourceIn isOutput childOut
@@ -254,11 +239,6 @@ collect-source-collect-coupled-requires t c κs =
     let p = start .pre .1 in
     record { below = p .below; in-range = p .in-range; enters = sym (after-is-open2 .is-open2 .ensures) ∙ not-false _ (c .before .if5 .left) }
 
-collect-source-same-length-4 : (t : ℕ) → collect-source-lts.Need-same-length-4 (collect-source-calls t) (collect-source-at t) collect-source.Post
-collect-source-same-length-4 t c =
-    let after-collect-coupled : collect-source-lts.After-collect-coupled (collect-source-calls t) (collect-source-at t) collect-source.Post = search in
-    after-collect-coupled .collect-coupled .kept .1 .1 .1 .1 .1 .1 .0
-
 collect-source-returns-6 : (t : ℕ) → collect-source-lts.Need-returns-6 (collect-source-calls t) (collect-source-at t) collect-source.Post
 unfolding sourceIn isOutput childOut
 collect-source-returns-6 t c =
@@ -275,7 +255,7 @@ pub +collect-input+collect-source-spec : {M : Type 1} → statement M
     (collect-input-source-of-requires t) (λ c. search needs) (collect-input-collect-source-requires t) (collect-input-next-link-requires t)
     (collect-input-sub-left t) (collect-input-loop-less t) (collect-input-loop-again t) (collect-input-same-length t) (collect-input-returns-2 t))
     λ t. collect-source-lts.spec (collect-source-calls t) (collect-source-at t) collect-source.Post (λ c κs. search needs) (λ c κs. search needs)
-    (collect-source-same-length t) (collect-source-returns t) (λ c κs. search needs) (collect-source-returns-2 t)
-    (collect-source-collect-input-requires t) (collect-source-same-length-2 t) (collect-source-returns-3 t) (λ c κs. search needs)
-    (λ c κs. search needs) (collect-source-same-length-3 t) (collect-source-returns-4 t) (λ c κs. search needs) (collect-source-returns-5 t)
-    (collect-source-collect-coupled-requires t) (collect-source-same-length-4 t) (collect-source-returns-6 t)
+    (λ c. search needs) (collect-source-returns t) (λ c κs. search needs) (collect-source-returns-2 t)
+    (collect-source-collect-input-requires t) (λ c. search needs) (collect-source-returns-3 t) (λ c κs. search needs)
+    (λ c κs. search needs) (λ c. search needs) (collect-source-returns-4 t) (λ c κs. search needs) (collect-source-returns-5 t)
+    (collect-source-collect-coupled-requires t) (λ c. search needs) (collect-source-returns-6 t)
