@@ -1,22 +1,20 @@
 // The call flatten, whole: the check of the model, its tables, the rows of the flat form, the room, and then the bytes.
 ghost use mathlib.Core.Path.{_≡_};
-ghost use Prim.Native.Nat.{_≤_};
 ghost use lib.ListN.{length};
-ghost use Rattle.definition.specs.Bytes.{ok};
-ghost use Rattle.definition.specs.Limits.{maxComponents, maxRoutes};
-ghost use Rattle.definition.specs.Pinned.Decoder.{accepted};
 ghost use Rattle.definition.specs.Flatten.{flatten};
-ghost use Rattle.model_file.specs.Checked.{modelOf};
-ghost use Rattle.spec_step.specs.TablesOf.{TablesOf};
 ghost use Rattle.call_start.specs.Answers.{wroteOf};
+ghost use Rattle.call_flatten.specs.Found.{CanFlatten, FlatFound};
 use accept_routes::Counted;
 use call_start::Written;
 use model_file::Checked;
 use model_file::Counts;
 use table_words::TABLE_SIZE;
 
-// Room for as many rows as a model may have routes.
+// A flat form has at most as many rows as a model may have routes.
 const MAX_ROWS: usize = 1024;
+
+// Room for them, and behind them for half as many: their sort takes that as its scratch.
+const ROW_WORDS: usize = MAX_ROWS + MAX_ROWS / 2;
 
 fn wide(x: usize) -> u64
     ensures { λ r. ⌜ r ≡ x ⌝ }
@@ -30,41 +28,62 @@ fn wide16(x: u16) -> u64
     x as u64
 }
 
-fn small(x: usize) -> u8
-    requires { ⌜ x ≤ maxComponents ⌝ }
-    ensures { λ r. ⌜ r ≡ x ⌝ }
-{
-    x as u8
+// What is found of a flat form before it is written: how many rows and how many bytes it has.
+struct Found {
+    rows: usize,
+    size: usize,
 }
 
-// The flat form of an accepted file with so many records, where there is room for it.
-fn flatten_accepted(
+// The rows of an accepted model's flat form, sorted, at the front of `rows`, and its size.
+fn find_flat(file: &[u8], n: Counts, tables: &[u16; TABLE_SIZE], rows: &mut [u32]) -> Found
+    requires { ⌜ CanFlatten (now file) n (now tables) (length (now rows)) ⌝ }
+    ensures { λ r. ⌜ FlatFound (now (file .entry)) n (now (tables .entry)) (now (rows .exit)) r ⌝ }
+{
+    let phases = model_file::phases_of(file, n);
+    let rules = model_file::rules_of(file, n);
+    let atomics = table_words::atomics_in(tables);
+    let count = flat_rows::flat_rows(tables, atomics, rows);
+    Found {
+        rows: count,
+        size: flat_writer::flat_size(phases, rules, atomics, count),
+    }
+}
+
+// The flat form that was found, where there is room for it.
+fn write_flat(
     file: &[u8],
     n: Counts,
     tables: &[u16; TABLE_SIZE],
-    rows: &mut [u32],
-    scratch: &mut [u32],
+    rows: &[u32],
+    found: Found,
     out: &mut [u8],
 ) -> Written
-    requires { ⌜ (ok (modelOf (now file) n) ≡ accepted (now file)) × TablesOf (modelOf (now file) n) (now tables) × (length (now rows) ≡ maxRoutes) × (length (now scratch) ≡ maxRoutes) ⌝ }
+    requires { ⌜ FlatFound (now file) n (now tables) (now rows) found ⌝ }
     ensures { λ r. ⌜ wroteOf r (now (out .exit)) ≡ flatten (now (file .entry)) (now (out .entry)) ⌝ }
 {
-    let components = model_file::components_of(file, n);
-    let phases = model_file::phases_of(file, n);
-    let rules = model_file::rules_of(file, n);
-    let atomics = small(model_records::atomic_count(components));
-    let count = flat_rows::flat_rows(tables, atomics, rows, scratch);
-    let size = flat_writer::flat_size(phases, rules, atomics, count);
-    if out.len() < size {
+    if out.len() < found.size {
         return Written {
             number: 15,
             bytes: 0,
         };
     }
-    flat_writer::put_flat(components, phases, rules, tables, atomics, rows, count, out);
+    let components = model_file::components_of(file, n);
+    let phases = model_file::phases_of(file, n);
+    let rules = model_file::rules_of(file, n);
+    let atomics = table_words::atomics_in(tables);
+    flat_writer::put_flat(
+        components,
+        phases,
+        rules,
+        tables,
+        atomics,
+        rows,
+        found.rows,
+        out,
+    );
     Written {
         number: 0,
-        bytes: wide(size),
+        bytes: wide(found.size),
     }
 }
 
@@ -81,7 +100,7 @@ pub fn flatten(file: &[u8], out: &mut [u8]) -> Written
             bytes: 0,
         };
     };
-    let mut rows: [u32; MAX_ROWS] = [0; MAX_ROWS];
-    let mut scratch: [u32; MAX_ROWS] = [0; MAX_ROWS];
-    flatten_accepted(file, n, &tables, &mut rows, &mut scratch, out)
+    let mut rows: [u32; ROW_WORDS] = [0; ROW_WORDS];
+    let found = find_flat(file, n, &tables, &mut rows);
+    write_flat(file, n, &tables, &rows, found, out)
 }

@@ -2,15 +2,13 @@
 // sorted. So a route is walked once, and ways that lead nowhere are not entered.
 ghost use mathlib.Core.Path.{_≡_};
 ghost use mathlib.Core.List.{map};
-ghost use Prim.Native.Nat.{_+_, _<_, _≤_};
+ghost use Prim.Native.Nat.{_<_, _≤_};
 ghost use Rattle.definition.specs.Limits.{maxComponents};
-ghost use Rattle.spec_step.specs.Ranges.{InRange};
 ghost use lib.Dec.{leb};
 ghost use lib.ListN.{length, take};
-ghost use lib.Seq.{sets};
 ghost use Rattle.definition.specs.Lists.{sortBy};
 ghost use Rattle.flat_rows.specs.Rows.{rowNumber, rowOf, probeRows};
-ghost use Rattle.flat_rows.specs.Put.{rootRows, positionRows, allRows, CanPut, HasPut, Stand};
+ghost use Rattle.flat_rows.specs.Put.{rootRows, positionRows, allRows, CanAdd, Held, CanProbe};
 use flat_probe::put_flags;
 use flat_probe::put_probes;
 use flat_ranks::rank_of;
@@ -47,96 +45,83 @@ fn row_of(tables: &[u16; TABLE_SIZE], end: u32, key: u32) -> u32
     row_number(rank, node % 4, end, key / 65536)
 }
 
-// The rows of the messages of one end, and where the next ones go.
-fn put_rows(
-    tables: &[u16; TABLE_SIZE],
-    end: u32,
-    keys: &[u32],
-    count: usize,
-    rows: &mut [u32],
-    at: usize,
-) -> usize
-    requires { ⌜ (count ≤ length (now keys)) × (at + count ≤ length (now rows)) ⌝ }
-    ensures { λ r. ⌜ (r ≡ at + count) × (now (rows .exit) ≡ sets (now (rows .entry)) at (map (rowOf (now (tables .entry)) end) (take count (now (keys .entry))))) ⌝ }
+// The first messages of a buffer, which came to one end, each made its row in its place.
+fn make_rows(tables: &[u16; TABLE_SIZE], end: u32, rows: &mut [u32], count: usize)
+    requires { ⌜ count ≤ length (now rows) ⌝ }
+    ensures { λ _. ⌜ take count (now (rows .exit)) ≡ map (rowOf (now (tables .entry)) end) (take count (now (rows .entry))) ⌝ }
 {
     let mut i: usize = 0;
     while i < count {
-        rows[at + i] = row_of(tables, end, keys[i]);
+        rows[i] = row_of(tables, end, rows[i]);
         i = i + 1;
     }
-    at + count
 }
 
-// The rows that end at the root.
+// The rows that end at the root, at the front of `rows`.
 fn add_root(
     phases: &[u8],
     tables: &[u16; TABLE_SIZE],
     flags: &[u32; FLAGS_SIZE],
-    keys: &mut [u32],
     rows: &mut [u32],
 ) -> usize
-    requires { ⌜ CanPut (now tables) (rootRows (now phases) (now tables) (now flags)) 0 (length (now keys)) (length (now rows)) ⌝ }
-    ensures { λ r. ⌜ HasPut (rootRows (now (phases .entry)) (now (tables .entry)) (now (flags .entry))) 0 r (now (rows .entry)) (now (rows .exit)) ⌝ }
+    requires { ⌜ CanAdd (now tables) (rootRows (now phases) (now tables) (now flags)) (length (now rows)) ⌝ }
+    ensures { λ r. ⌜ Held (rootRows (now (phases .entry)) (now (tables .entry)) (now (flags .entry))) (now (rows .exit)) r ⌝ }
 {
-    let count = collect_root(phases, tables, flags, keys);
-    put_rows(tables, 0, keys, count, rows, 0)
+    let count = collect_root(phases, tables, flags, rows);
+    make_rows(tables, 0, rows, count);
+    count
 }
 
-// The rows that end at the atomic at position i.
+// The rows that end at the atomic at position i, at the front of `rows`.
 fn add_atomic(
     phases: &[u8],
     tables: &[u16; TABLE_SIZE],
     flags: &[u32; FLAGS_SIZE],
     given: &[u8],
     i: u8,
-    keys: &mut [u32],
     rows: &mut [u32],
-    at: usize,
 ) -> usize
-    requires { ⌜ (i < maxComponents)
-        × CanPut (now tables) (positionRows (now phases) (now tables) (now flags) (now given) i) at (length (now keys)) (length (now rows)) ⌝ }
-    ensures { λ r. ⌜ HasPut (positionRows (now (phases .entry)) (now (tables .entry)) (now (flags .entry)) (now (given .entry)) i) at r
-        (now (rows .entry)) (now (rows .exit)) ⌝ }
+    requires { ⌜ (i < maxComponents) × CanAdd (now tables) (positionRows (now phases) (now tables) (now flags) (now given) i) (length (now rows)) ⌝ }
+    ensures { λ r. ⌜ Held (positionRows (now (phases .entry)) (now (tables .entry)) (now (flags .entry)) (now (given .entry)) i) (now (rows .exit)) r ⌝ }
 {
     let c = row_in(tables, NUMBERS_AT, i as u16);
-    let count = collect_bag(phases, tables, flags, given, c, keys);
-    put_rows(tables, wide(i) + 1, keys, count, rows, at)
+    let count = collect_bag(phases, tables, flags, given, c, rows);
+    make_rows(tables, wide(i) + 1, rows, count);
+    count
 }
 
-// The rows of all ends.
+// The rows of all ends, each end's behind those before it.
 fn add_all(
     phases: &[u8],
     tables: &[u16; TABLE_SIZE],
     flags: &[u32; FLAGS_SIZE],
     given: &[u8],
     n: u8,
-    keys: &mut [u32],
     rows: &mut [u32],
 ) -> usize
-    requires { ⌜ (n ≤ maxComponents)
-        × CanPut (now tables) (allRows (now phases) (now tables) (now flags) (now given) n) 0 (length (now keys)) (length (now rows)) ⌝ }
-    ensures { λ r. ⌜ Stand (allRows (now (phases .entry)) (now (tables .entry)) (now (flags .entry)) (now (given .entry)) n) r (now (rows .exit)) ⌝ }
+    requires { ⌜ (n ≤ maxComponents) × CanAdd (now tables) (allRows (now phases) (now tables) (now flags) (now given) n) (length (now rows)) ⌝ }
+    ensures { λ r. ⌜ Held (allRows (now (phases .entry)) (now (tables .entry)) (now (flags .entry)) (now (given .entry)) n) (now (rows .exit)) r ⌝ }
 {
-    let mut at = add_root(phases, tables, flags, keys, rows);
+    let mut at = add_root(phases, tables, flags, rows);
     let mut i: u8 = 0;
     while i < n {
-        at = add_atomic(phases, tables, flags, given, i, keys, rows, at);
+        at = at + add_atomic(phases, tables, flags, given, i, &mut rows[at..]);
         i = i + 1;
     }
     at
 }
 
-// The rows of the flat form of a model with n atomics, sorted, at the front of `rows`; what the scratch holds afterwards is left open.
-pub fn flat_rows(tables: &[u16; TABLE_SIZE], n: u8, rows: &mut [u32], scratch: &mut [u32]) -> usize
-    requires { ⌜ (n ≤ maxComponents) × InRange (now tables) × (length (probeRows (now tables) n) ≤ length (now rows)) × (length (probeRows (now tables) n) ≤ length (now scratch)) ⌝ }
-    ensures { λ r. ⌜ (r ≡ length (probeRows (now (tables .entry)) n)) × (take r (now (rows .exit)) ≡ sortBy leb (probeRows (now (tables .entry)) n)) ⌝ }
+// The rows of the flat form of a model with n atomics, sorted, at the front of `rows`; what stands behind them is left open.
+pub fn flat_rows(tables: &[u16; TABLE_SIZE], n: u8, rows: &mut [u32]) -> usize
+    requires { ⌜ CanProbe (now tables) n (length (now rows)) ⌝ }
+    ensures { λ r. ⌜ Held (sortBy leb (probeRows (now (tables .entry)) n)) (now (rows .exit)) r ⌝ }
 {
     let mut phases: [u8; PROBE_BYTES] = [0; PROBE_BYTES];
     put_probes(&mut phases);
     let mut flags: [u32; FLAGS_SIZE] = [0; FLAGS_SIZE];
     put_flags(&mut flags);
     let given: [u8; 12] = [0, 0, 0, 1, 1, 0, 2, 2, 0, 3, 3, 0];
-    let count = add_all(&phases, tables, &flags, &given, n, scratch, rows);
-    sort::sort(rows, count, scratch);
+    let count = add_all(&phases, tables, &flags, &given, n, rows);
+    sort::sort(rows, count);
     count
 }

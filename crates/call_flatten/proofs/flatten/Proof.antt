@@ -1,4 +1,4 @@
--- A refused model gives its number (`flatten-refused`); an accepted one is flattened.
+-- A refused model gives its number (`flatten-refused`); an accepted one's flat form is found and written.
 use borrow.Author.Needs.{needs}
 use Rattle.call_flatten.proofs.Flattened.{flatten-refused}
 use Rattle.model_file.specs.Checked.{checkedAs}
@@ -9,7 +9,7 @@ use lib.ListN.{length-replicate}
 use mathlib.Core.Path.{sym, ap, _∙_, subst}
 use denote.Ref.{now}
 use Rattle.definition.specs.Limits.{maxRoutes}
-use Prim.Native.Nat.{ℕ}
+use Prim.Native.Nat.{ℕ, _+_, _/_}
 use Rattle.call_flatten.proofs.flatten.Statement.{statement}
 use Rattle.call_flatten.proofs.flatten.Tie as tie
 
@@ -23,15 +23,18 @@ returns c =
     let told = sym (ap (checkedAs (now (a .file))) (after-enum-told .enum-told .given .1)) ∙ after-open-model .open-model .ensures .0 in
     rw (c .wide16 .ensures, c .before .refusal .ensures, after-enum-told .enum-told .given .1) (flatten-refused (now (a .file)) (now (a .out)) _ told)
 
-flatten-accepted-requires : tie.Need-flatten-accepted-requires
-flatten-accepted-requires c κs =
+find-flat-requires : tie.Need-find-flat-requires
+find-flat-requires c κs =
     let start : tie.Start = search in let after-checked : tie.After-checked = search in let after-open-model : tie.After-open-model = search in
     let file = start .args .file .now in
     let r = after-open-model .open-model in
-    let is = after-checked .checked .given .1 in
-    (sym (ap (checkedAs file) is) ∙ r .ensures .0, subst (λ (k : Checked). Opened file k (r .last .1 .0)) is (r .ensures .2), length-replicate {A = ℕ} maxRoutes 0, length-replicate {A = ℕ} maxRoutes 0)
+    let is = after-checked .checked .given .1 in record {
+      accepts = sym (ap (checkedAs file) is) ∙ r .ensures .0;
+      tabled = subst (λ (k : Checked). Opened file k (r .last .1 .0)) is (r .ensures .2);
+      rooms = length-replicate {A = ℕ} (maxRoutes + maxRoutes / 2) 0;
+    }
 
 pub flatten-spec : {M : Type 1} → statement M
 flatten-spec =
     tie.close (tie.spec open-model-requires (λ c. search needs) (λ c. search needs) (λ c κs. search needs) (λ c κs. search needs) returns
-    (λ c. search needs) (λ c. search needs) flatten-accepted-requires (λ c. search needs) (λ c. search needs))
+    (λ c. search needs) find-flat-requires (λ c. search needs) (λ c κs. search needs) (λ c. search needs) (λ c. search needs))
