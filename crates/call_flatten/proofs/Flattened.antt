@@ -27,7 +27,7 @@ use Rattle.flat_rows.proofs.ProbeRows.{rows-sorted, rows-many}
 use Rattle.flat_writer.specs.Written.{flatBy}
 use Rattle.flat_writer.proofs.Sections.{flat-length}
 use Rattle.flat_writer.proofs.FlatBy.{flat-by}
-use Rattle.sort.proofs.Merging.{length-sort}
+use Rattle.sort.proofs.Fronts.{length-sort}
 use Rattle.call_flatten.specs.Found.{CanFlatten, FlatFound}
 use Rattle.call_flatten.specs.declared.Found.{Found}
 

@@ -20,7 +20,7 @@ use Rattle.spec_step.specs.Flags.{marksIn, reachedIn}
 use Rattle.law_step.proofs.Putting.{bag-front}
 use Rattle.law_stores.proofs.Fronts.{Front}
 use Rattle.sort.specs.Sorted.{SortedIn}
-use Rattle.sort.proofs.Merging.{length-sort, front-sorted, slice-set, tail-back}
+use Rattle.sort.proofs.Fronts.{length-sort, front-sorted, slice-set, tail-back}
 use Rattle.flat_probe.specs.Probe.{probes, probeFlags, probeGiven}
 use Rattle.flat_rows.specs.Rows.{rowOf, rowsAtPosition, rowsFrom, rowsAtRoot, rowsOf, probeRows}
 use Rattle.flat_rows.specs.Put.{Held}

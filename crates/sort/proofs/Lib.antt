@@ -1,3 +1,5 @@
 pub mod Least
+pub mod Fronts
 pub mod Merging
+pub mod Halves
 pub mod Keys

@@ -16,7 +16,7 @@ use Rattle.clock.specs.Times.{latest}
 use Rattle.run_state.specs.declared.State.{State}
 use Rattle.sort.proofs.Keys.{sort-messages}
 use Rattle.sort.specs.Sorted.{SortedIn}
-use Rattle.sort.proofs.Merging.{front-sorted}
+use Rattle.sort.proofs.Fronts.{front-sorted}
 use Rattle.step_simulator.specs.Simulator.{RootBag}
 use Rattle.law_routes.specs.Nodes.{inputNode, outputNode}
 use Rattle.law_base.specs.Keys.{messageOf}
