@@ -9,7 +9,11 @@ ghost use Rattle.call_advance.specs.Answers.{advancedOf};
 ghost use Rattle.call_advance.specs.LetIn.{ModelOpened, LetIn, Roomy};
 use clock::Moment;
 use instant_loop::advance_from;
+use limits::BAD_BAG;
+use limits::BAD_MOMENT;
 use limits::MAX_MOMENT;
+use limits::MESSAGES_IN;
+use limits::RUN_DOES_NOT_FIT;
 use little_endian::size;
 use model_file::Checked;
 use model_file::Counts;
@@ -27,8 +31,6 @@ pub struct Advanced {
 
 // A route carries at most 16 messages into an atomic. A model with few routes, as most have, gets a small buffer, so that a short call does
 // not pay for filling a large one with zeros.
-const MESSAGES_IN: usize = 16;
-
 const FEW_ROUTES: u16 = 64;
 
 const FEW_WORDS: usize = MESSAGES_IN * 64;
@@ -129,17 +131,17 @@ fn advance_accepted(
 {
     let components = model_file::components_of(file, n);
     if !run_saved::fits(components, model_file::phases_of(file, n), run) {
-        return refused(10);
+        return refused(RUN_DOES_NOT_FIT);
     }
     let opening = run_saved::opening_of(run);
     if t < opening.0 {
-        return refused(11);
+        return refused(BAD_MOMENT);
     }
     if MAX_MOMENT < t {
-        return refused(11);
+        return refused(BAD_MOMENT);
     }
     if !call_bag::bag_fits(bag) {
-        return refused(12);
+        return refused(BAD_BAG);
     }
     if route_count <= FEW_ROUTES {
         advance_few(file, n, tables, run, Moment(t), bag, trace)

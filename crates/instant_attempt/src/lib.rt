@@ -10,15 +10,11 @@ use clock::Moment;
 use instant_steps::Ran;
 use instant_steps::Verdict;
 use instant_steps::instant;
+use limits::BUFFER_TOO_SHORT;
+use limits::ROOT_BAG_LIMIT;
+use limits::STILL_DUE;
 use run_state::STATE_SIZE;
 use table_words::TABLE_SIZE;
-
-// The numbers of the row "each instant".
-pub const STILL_DUE: u64 = 13;
-
-pub const BAG_TOO_LARGE: u64 = 14;
-
-pub const TRACE_TOO_SHORT: u64 = 15;
 
 // How far a call has come: the records that it wrote are the first `used` bytes of its trace.
 pub struct Progress {
@@ -47,8 +43,8 @@ fn hindrance(room: usize, ran: Ran) -> u64
     let verdict = ran.verdict;
     match verdict {
         Verdict::Jammed => STILL_DUE,
-        Verdict::Over => BAG_TOO_LARGE,
-        Verdict::Stands => if room < ran.used { TRACE_TOO_SHORT } else { 0 },
+        Verdict::Over => ROOT_BAG_LIMIT,
+        Verdict::Stands => if room < ran.used { BUFFER_TOO_SHORT } else { 0 },
     }
 }
 

@@ -11,12 +11,12 @@ ghost use Rattle.definition.specs.Instant.{recordBytes};
 ghost use Rattle.law_base.specs.Keys.{messageOf};
 ghost use Rattle.instant_records.specs.Written.{recordHead, recordOf, stepSize, stepPut, wordMax};
 use clock::Moment;
+use limits::MAX_ROOT_BAG;
 use limits::MESSAGE_SIZE;
+use limits::RECORD_COUNT_AT;
 use limits::RECORD_HEAD;
+use limits::RECORD_STEP_AT;
 use little_endian::put_number;
-
-// "a step's root bag over 4,096 messages"
-pub const MAX_ROOT_BAG: usize = 4096;
 
 fn wide(x: u32) -> u64
     ensures { λ r. ⌜ r ≡ x ⌝ }
@@ -44,8 +44,8 @@ fn put_record(out: &mut [u8], at: usize, moment: Moment, step: u64, keys: &[u32]
     ensures { λ _. ⌜ now (out .exit) ≡ sets (now (out .entry)) at (recordBytes (recordOf (moment .0) step (take count (now (keys .entry))))) ⌝ }
 {
     put_number(out, at, 8, moment.0);
-    put_number(out, at + 8, 2, step);
-    put_number(out, at + 10, 2, count as u64);
+    put_number(out, at + RECORD_STEP_AT, 2, step);
+    put_number(out, at + RECORD_COUNT_AT, 2, count as u64);
     put_messages(out, at + RECORD_HEAD, keys, count);
 }
 

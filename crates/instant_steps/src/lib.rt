@@ -10,17 +10,15 @@ ghost use Rattle.run_state.specs.Held.{heldIn};
 ghost use Rattle.instant_steps.specs.Sim.{instantOf, stepOf, givenAt, Fit, Ready, Steppable, Stepped, CanRun};
 ghost use Rattle.instant_steps.specs.Verdicts.{Judged};
 use clock::Moment;
-use instant_records::MAX_ROOT_BAG;
 use instant_records::put_step;
+use limits::MAX_ROOT_BAG;
+use limits::MAX_STEPS;
 use limits::MESSAGE_SIZE;
 use run_state::STATE_SIZE;
 use step_due::next_end;
 use step_simulator::step_once;
 use table_words::TABLE_SIZE;
 use table_words::atomics_in;
-
-// "at most 1,024 in all"
-pub const MAX_STEPS: u64 = 1024;
 
 // Something still due after all steps; a step's root bag over the limit; or neither, so that the instant may stand.
 pub enum Verdict {

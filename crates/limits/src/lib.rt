@@ -72,12 +72,11 @@ pub const MAX_MOMENT: u64 = 1000000000000;
 // The latest open moment: one past the latest moment to which a run is advanced.
 pub const LATEST_OPENING: u64 = MAX_MOMENT + 1;
 
+// The latest number stands for never.
 pub const NEVER_MOMENT: u64 = 18446744073709551615;
 
-// A route carries at most so many messages into an atomic, and so many to the root.
+// A route carries at most so many messages into an atomic.
 pub const MESSAGES_IN: usize = 16;
-
-pub const MESSAGES_OUT: usize = 4;
 
 // ---- the numbers of refusals, by the names of the C header. Each has the width in which the code first answers it: a record's number one
 // byte, a file's two, a call's eight.

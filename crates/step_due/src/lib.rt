@@ -13,6 +13,7 @@ ghost use Rattle.spec_step.specs.TableStep.{recordOf, phaseIn};
 ghost use Rattle.step_due.specs.Due.{endFor, CarriedIn};
 use clock::Moment;
 use limits::MAX_COMPONENTS;
+use limits::NEVER_MOMENT;
 use little_endian::size;
 use little_endian::size16;
 use model_records::Phase;
@@ -88,9 +89,6 @@ pub fn put_ends(phases: &[u8], tables: &[u16; TABLE_SIZE], n: u8, state: &mut [u
 
 // ---- the least of them over the component tree
 
-// The latest number stands for never.
-const NEVER: u64 = 18446744073709551615;
-
 fn lesser(a: u64, b: u64) -> u64
     ensures { λ r. ⌜ r ≡ min a b ⌝ }
 {
@@ -121,7 +119,7 @@ fn end_below(tables: &[u16; TABLE_SIZE], state: &[u64; STATE_SIZE], c: u16) -> u
     if is_atomic(tables, c) {
         return end_of(tables, state, c);
     }
-    let mut least = NEVER;
+    let mut least = NEVER_MOMENT;
     let mut left = MAX_COMPONENTS;
     let mut d = row_in(tables, CHILD_AT, c);
     while (0 < left) & (0 < d) {
