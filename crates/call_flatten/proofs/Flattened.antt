@@ -7,7 +7,7 @@ use native.Mathlib.Omega.{arith}
 use lib.Dec.{leb}
 use lib.ListN.{length, getD, take}
 use Rattle.definition.specs.Lists.{sortBy}
-use Rattle.definition.specs.Bytes.{Bytes, ok, refused, stored}
+use Rattle.definition.specs.Bytes.{Bytes, refused, stored}
 use Rattle.definition.specs.Limits.{maxPhases, maxRules, maxRoutes}
 use Rattle.definition.specs.Model.{Model, atomics}
 use Rattle.definition.specs.File.{modelBytes}

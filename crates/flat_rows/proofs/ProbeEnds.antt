@@ -175,11 +175,12 @@ module _ (m : Model) (w : WellFormed m) where
   phase-values : (c p : ℕ) → all hasValue (outputs (phaseAt (probed m) c p)) ≡ true
   unfolding phaseAt outputs
   phase-values c p =
-      let ps = replicate (phaseTotal (m .components)) noPhase ++ probes in
+      let total = phaseTotal (m .components) in
+      let ps = replicate total noPhase ++ probes in
       let i = phasesBefore (m .components) c + p in
       let none : all hasValue (slots noPhase) ≡ true = (unfold all slots noPhase noMessage hasValue isValue in refl) in
       all-take hasValue (getD ps i noPhase .outputCount) _
-      (all-getD (λ (k : Phase). all hasValue (slots k)) ps i noPhase (all-append _ (replicate (phaseTotal (m .components)) noPhase) probes (all-same _ (phaseTotal (m .components)) noPhase none) probes-values) none)
+      (all-getD (λ (k : Phase). all hasValue (slots k)) ps i noPhase (all-append _ (replicate total noPhase) probes (all-same _ total noPhase none) probes-values) none)
 
   sends-values : (q c : ℕ) → all isValue (valuesOn q (outDue (probed m) (probeEntry m) 0 (leaf c))) ≡ true
   unfolding outDue outOf hasValue
