@@ -40,15 +40,6 @@ fits-long m run h =
     let d = leb (runOf m run .opening) (suc maxMoment) in
     leb-true (runLength (atomicCount m)) (length run) (and-left a b (and-left (a && b) d (and-left (a && b && d) _ h)))
 
--- The open moment that the code reads is the run's.
-pub opens-after : (file : Bytes) (n : Counts) (run : Bytes) (t opening : ℕ) → opening ≡ numberAt 8 0 run → t < opening → t < runOf (modelOf file n) run .opening
-unfolding runOf toRun
-opens-after file n run t opening e h = rw e at h
-
-pub opens-by : (file : Bytes) (n : Counts) (run : Bytes) (t opening : ℕ) → opening ≡ numberAt 8 0 run → opening ≤ t → runOf (modelOf file n) run .opening ≤ t
-unfolding runOf toRun
-opens-by file n run t opening e h = rw e at h
-
 module _ (file : Bytes) (n : Counts) (bytes : (i : ℕ) → getD file i 0 < 256) (told : ok (modelOf file n) ≡ accepted file) where
   -- An accepted model has at most 1,024 routes.
   pub most-routes : length (routes (modelOf file n)) ≤ maxRoutes

@@ -1,9 +1,11 @@
 -- What the functions of the call advance have of its file, once the model is accepted and once the checks have passed. Assumes nothing.
 use mathlib.Core.Path.{_≡_}
 use mathlib.Core.List.{List}
+use mathlib.Core.Bool.{cond}
+use lib.Dec.{eqb}
 use Prim.Native.Nat.{ℕ, _*_, _≤_}
 use lib.ListN.{length}
-use Rattle.definition.specs.Bytes.{Bytes, ok}
+use Rattle.definition.specs.Bytes.{Bytes, Result, ok, refused}
 use Rattle.definition.specs.Limits.{maxGiven}
 use Rattle.definition.specs.Routes.{routes}
 use Rattle.definition.specs.Pinned.Decoder.{accepted}
@@ -18,6 +20,10 @@ pub record ModelOpened (file : Bytes) (n : Counts) (tables : List ℕ) (route-co
   pub model : ok (modelOf file n) ≡ accepted file
   pub tabled : TablesOf (modelOf file n) tables
   pub counted : length (routes (modelOf file n)) ≡ route-count
+
+-- What the number of a check says: 0 for a call that is let in.
+abbrev pub checkedBy : ℕ → Result (Unit {0})
+checkedBy number = cond (eqb number 0) (ok tt) (refused number)
 
 -- The checks of run, time and bag let the call in.
 pub record LetIn (file : Bytes) (n : Counts) (tables : List ℕ) (run : Bytes) (t : ℕ) (bag : Bytes) : Type 0 where

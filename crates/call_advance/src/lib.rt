@@ -3,10 +3,12 @@ ghost use mathlib.Core.Path.{_≡_};
 ghost use lib.ListN.{length};
 ghost use Rattle.definition.specs.Routes.{routes};
 ghost use Prim.Native.Nat.{_≤_};
-ghost use Rattle.definition.specs.Engine.{advance};
+ghost use Rattle.definition.specs.Bytes.{ok};
+ghost use Rattle.definition.specs.Pinned.Decoder.{accepted};
+ghost use Rattle.definition.specs.Engine.{advanceChecks, advance};
 ghost use Rattle.model_file.specs.Checked.{modelOf};
 ghost use Rattle.call_advance.specs.Answers.{advancedOf};
-ghost use Rattle.call_advance.specs.LetIn.{ModelOpened, LetIn, Roomy};
+ghost use Rattle.call_advance.specs.LetIn.{ModelOpened, checkedBy, LetIn, Roomy};
 use clock::Moment;
 use instant_loop::advance_from;
 use limits::BAD_BAG;
@@ -115,7 +117,26 @@ fn advance_many(
     advance_let_in(file, n, tables, run, t, bag, trace, &mut work)
 }
 
-// The checks of run, time and bag, for an accepted model with so many routes.
+// The number of the first check of run, time and bag that fails, and 0 for a call that is let in.
+fn check_call(file: &[u8], n: Counts, run: &[u8], t: u64, bag: &[u8]) -> u64
+    requires { ⌜ ok (modelOf (now file) n) ≡ accepted (now file) ⌝ }
+    ensures { λ r. ⌜ checkedBy r ≡ advanceChecks (modelOf (now (file .entry)) n) (now (run .entry)) t (now (bag .entry)) ⌝ }
+{
+    let components = model_file::components_of(file, n);
+    if !run_saved::fits(components, model_file::phases_of(file, n), run) {
+        return RUN_DOES_NOT_FIT;
+    }
+    let opening = run_saved::opening_of(run);
+    if (t < opening.0) | (MAX_MOMENT < t) {
+        return BAD_MOMENT;
+    }
+    if !call_bag::bag_fits(bag) {
+        return BAD_BAG;
+    }
+    0
+}
+
+// The call on an accepted model with so many routes.
 fn advance_accepted(
     file: &[u8],
     n: Counts,
@@ -129,19 +150,9 @@ fn advance_accepted(
     requires { ⌜ ModelOpened (now file) n (now tables) «route_count» ⌝ }
     ensures { λ r. ⌜ advancedOf r (now (run .exit)) (now (trace .exit)) ≡ advance (now (file .entry)) (now (run .entry)) t (now (bag .entry)) (now (trace .entry)) ⌝ }
 {
-    let components = model_file::components_of(file, n);
-    if !run_saved::fits(components, model_file::phases_of(file, n), run) {
-        return refused(RUN_DOES_NOT_FIT);
-    }
-    let opening = run_saved::opening_of(run);
-    if t < opening.0 {
-        return refused(BAD_MOMENT);
-    }
-    if MAX_MOMENT < t {
-        return refused(BAD_MOMENT);
-    }
-    if !call_bag::bag_fits(bag) {
-        return refused(BAD_BAG);
+    let number = check_call(file, n, run, t, bag);
+    if number != 0 {
+        return refused(number);
     }
     if route_count <= FEW_ROUTES {
         advance_few(file, n, tables, run, Moment(t), bag, trace)
