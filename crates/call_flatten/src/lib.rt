@@ -6,27 +6,18 @@ ghost use Rattle.call_start.specs.Answers.{wroteOf};
 ghost use Rattle.call_flatten.specs.Found.{CanFlatten, FlatFound};
 use accept_routes::Counted;
 use call_start::Written;
+use limits::BUFFER_TOO_SHORT;
 use model_file::Checked;
 use model_file::Counts;
 use table_words::TABLE_SIZE;
+use widen::u16_to_u64;
+use widen::usize_to_u64;
 
 // A flat form has at most as many rows as a model may have routes.
 const MAX_ROWS: usize = 1024;
 
 // Room for them, and behind them for half as many: their sort takes that as its scratch.
 const ROW_WORDS: usize = MAX_ROWS + MAX_ROWS / 2;
-
-fn wide(x: usize) -> u64
-    ensures { λ r. ⌜ r ≡ x ⌝ }
-{
-    x as u64
-}
-
-fn wide16(x: u16) -> u64
-    ensures { λ r. ⌜ r ≡ x ⌝ }
-{
-    x as u64
-}
 
 // What is found of a flat form before it is written: how many rows and how many bytes it has.
 struct Found {
@@ -63,7 +54,7 @@ fn write_flat(
 {
     if out.len() < found.size {
         return Written {
-            number: 15,
+            number: BUFFER_TOO_SHORT,
             bytes: 0,
         };
     }
@@ -83,7 +74,7 @@ fn write_flat(
     );
     Written {
         number: 0,
-        bytes: wide(found.size),
+        bytes: usize_to_u64(found.size),
     }
 }
 
@@ -96,7 +87,7 @@ pub fn flatten(file: &[u8], out: &mut [u8]) -> Written
     let checked = counted.checked;
     let Checked::Accepted(n) = checked else {
         return Written {
-            number: wide16(checked.refusal()),
+            number: u16_to_u64(checked.refusal()),
             bytes: 0,
         };
     };

@@ -13,26 +13,16 @@ use limits::MAX_COMPONENTS;
 use limits::PHASE_SIZE;
 use little_endian::put_number;
 use table_words::FLAGS_SIZE;
-
-fn wide(x: u8) -> u64
-    ensures { λ r. ⌜ r ≡ x ⌝ }
-{
-    x as u64
-}
-
-fn wide_size(x: usize) -> u64
-    ensures { λ r. ⌜ r ≡ x ⌝ }
-{
-    x as u64
-}
+use widen::u8_to_u64;
+use widen::usize_to_u64;
 
 // A slot: output port q of component c, with its number.
 fn put_slot(c: usize, q: u8, out: &mut [u8], at: usize)
     requires { ⌜ (c ≤ maxComponents) × (at + 3 ≤ length (now out)) ⌝ }
     ensures { λ _. ⌜ now (out .exit) ≡ sets (now (out .entry)) at (messageBytes (ownPort c q)) ⌝ }
 {
-    put_number(out, at, 1, wide(q));
-    put_number(out, at + 1, 2, 8 * wide_size(c) + (4 + wide(q)));
+    put_number(out, at, 1, u8_to_u64(q));
+    put_number(out, at + 1, 2, 8 * usize_to_u64(c) + (4 + u8_to_u64(q)));
 }
 
 // Advance and next phase 0, four outputs, and the four ports.

@@ -3,18 +3,8 @@ ghost use mathlib.Core.Path.{_≡_};
 ghost use Rattle.flat_ranks.specs.Ranks.{rankOf};
 use table_words::POSITIONS_AT;
 use table_words::word_at;
-
-fn wide(x: u16) -> u32
-    ensures { λ r. ⌜ r ≡ x ⌝ }
-{
-    x as u32
-}
-
-fn size(x: u32) -> usize
-    ensures { λ r. ⌜ r ≡ x ⌝ }
-{
-    x as usize
-}
+use widen::u16_to_u32;
+use widen::u32_to_usize;
 
 pub fn rank_of(tables: &[u16], c: u32) -> u32
     ensures { λ r. ⌜ r ≡ rankOf (now (tables .entry)) c ⌝ }
@@ -22,5 +12,5 @@ pub fn rank_of(tables: &[u16], c: u32) -> u32
     if c == 0 {
         return 0;
     }
-    wide(word_at(tables, POSITIONS_AT + size(c))) + 1
+    u16_to_u32(word_at(tables, POSITIONS_AT + u32_to_usize(c))) + 1
 }

@@ -20,14 +20,9 @@ use table_words::FLAGS_SIZE;
 use table_words::NUMBERS_AT;
 use table_words::TABLE_SIZE;
 use table_words::row_in;
+use widen::u8_to_u32;
 
 const PROBE_BYTES: usize = MAX_COMPONENTS * PHASE_SIZE;
-
-fn wide(x: u8) -> u32
-    ensures { λ r. ⌜ r ≡ x ⌝ }
-{
-    x as u32
-}
 
 // A row of four bytes as one number, the first byte highest.
 fn row_number(source: u32, from: u32, target: u32, to: u32) -> u32
@@ -86,7 +81,7 @@ fn add_atomic(
 {
     let c = row_in(tables, NUMBERS_AT, i as u16);
     let count = collect_bag(phases, tables, flags, given, c, rows);
-    make_rows(tables, wide(i) + 1, rows, count);
+    make_rows(tables, u8_to_u32(i) + 1, rows, count);
     count
 }
 

@@ -13,10 +13,10 @@ use instant_attempt::Ended;
 use instant_attempt::Progress;
 use instant_attempt::Turn;
 use instant_attempt::attempt;
-use little_endian::size;
 use run_state::STATE_SIZE;
 use table_words::TABLE_SIZE;
 use table_words::atomics_in;
+use widen::u8_to_usize;
 
 // Bytes set aside for an instant's records.
 const SCRATCH_SIZE: usize = 4096;
@@ -135,7 +135,7 @@ pub fn advance_from(
     instant_steps::make_ready(phases, tables, state);
     let e = advance_on(phases, rules, tables, t, bag, from, state, work, trace);
     let p = e.progress;
-    run_saved::store(run, p.opening, size(atomics_in(tables)), state);
+    run_saved::store(run, p.opening, u8_to_usize(atomics_in(tables)), state);
     Answer {
         number: e.number,
         instants: p.instants,

@@ -17,12 +17,7 @@ use limits::RECORD_COUNT_AT;
 use limits::RECORD_HEAD;
 use limits::RECORD_STEP_AT;
 use little_endian::put_number;
-
-fn wide(x: u32) -> u64
-    ensures { λ r. ⌜ r ≡ x ⌝ }
-{
-    x as u64
-}
+use widen::u32_to_u64;
 
 // The messages of the first `count` keys.
 fn put_messages(out: &mut [u8], at: usize, keys: &[u32], count: usize)
@@ -31,7 +26,7 @@ fn put_messages(out: &mut [u8], at: usize, keys: &[u32], count: usize)
 {
     let mut i: usize = 0;
     while i < count {
-        let key = wide(keys[i]);
+        let key = u32_to_u64(keys[i]);
         put_number(out, at + MESSAGE_SIZE * i, 1, key / 65536);
         put_number(out, at + MESSAGE_SIZE * i + 1, 2, key % 65536);
         i = i + 1;

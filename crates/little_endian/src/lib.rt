@@ -5,14 +5,8 @@ ghost use lib.ListN.{length, drop, take};
 ghost use lib.Seq.{sets};
 ghost use Rattle.definition.specs.Bytes.{numberAt, bytesOf};
 
-// A byte, and a two-byte number, as a position.
+// A byte as a position.
 pub fn size(x: u8) -> usize
-    ensures { λ r. ⌜ r ≡ x ⌝ }
-{
-    x as usize
-}
-
-pub fn size16(x: u16) -> usize
     ensures { λ r. ⌜ r ≡ x ⌝ }
 {
     x as usize

@@ -7,6 +7,7 @@ ghost use Rattle.definition.specs.Limits.{maxComponents};
 ghost use Rattle.run_state.specs.Held.{stateSize, heldIn, endsIn, nextIn, EntryPut, EndPut, NextPut};
 use clock::Moment;
 use limits::MAX_COMPONENTS;
+use widen::u8_to_u64;
 
 const LAST_AT: usize = MAX_COMPONENTS;
 
@@ -64,18 +65,12 @@ pub fn next_due(state: &[u64; STATE_SIZE]) -> u64
 
 // ---- writing
 
-fn wide(x: u8) -> u64
-    ensures { λ r. ⌜ r ≡ x ⌝ }
-{
-    x as u64
-}
-
 // The atomic at a position is in a phase since a moment.
 pub fn put_at(state: &mut [u64; STATE_SIZE], position: usize, phase: u8, since: Moment)
     requires { ⌜ position < maxComponents ⌝ }
     ensures { λ _. ⌜ EntryPut (now (state .entry)) (now (state .exit)) position phase (since .0) ⌝ }
 {
-    state[position] = wide(phase);
+    state[position] = u8_to_u64(phase);
     state[LAST_AT + position] = since.0;
 }
 

@@ -18,7 +18,6 @@ mod outputs;
 use inputs::collect_input;
 use limits::MAX_ANCESTORS;
 use limits::PORT_COUNT;
-use little_endian::size16;
 use outputs::collect_coupled;
 use step_keys::put_given;
 use table_words::FIRST_AT;
@@ -30,22 +29,13 @@ use table_words::TABLE_SIZE;
 use table_words::mark_at;
 use table_words::reach_at;
 use table_words::word_in;
+use widen::u16_to_u32;
+use widen::u16_to_usize;
+use widen::u32_to_usize;
 
 const PORTS: u32 = 4;
 
 const PORT_NODES: u32 = 8;
-
-fn size(x: u32) -> usize
-    ensures { λ r. ⌜ r ≡ x ⌝ }
-{
-    x as usize
-}
-
-fn wide(x: u16) -> u32
-    ensures { λ r. ⌜ r ≡ x ⌝ }
-{
-    x as u32
-}
 
 // ---- nodes and links
 
@@ -58,7 +48,7 @@ fn port_of(node: u32) -> u8
 pub fn input_node(c: u16, q: u8) -> u32
     ensures { λ r. ⌜ r ≡ inputNode c q ⌝ }
 {
-    PORT_NODES * wide(c) + q as u32
+    PORT_NODES * u16_to_u32(c) + q as u32
 }
 
 fn root_output(q: u8) -> u32
@@ -72,21 +62,21 @@ pub fn first_link(tables: &[u16; TABLE_SIZE], target: u32) -> u16
     requires { ⌜ target < maxNodes ⌝ }
     ensures { λ r. ⌜ r ≡ getD (now (tables .entry)) (firstAt + target) 0 ⌝ }
 {
-    word_in(tables, FIRST_AT + size(target))
+    word_in(tables, FIRST_AT + u32_to_usize(target))
 }
 
 pub fn next_link(tables: &[u16; TABLE_SIZE], link: u16) -> u16
     requires { ⌜ link ≤ maxCouplings ⌝ }
     ensures { λ r. ⌜ r ≡ getD (now (tables .entry)) (nextAt + link) 0 ⌝ }
 {
-    word_in(tables, NEXT_AT + size16(link))
+    word_in(tables, NEXT_AT + u16_to_usize(link))
 }
 
 pub fn source_of(tables: &[u16; TABLE_SIZE], link: u16) -> u32
     requires { ⌜ link ≤ maxCouplings ⌝ }
     ensures { λ r. ⌜ r ≡ getD (now (tables .entry)) (sourceAt + link) 0 ⌝ }
 {
-    wide(word_in(tables, SOURCE_AT + size16(link)))
+    u16_to_u32(word_in(tables, SOURCE_AT + u16_to_usize(link)))
 }
 
 // Something may come from a node in this step.
@@ -94,7 +84,7 @@ pub fn may_come(flags: &[u32; FLAGS_SIZE], source: u32) -> bool
     requires { ⌜ source < maxNodes ⌝ }
     ensures { λ r. ⌜ r ≡ comesFrom (now (flags .entry)) source ⌝ }
 {
-    let c = size(source / PORT_NODES);
+    let c = u32_to_usize(source / PORT_NODES);
     if source % PORT_NODES < PORTS {
         reach_at(flags, c) != 0
     } else {
@@ -106,7 +96,7 @@ fn is_open(tables: &[u16; TABLE_SIZE], flags: &[u32; FLAGS_SIZE], node: u32) -> 
     requires { ⌜ node < maxNodes ⌝ }
     ensures { λ r. ⌜ r ≡ openIn (now (tables .entry)) (now (flags .entry)) node ⌝ }
 {
-    (word_in(tables, LIVE_AT + size(node)) != 0) & may_come(flags, node)
+    (word_in(tables, LIVE_AT + u32_to_usize(node)) != 0) & may_come(flags, node)
 }
 
 // ---- one port
@@ -179,7 +169,7 @@ pub fn collect_bag(
     ensures { λ r. ⌜ (now (buf .exit), r)
         ≡ bagPut (now (phases .entry)) (now (tables .entry)) (now (flags .entry)) (now (given .entry)) c (now (buf .entry)) ⌝ }
 {
-    if (c != 0) & (reach_at(flags, size16(c)) == 0) {
+    if (c != 0) & (reach_at(flags, u16_to_usize(c)) == 0) {
         return 0;
     }
     let mut end: usize = 0;

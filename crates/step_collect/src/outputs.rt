@@ -10,7 +10,6 @@ use super::first_link;
 use super::is_open;
 use super::next_link;
 use super::port_of;
-use super::size;
 use super::source_of;
 use limits::MAX_COUPLINGS;
 use step_keys::put_sent;
@@ -19,13 +18,14 @@ use table_words::KINDS_AT;
 use table_words::TABLE_SIZE;
 use table_words::mark_at;
 use table_words::word_in;
+use widen::u32_to_usize;
 
 // The component of a node is an atomic.
 pub fn is_atomic(tables: &[u16; TABLE_SIZE], node: u32) -> bool
     requires { ⌜ node < maxNodes ⌝ }
     ensures { λ r. ⌜ r ≡ atomicNode (now (tables .entry)) node ⌝ }
 {
-    word_in(tables, KINDS_AT + size(node / PORT_NODES)) == 1
+    word_in(tables, KINDS_AT + u32_to_usize(node / PORT_NODES)) == 1
 }
 
 // What the atomic of an output node puts out there.
@@ -40,7 +40,7 @@ pub fn put_output(
     requires { ⌜ source < maxNodes ⌝ }
     ensures { λ r. ⌜ (now (buf .exit), r) ≡ puts port (sentFrom (now (phases .entry)) (now (flags .entry)) source) (now (buf .entry), end) ⌝ }
 {
-    let mark = mark_at(flags, size(source / PORT_NODES));
+    let mark = mark_at(flags, u32_to_usize(source / PORT_NODES));
     put_sent(phases, mark, port_of(source), port, buf, end)
 }
 

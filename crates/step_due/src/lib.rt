@@ -14,8 +14,6 @@ ghost use Rattle.step_due.specs.Due.{endFor, CarriedIn};
 use clock::Moment;
 use limits::MAX_COMPONENTS;
 use limits::NEVER_MOMENT;
-use little_endian::size;
-use little_endian::size16;
 use model_records::Phase;
 use run_state::STATE_SIZE;
 use table_words::CHILD_AT;
@@ -26,13 +24,15 @@ use table_words::POSITIONS_AT;
 use table_words::SIBLING_AT;
 use table_words::TABLE_SIZE;
 use table_words::row_in;
+use widen::u8_to_usize;
+use widen::u16_to_usize;
 
 // The number of the record of phase p of component c.
 pub fn record_of(tables: &[u16; TABLE_SIZE], c: u16, p: u8) -> usize
     requires { ⌜ c < maxComponents ⌝ }
     ensures { λ r. ⌜ r ≡ recordOf (now (tables .entry)) c p ⌝ }
 {
-    size16(row_in(tables, PHASES_AT, c)) + size(p)
+    u16_to_usize(row_in(tables, PHASES_AT, c)) + u8_to_usize(p)
 }
 
 pub fn phase_in(phases: &[u8], tables: &[u16; TABLE_SIZE], c: u16, p: u8) -> Phase
@@ -67,7 +67,7 @@ pub fn put_end(
     ensures { λ _. ⌜ EndPut (now (state .entry)) (now (state .exit)) i
         (endFor (now (phases .entry)) (now (tables .entry)) c p (getD (heldIn (now (state .entry)) .last) i 0)) ⌝ }
 {
-    let position = size(i);
+    let position = u8_to_usize(i);
     let since = run_state::last_at(state, position);
     run_state::put_end(state, position, end_since(phases, tables, c, p, since));
 }
@@ -81,7 +81,7 @@ pub fn put_ends(phases: &[u8], tables: &[u16; TABLE_SIZE], n: u8, state: &mut [u
     let mut i: u8 = 0;
     while i < n {
         let c = row_in(tables, NUMBERS_AT, i as u16);
-        let p = run_state::phase_at(state, size(i));
+        let p = run_state::phase_at(state, u8_to_usize(i));
         put_end(phases, tables, c, p, state, i);
         i = i + 1;
     }
@@ -107,7 +107,7 @@ fn end_of(tables: &[u16; TABLE_SIZE], state: &[u64; STATE_SIZE], c: u16) -> u64
     requires { ⌜ (c < maxComponents) × InRange (now tables) ⌝ }
     ensures { λ r. ⌜ r ≡ getD (endsIn (now (state .entry))) (getD (now (tables .entry)) (positionsAt + c) 0) 0 ⌝ }
 {
-    run_state::end_at(state, size16(row_in(tables, POSITIONS_AT, c)))
+    run_state::end_at(state, u16_to_usize(row_in(tables, POSITIONS_AT, c)))
 }
 
 // "A coupled component's earliest due moment is the least among its children": children are numbered above their parent, so the remaining

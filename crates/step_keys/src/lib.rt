@@ -10,7 +10,7 @@ ghost use Rattle.spec_step.specs.Put.{put1, puts, valuesOn};
 ghost use Rattle.step_keys.specs.Sent.{sentOn, wantedValue};
 use limits::MESSAGE_SIZE;
 use limits::PHASE_SIZE;
-use little_endian::size;
+use widen::u8_to_usize;
 
 // A phase record: advance (4), next phase (1), output count (1), and four slots, each a message.
 const COUNT_AT: usize = 5;
@@ -46,7 +46,7 @@ fn put_wanted(wanted: bool, value: u16, own: u8, buf: &mut [u32], at: usize) -> 
 fn used_slots(phase: &[u8]) -> usize
     ensures { λ r. ⌜ r ≡ length (outputs (toPhase (now (phase .entry)))) ⌝ }
 {
-    let count = size(little_endian::byte_at(phase, COUNT_AT));
+    let count = u8_to_usize(little_endian::byte_at(phase, COUNT_AT));
     if count < SLOTS { count } else { SLOTS }
 }
 

@@ -19,8 +19,6 @@ use limits::MAX_COMPONENTS;
 use limits::MAX_COUPLINGS;
 use limits::MESSAGE_SIZE;
 use limits::PORT_COUNT;
-use little_endian::size;
-use little_endian::size16;
 use run_state::STATE_SIZE;
 use step_collect::first_link;
 use step_collect::input_node;
@@ -36,24 +34,11 @@ use table_words::TABLE_SIZE;
 use table_words::mark_at;
 use table_words::row_in;
 use table_words::word_in;
-
-fn wide(x: u8) -> u32
-    ensures { λ r. ⌜ r ≡ x ⌝ }
-{
-    x as u32
-}
-
-fn wide16(x: u16) -> u32
-    ensures { λ r. ⌜ r ≡ x ⌝ }
-{
-    x as u32
-}
-
-fn flag(up: bool) -> u32
-    ensures { λ r. ⌜ r ≡ cond up 1 0 ⌝ }
-{
-    if up { 1 } else { 0 }
-}
+use widen::bool_to_u32;
+use widen::u8_to_u32;
+use widen::u8_to_usize;
+use widen::u16_to_u32;
+use widen::u16_to_usize;
 
 // ---- marks
 
@@ -62,7 +47,7 @@ fn mark_for(tables: &[u16; TABLE_SIZE], c: u16, p: u8) -> u32
     requires { ⌜ c < maxComponents ⌝ }
     ensures { λ r. ⌜ r ≡ suc (recordOf (now (tables .entry)) c p) ⌝ }
 {
-    wide16(row_in(tables, PHASES_AT, c)) + wide(p) + 1
+    u16_to_u32(row_in(tables, PHASES_AT, c)) + u8_to_u32(p) + 1
 }
 
 // The mark of the atomic c at position i.
@@ -70,7 +55,7 @@ fn mark_of(tables: &[u16; TABLE_SIZE], state: &[u64; STATE_SIZE], at: Moment, i:
     requires { ⌜ (i < maxComponents) × (c < maxComponents) ⌝ }
     ensures { λ r. ⌜ r ≡ endMark (now (tables .entry)) (at .0) (heldIn (now (state .entry)) .phase) (endsIn (now (state .entry))) i c ⌝ }
 {
-    let position = size(i);
+    let position = u8_to_usize(i);
     if run_state::end_at(state, position) == at.0 {
         mark_for(tables, c, run_state::phase_at(state, position))
     } else {
@@ -83,7 +68,7 @@ fn put_mark(flags: &mut [u32; FLAGS_SIZE], c: u16, mark: u32)
     requires { ⌜ c < maxComponents ⌝ }
     ensures { λ _. ⌜ HasMarked (now (flags .entry)) (now (flags .exit)) (set (marksIn (now (flags .entry))) c mark) ⌝ }
 {
-    let at = size16(c);
+    let at = u16_to_usize(c);
     flags[at] = mark;
 }
 
@@ -112,7 +97,7 @@ fn mark_parent(tables: &[u16; TABLE_SIZE], c: u16, flags: &mut [u32; FLAGS_SIZE]
     requires { ⌜ ComponentOf (now tables) c ⌝ }
     ensures { λ _. ⌜ HasMarked (now (flags .entry)) (now (flags .exit)) (raisedAt (now (tables .entry)) c (marksIn (now (flags .entry)))) ⌝ }
 {
-    if mark_at(flags, size16(c)) != 0 {
+    if mark_at(flags, u16_to_usize(c)) != 0 {
         put_mark(flags, row_in(tables, PARENTS_AT, c), 1);
     }
 }
@@ -170,7 +155,7 @@ fn put_reach(flags: &mut [u32; FLAGS_SIZE], c: u16, up: u32)
     requires { ⌜ c < maxComponents ⌝ }
     ensures { λ _. ⌜ HasReached (now (flags .entry)) (now (flags .exit)) (set (reachedIn (now (flags .entry))) c up) ⌝ }
 {
-    let at = MAX_COMPONENTS + size16(c);
+    let at = MAX_COMPONENTS + u16_to_usize(c);
     flags[at] = up;
 }
 
@@ -182,7 +167,7 @@ fn flag_components(tables: &[u16; TABLE_SIZE], flags: &mut [u32; FLAGS_SIZE])
     let count = word_in(tables, COUNT_AT);
     let mut c: u16 = 1;
     while c < count {
-        let up = flag(may_reach(tables, flags, c));
+        let up = bool_to_u32(may_reach(tables, flags, c));
         put_reach(flags, c, up);
         c = c + 1;
     }
@@ -212,6 +197,6 @@ pub fn reach(tables: &[u16; TABLE_SIZE], given: &[u8], flags: &mut [u32; FLAGS_S
     ensures { λ _. ⌜ HasReached (now (flags .entry)) (now (flags .exit))
         (allReached (now (tables .entry)) (toBag (now (given .entry))) (marksIn (now (flags .entry))) (reachedIn (now (flags .entry)))) ⌝ }
 {
-    put_reach(flags, 0, flag(MESSAGE_SIZE <= given.len()));
+    put_reach(flags, 0, bool_to_u32(MESSAGE_SIZE <= given.len()));
     flag_components(tables, flags);
 }

@@ -16,17 +16,13 @@ use clock::Stay;
 use limits::NEVER_FIELD;
 use limits::RULE_SIZE;
 use model_records::Rule;
+use widen::u8_to_u32;
+use widen::u32_to_u64;
 
 // The position of the deciding rule, or none.
 pub enum Found {
     At(u16),
     Nothing,
-}
-
-fn wide(x: u32) -> u64
-    ensures { λ r. ⌜ r ≡ x ⌝ }
-{
-    x as u64
 }
 
 // How many keys of the bag lie between two.
@@ -54,8 +50,8 @@ fn count_meeting(rule: Rule, bag: &[u32]) -> usize
 fn within_elapsed(rule: Rule, elapsed: Stay) -> bool
     ensures { λ r. ⌜ r ≡ withinElapsed (ruleOf rule) (elapsed .0) ⌝ }
 {
-    let low = wide(rule.low_elapsed);
-    let high = wide(rule.high_elapsed);
+    let low = u32_to_u64(rule.low_elapsed);
+    let high = u32_to_u64(rule.high_elapsed);
     (low <= elapsed.0) & ((elapsed.0 <= high) | (rule.high_elapsed == NEVER_FIELD))
 }
 
@@ -77,18 +73,12 @@ fn rule_holds(rule: Rule, component: u16, phase: u8, elapsed: Stay, bag: &[u32])
 // No two bytes make this number.
 const NO_HEAD: u32 = 65536;
 
-fn wide8(x: u8) -> u32
-    ensures { λ r. ⌜ r ≡ x ⌝ }
-{
-    x as u32
-}
-
 // Component and phase of the rule whose record stands at `at`, as one number.
 fn head_at(rules: &[u8], at: usize) -> u32
     requires { ⌜ at + 1 < length (now rules) ⌝ }
     ensures { λ r. ⌜ r ≡ getD (now (rules .entry)) at 0 + 256 * getD (now (rules .entry)) (at + 1) 0 ⌝ }
 {
-    wide8(rules[at]) + 256 * wide8(rules[at + 1])
+    u8_to_u32(rules[at]) + 256 * u8_to_u32(rules[at + 1])
 }
 
 // The same of a component and a phase; a component whose number is no byte has no rule.
@@ -96,7 +86,7 @@ fn head_of(component: u16, phase: u8) -> u32
     ensures { λ r. ⌜ r ≡ headOf component phase ⌝ }
 {
     if component < 256 {
-        component as u32 + 256 * wide8(phase)
+        component as u32 + 256 * u8_to_u32(phase)
     } else {
         NO_HEAD
     }

@@ -11,7 +11,6 @@ ghost use Rattle.step_collect.specs.Collected.{rootKeysFor};
 ghost use Rattle.step_simulator.specs.Simulator.{tableStep, isStill, changedOne, changedAll};
 ghost use Rattle.step_simulator.specs.Simulator.{CanChange, OneChanged, Changeable, AllChanged, RootBag, CanStep, HasStepped};
 use clock::Moment;
-use little_endian::size16;
 use run_state::STATE_SIZE;
 use step_collect::collect_bag;
 use step_collect::collect_root;
@@ -21,13 +20,14 @@ use table_words::TABLE_SIZE;
 use table_words::mark_at;
 use table_words::reach_at;
 use table_words::row_in;
+use widen::u16_to_usize;
 
 // Nothing of component c changes: it is not due, and nothing may reach it. What is given reaches the root whatever its flag.
 fn is_still(flags: &[u32; FLAGS_SIZE], c: u16) -> bool
     requires { ⌜ c < maxComponents ⌝ }
     ensures { λ r. ⌜ r ≡ isStill (now (flags .entry)) c ⌝ }
 {
-    let place = size16(c);
+    let place = u16_to_usize(c);
     (mark_at(flags, place) == 0) & ((c != 0) & (reach_at(flags, place) == 0))
 }
 
@@ -53,7 +53,7 @@ fn change_one(
         return;
     }
     let k = collect_bag(phases, tables, flags, given, c, work);
-    let due = mark_at(flags, size16(c)) != 0;
+    let due = mark_at(flags, u16_to_usize(c)) != 0;
     let bag = &work[..k];
     let p = step_transition::transition(phases, rules, tables, state, at, i, c, due, bag);
     step_due::put_end(phases, tables, c, p, state, i);

@@ -11,8 +11,6 @@ ghost use Rattle.spec_step.specs.TableStep.{phaseIn, decidedIn, confluentIn};
 ghost use Rattle.step_transition.specs.Changes.{changeOf, Changed};
 use clock::Moment;
 use clock::Stay;
-use little_endian::size;
-use little_endian::size16;
 use run_state::STATE_SIZE;
 use step_due::phase_in;
 use step_rule::Found;
@@ -21,12 +19,9 @@ use table_words::RULES_FROM_AT;
 use table_words::RULES_TO_AT;
 use table_words::TABLE_SIZE;
 use table_words::row_in;
-
-fn wide(x: u32) -> u64
-    ensures { λ r. ⌜ r ≡ x ⌝ }
-{
-    x as u64
-}
+use widen::u8_to_usize;
+use widen::u16_to_usize;
+use widen::u32_to_u64;
 
 // The next phase of phase p.
 fn next_of(phases: &[u8], tables: &[u16; TABLE_SIZE], c: u16, p: u8) -> u8
@@ -42,7 +37,7 @@ fn advance_of(phases: &[u8], tables: &[u16; TABLE_SIZE], c: u16, p: u8) -> Stay
     ensures { λ r. ⌜ r .0 ≡ phaseIn (phasesIn (now (phases .entry))) (now (tables .entry)) c p .advance ⌝ }
 {
     let phase = phase_in(phases, tables, c, p);
-    Stay(wide(phase.advance))
+    Stay(u32_to_u64(phase.advance))
 }
 
 // Where the rule that was found leads; without one the phase stays.
@@ -52,7 +47,7 @@ fn led_to(rules: &[u8], p: u8, found: Found) -> u8
     let Found::At(i) = found else {
         return p;
     };
-    let rule = model_records::rule_at(rules, size16(i));
+    let rule = model_records::rule_at(rules, u16_to_usize(i));
     rule.next
 }
 
@@ -116,7 +111,7 @@ pub fn transition(
         (changeOf (now (phases .entry)) (now (rules .entry)) (now (tables .entry)) (at .0) (now (state .entry)) i c due (now (bag .entry))) ⌝ }
 {
     run_state::whole(state);
-    let position = size(i);
+    let position = u8_to_usize(i);
     let p = run_state::phase_at(state, position);
     if bag.len() == 0 {
         if due {

@@ -84,6 +84,12 @@ pub fn bool_to_u16(b: bool) -> u16
     if b { 1 } else { 0 }
 }
 
+pub fn bool_to_u32(b: bool) -> u32
+    ensures { λ r. ⌜ r ≡ cond b 1 0 ⌝ }
+{
+    if b { 1 } else { 0 }
+}
+
 pub fn bool_to_usize(b: bool) -> usize
     ensures { λ r. ⌜ r ≡ cond b 1 0 ⌝ }
 {

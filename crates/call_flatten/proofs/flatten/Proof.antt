@@ -21,7 +21,7 @@ returns c =
     let start : tie.Start = search in let after-enum-told : tie.After-enum-told = search in let after-open-model : tie.After-open-model = search in
     let a = start .args in
     let told = sym (ap (checkedAs (now (a .file))) (after-enum-told .enum-told .given .1)) ∙ after-open-model .open-model .ensures .0 in
-    rw (c .wide16 .ensures, c .before .refusal .ensures, after-enum-told .enum-told .given .1) (flatten-refused (now (a .file)) (now (a .out)) _ told)
+    rw (c .u16-to-u64 .ensures, c .before .refusal .ensures, after-enum-told .enum-told .given .1) (flatten-refused (now (a .file)) (now (a .out)) _ told)
 
 find-flat-requires : tie.Need-find-flat-requires
 find-flat-requires c κs =

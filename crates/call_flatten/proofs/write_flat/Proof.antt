@@ -46,7 +46,7 @@ returns-2 c =
       after-phases-of .phases-of .ensures,
       after-rules-of .rules-of .ensures,
     ) at (after-put-flat .put-flat .ensures) in
-    rw (c .wide .ensures) (flatten-whole _ (now (given f .args .out)) _ (bytes f) _ _ _ (given f .pre) (else1 .if1 .left) _ put)
+    rw (c .usize-to-u64 .ensures) (flatten-whole _ (now (given f .args .out)) _ (bytes f) _ _ _ (given f .pre) (else1 .if1 .left) _ put)
 
 pub write-flat-spec : {M : Type 1} → statement M
 write-flat-spec =

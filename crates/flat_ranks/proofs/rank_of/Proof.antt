@@ -19,8 +19,9 @@ returns c =
 returns-2 : tie.Need-returns-2
 unfolding rankOf
 returns-2 c =
-    let start : tie.Start = search in let after-size : tie.After-size = search in let else1 : tie.Else1 = search in
-    let a = start .args in let e : getD (now (a .tables)) (64 + a .c) 0 + 1 ≡ suc (getD (now (a .tables)) (64 + a .c) 0) = omega arith in rw (ne-eqb (a .c) 0 (else1 .if1 .left), c .wide .ensures, c .before .word-at .ensures, after-size .size .ensures) e
+    let start : tie.Start = search in let after-u32-to-usize : tie.After-u32-to-usize = search in let else1 : tie.Else1 = search in
+    let a = start .args in let e : getD (now (a .tables)) (64 + a .c) 0 + 1 ≡ suc (getD (now (a .tables)) (64 + a .c) 0) = omega arith in
+    rw (ne-eqb (a .c) 0 (else1 .if1 .left), c .u16-to-u32 .ensures, c .before .word-at .ensures, after-u32-to-usize .u32-to-usize .ensures) e
 
 pub rank-of-spec : {M : Type 1} → statement M
 rank-of-spec =

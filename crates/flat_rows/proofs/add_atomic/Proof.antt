@@ -17,10 +17,10 @@ make-rows-requires c κs =
 
 returns : tie.Need-returns
 returns c =
-    let start : tie.Start = search in let after-make-rows : tie.After-make-rows = search in let after-wide : tie.After-wide = search in
+    let start : tie.Start = search in let after-make-rows : tie.After-make-rows = search in let after-u8-to-u32 : tie.After-u8-to-u32 = search in
     let after-collect-bag : tie.After-collect-bag = search in let after-row-in : tie.After-row-in = search in
     let h = atomic-held _ _ _ _ (start .args .i) _ _ _ (start .pre .1 .fits) (rw (after-row-in .row-in .ensures) at (after-collect-bag .collect-bag .ensures)) in
-    atomic-rows _ _ _ _ (start .args .i) _ _ _ h (after-make-rows .make-rows .kept .1 .1 .0) (rw (after-wide .wide .ensures) at (after-make-rows .make-rows .ensures))
+    atomic-rows _ _ _ _ (start .args .i) _ _ _ h (after-make-rows .make-rows .kept .1 .1 .0) (rw (after-u8-to-u32 .u8-to-u32 .ensures) at (after-make-rows .make-rows .ensures))
 
 pub add-atomic-spec : {M : Type 1} → statement M
 add-atomic-spec =

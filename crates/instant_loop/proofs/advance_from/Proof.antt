@@ -49,13 +49,13 @@ atomics-in-requires c κs =
 
 store-requires : tie.Need-store-requires
 store-requires c κs =
-    let known : tie.After-size = search in let counted : tie.After-atomics-in = search in let on : tie.After-advance-on = search in
+    let known : tie.After-u8-to-usize = search in let counted : tie.After-atomics-in = search in let on : tie.After-advance-on = search in
     let q = start-of on .pre in
-    rw (known .size .ensures, counted .atomics-in .ensures) (q .fit .in-range .atomics, q .run-fits)
+    rw (known .u8-to-usize .ensures, counted .atomics-in .ensures) (q .fit .in-range .atomics, q .run-fits)
 
 returns : tie.Need-returns
 returns c =
-    let stored-run : tie.After-store = search in let known : tie.After-size = search in let counted : tie.After-atomics-in = search in
+    let stored-run : tie.After-store = search in let known : tie.After-u8-to-usize = search in let counted : tie.After-atomics-in = search in
     let on : tie.After-advance-on = search in let made : tie.After-make-ready = search in let opened : tie.After-opening-of = search in
     let a = start-of on .args in
     let r = on .advance-on in
@@ -67,7 +67,7 @@ returns c =
     let new = heldIn (r .last .1 .1 .1 .1 .1 .1 .0) in
     let first : Progress = record { opening = opened .opening-of .result; instants = 0; steps = 0; used = 0 } in
     let e = r .result in
-    let count = known .size .ensures ∙ counted .atomics-in .ensures in
+    let count = known .u8-to-usize .ensures ∙ counted .atomics-in .ensures in
     let put = stored-run .store .ensures ∙ ap (λ (n : ℕ). stored (runBytes (runIn (e .progress .opening .0) n new)) (now (a .run))) count in
     let same = r .ensures .same ∙ ap (λ (s : State). advancing k (length trace) (a .t .0) x (suc (a .t .0)) (progressOf trace s first)) (made .make-ready .ensures .0) in
     let from = begins k (length trace) (a .t .0) x trace old first refl refl refl ∙ ap (λ o. advanceFrom k (length trace) (a .t .0) x o old) (opened .opening-of .ensures) in

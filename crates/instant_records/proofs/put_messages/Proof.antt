@@ -24,13 +24,13 @@ loop-holds c = (omega arith, refl, rw add-zero)
 loop-again : tie.Need-loop-again Inv-loop μ-loop
 loop-again c =
     let start : tie.Start Inv-loop μ-loop = search in let after-put-number2 : tie.After-put-number2 Inv-loop μ-loop = search in
-    let after-put-number : tie.After-put-number Inv-loop μ-loop = search in let after-wide : tie.After-wide Inv-loop μ-loop = search in
+    let after-put-number : tie.After-put-number Inv-loop μ-loop = search in let after-u32-to-u64 : tie.After-u32-to-u64 Inv-loop μ-loop = search in
     let in-loop : tie.In-loop Inv-loop μ-loop = search in let at-loop : tie.At-loop Inv-loop μ-loop = search in
     let a = start .args in
     let l = at-loop .loop in (
       omega arith,
       after-put-number2 .put-number2 .kept .0 ∙ after-put-number .put-number .kept .0 ∙ l .inv .1,
-      rw (after-put-number2 .put-number2 .ensures, after-put-number .put-number .ensures, after-wide .wide .ensures)
+      rw (after-put-number2 .put-number2 .ensures, after-put-number .put-number .ensures, after-u32-to-u64 .u32-to-u64 .ensures)
           (key-more (now (a .keys)) (a .count) (l .i) (a .at) (l .out) (in-loop .loop-test .taken) (start .pre .0) ∙ l .inv .2),
     )
 

@@ -23,9 +23,9 @@ abbrev μ-loop : tie.MeasureT-loop
 
 returns : tie.Need-returns Inv-loop μ-loop
 returns c =
-    let start : tie.Start Inv-loop μ-loop = search in let after-size16 : tie.After-size16 Inv-loop μ-loop = search in
+    let start : tie.Start Inv-loop μ-loop = search in let after-u16-to-usize : tie.After-u16-to-usize Inv-loop μ-loop = search in
     let a = start .args in
-    let shut = rw (c .before .reach-at .ensures, after-size16 .size16 .ensures) at (c .if1 .taken) in
+    let shut = rw (c .before .reach-at .ensures, after-u16-to-usize .u16-to-usize .ensures) at (c .if1 .taken) in
     sym (unreached (now (a .phases)) (now (a .tables)) (now (a .flags)) (now (a .given)) 8 (a .c) 4 0 (now (a .buf), 0) shut (omega arith))
 
 loop-holds : tie.Need-loop-holds Inv-loop μ-loop

@@ -4,7 +4,7 @@ use Rattle.step_collect.proofs.next_link.Statement.{statement}
 use Rattle.step_collect.proofs.next_link.Tie as tie
 
 returns : tie.Need-returns
-returns c = rw (c .word-in .ensures, c .before .size16 .ensures)
+returns c = rw (c .word-in .ensures, c .before .u16-to-usize .ensures)
 
 pub next-link-spec : {M : Type 1} → statement M
 next-link-spec = tie.close (tie.spec (λ c κs. search needs) (λ c. search needs) (λ c κs. search needs) returns)

@@ -33,14 +33,14 @@ put-end-requires c κs =
 loop-again : tie.Need-loop-again Inv-loop μ-loop
 loop-again c =
     let start : tie.Start Inv-loop μ-loop = search in let after-phase-at : tie.After-phase-at Inv-loop μ-loop = search in
-    let after-size : tie.After-size Inv-loop μ-loop = search in let after-row-in : tie.After-row-in Inv-loop μ-loop = search in
+    let after-u8-to-usize : tie.After-u8-to-usize Inv-loop μ-loop = search in let after-row-in : tie.After-row-in Inv-loop μ-loop = search in
     let at-loop : tie.At-loop Inv-loop μ-loop = search in
     let a = start .args in
     let l = at-loop .loop in
     let ps = phasesIn (now (a .phases)) in
     let t = now (a .tables) in
     let st = heldIn (l .state) in
-    let p : after-phase-at .phase-at .result ≡ getD (st .phase) (l .i) 0 = after-phase-at .phase-at .ensures ∙ ap (λ k. getD (st .phase) k 0) (after-size .size .ensures) in
+    let p : after-phase-at .phase-at .result ≡ getD (st .phase) (l .i) 0 = after-phase-at .phase-at .ensures ∙ ap (λ k. getD (st .phase) k 0) (after-u8-to-usize .u8-to-usize .ensures) in
     let put = c .put-end .ensures in
     let ends = put .ends ∙ ap (λ u. set (endsIn (l .state)) (l .i) (dueNumber u)) (due-named ps t st (l .i) _ _ (after-row-in .row-in .ensures) p) in
     (omega arith, rw ends (simp length-set (l .inv .1)), put .held ∙ l .inv .2, rw (put .held, ends) (carried-more ps t st (endsIn (l .state)) (l .i) (omega arith) (l .inv .3)))

@@ -8,7 +8,7 @@ returns : tie.Need-returns
 unfolding recordOf
 returns c =
     let after-row-in : tie.After-row-in = search in
-    rw (c .size .ensures, c .before .size16 .ensures, after-row-in .row-in .ensures)
+    rw (c .u8-to-usize .ensures, c .before .u16-to-usize .ensures, after-row-in .row-in .ensures)
 
 pub record-of-spec : {M : Type 1} → statement M
 record-of-spec = tie.close (tie.spec (λ c κs. search needs) (λ c κs. search needs) (λ c κs. search needs) (λ c. search needs) returns)

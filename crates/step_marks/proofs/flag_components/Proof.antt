@@ -36,14 +36,14 @@ put-reach-requires c κs =
 
 loop-again : tie.Need-loop-again Inv-loop μ-loop
 loop-again c =
-    let start : tie.Start Inv-loop μ-loop = search in let after-flag : tie.After-flag Inv-loop μ-loop = search in
+    let start : tie.Start Inv-loop μ-loop = search in let after-bool-to-u32 : tie.After-bool-to-u32 Inv-loop μ-loop = search in
     let after-may-reach : tie.After-may-reach Inv-loop μ-loop = search in let at-loop : tie.At-loop Inv-loop μ-loop = search in
     let after-word-in : tie.After-word-in Inv-loop μ-loop = search in
     let a = start .args in
     let l = at-loop .loop in
     let put = c .put-reach .ensures in
     let more = flags-more (now (a .tables)) (marksIn (now (a .flags))) (reachedIn (l .flags)) (after-word-in .word-in .result) (l .c) (omega arith) in
-    (l .inv .0, put .others ∙ l .inv .1, rw (put .reached, after-flag .flag .ensures, after-may-reach .may-reach .ensures, l .inv .1) more ∙ l .inv .2)
+    (l .inv .0, put .others ∙ l .inv .1, rw (put .reached, after-bool-to-u32 .bool-to-u32 .ensures, after-may-reach .may-reach .ensures, l .inv .1) more ∙ l .inv .2)
 
 returns : tie.Need-returns Inv-loop μ-loop
 returns c =

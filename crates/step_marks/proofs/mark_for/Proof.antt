@@ -9,7 +9,7 @@ returns : tie.Need-returns
 unfolding recordOf
 returns c =
     let after-row-in : tie.After-row-in = search in
-    rw (c .wide .ensures, c .before .wide16 .ensures, after-row-in .row-in .ensures) (add-one _)
+    rw (c .u8-to-u32 .ensures, c .before .u16-to-u32 .ensures, after-row-in .row-in .ensures) (add-one _)
 
 pub mark-for-spec : {M : Type 1} → statement M
 mark-for-spec =

@@ -19,9 +19,9 @@ returns : tie.Need-returns
 unfolding isUp
 returns c =
     let start : tie.Start = search in let then1 : tie.Then1 = search in let after-mark-at : tie.After-mark-at = search in
-    let after-size16 : tie.After-size16 = search in
+    let after-u16-to-usize : tie.After-u16-to-usize = search in
     let a = start .args in
-    let k : after-mark-at .mark-at .result ≡ getD (marksIn (now (a .flags))) (a .c) 0 = rw (after-size16 .size16 .ensures) at (after-mark-at .mark-at .ensures) in
+    let k : after-mark-at .mark-at .result ≡ getD (marksIn (now (a .flags))) (a .c) 0 = rw (after-u16-to-usize .u16-to-usize .ensures) at (after-mark-at .mark-at .ensures) in
     let put = c .put-mark .ensures in
     let up = ne-eqb (getD (marksIn (now (a .flags))) (a .c) 0) 0 (λ q. then1 .if1 .taken (k ∙ q)) in
     record { marks = rw up (rw (c .before .row-in .ensures) at (put .marks)); others = put .others }
@@ -29,9 +29,9 @@ returns c =
 returns-2 : tie.Need-returns-2
 unfolding isUp
 returns-2 c =
-    let start : tie.Start = search in let after-size16 : tie.After-size16 = search in
+    let start : tie.Start = search in let after-u16-to-usize : tie.After-u16-to-usize = search in
     let a = start .args in
-    let k : c .before .mark-at .result ≡ getD (marksIn (now (a .flags))) (a .c) 0 = rw (after-size16 .size16 .ensures) at (c .before .mark-at .ensures) in
+    let k : c .before .mark-at .result ≡ getD (marksIn (now (a .flags))) (a .c) 0 = rw (after-u16-to-usize .u16-to-usize .ensures) at (c .before .mark-at .ensures) in
     let down = eq-eqb (getD (marksIn (now (a .flags))) (a .c) 0) 0 (sym k ∙ c .if1 .left) in
     record { marks = rw down; others = refl }
 

@@ -10,9 +10,9 @@ use Rattle.step_marks.proofs.put_mark.Tie as tie
 returns : tie.Need-returns
 unfolding marksIn reachedIn
 returns c =
-    let start : tie.Start = search in let after-size16 : tie.After-size16 = search in
+    let start : tie.Start = search in let after-u16-to-usize : tie.After-u16-to-usize = search in
     let a = start .args in
-    rw (after-size16 .size16 .ensures)
+    rw (after-u16-to-usize .u16-to-usize .ensures)
     (record {
       marks = take-set-lt maxComponents (now (a .flags)) (a .c) (a .mark) (start .pre);
       others = drop-set-lt maxComponents (now (a .flags)) (a .c) (a .mark) (start .pre);

@@ -12,9 +12,9 @@ use Rattle.step_marks.proofs.put_reach.Tie as tie
 returns : tie.Need-returns
 unfolding marksIn reachedIn
 returns c =
-    let start : tie.Start = search in let after-size16 : tie.After-size16 = search in
+    let start : tie.Start = search in let after-u16-to-usize : tie.After-u16-to-usize = search in
     let a = start .args in
-    rw (after-size16 .size16 .ensures)
+    rw (after-u16-to-usize .u16-to-usize .ensures)
     (record {
       reached = drop-set-add maxComponents (now (a .flags)) (a .c) (a .up);
       others = take-set-le maxComponents (now (a .flags)) (maxComponents + a .c) (a .up) (omega arith);

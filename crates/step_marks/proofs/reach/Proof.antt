@@ -7,10 +7,10 @@ use Rattle.step_marks.proofs.reach.Tie as tie
 
 returns : tie.Need-returns
 returns c =
-    let after-put-reach : tie.After-put-reach = search in let after-flag : tie.After-flag = search in
+    let after-put-reach : tie.After-put-reach = search in let after-bool-to-u32 : tie.After-bool-to-u32 = search in
     let first = after-put-reach .put-reach .ensures in
     let then = c .flag-components .ensures in
-    record { reached = rw (first .reached, first .others, after-flag .flag .ensures, given-flag) at (then .reached); others = then .others ∙ first .others }
+    record { reached = rw (first .reached, first .others, after-bool-to-u32 .bool-to-u32 .ensures, given-flag) at (then .reached); others = then .others ∙ first .others }
 
 pub reach-spec : {M : Type 1} → statement M
 reach-spec = tie.close (tie.spec (λ c κs. search needs) (λ c κs. search needs) (λ c κs. search needs) returns)

@@ -8,13 +8,19 @@ use Rattle.step_rule.proofs.head_at.Tie as tie
 mul-result : tie.Need-mul-result
 mul-result c =
     let start : tie.Start = search in let after-shared-slice-known2 : tie.After-shared-slice-known2 = search in
-    omega (arith, c .wide82 .ensures, after-shared-slice-known2 .shared-slice-known2 .given (start .args .at + 1))
+    omega (arith, c .u8-to-u322 .ensures, after-shared-slice-known2 .shared-slice-known2 .given (start .args .at + 1))
 
 add-result : tie.Need-add-result
 add-result c =
-    let start : tie.Start = search in let after-wide8 : tie.After-wide8 = search in
+    let start : tie.Start = search in let after-u8-to-u32 : tie.After-u8-to-u32 = search in
     let after-shared-slice-known2 : tie.After-shared-slice-known2 = search in
-    omega (arith, c .wide82 .ensures, after-wide8 .wide8 .ensures, after-shared-slice-known2 .shared-slice-known2 .given (start .args .at), after-shared-slice-known2 .shared-slice-known2 .given (start .args .at + 1))
+    omega (
+      arith,
+      c .u8-to-u322 .ensures,
+      after-u8-to-u32 .u8-to-u32 .ensures,
+      after-shared-slice-known2 .shared-slice-known2 .given (start .args .at),
+      after-shared-slice-known2 .shared-slice-known2 .given (start .args .at + 1),
+    )
 
 pub head-at-spec : {M : Type 1} → statement M
 head-at-spec =

@@ -7,7 +7,7 @@ use Rattle.step_rule.proofs.head_of.Tie as tie
 
 returns : tie.Need-returns
 unfolding headOf
-returns c = rw (lt-ltb _ _ (c .before .if1 .taken), c .wide8 .ensures)
+returns c = rw (lt-ltb _ _ (c .before .if1 .taken), c .u8-to-u32 .ensures)
 
 returns-2 : tie.Need-returns-2
 unfolding headOf

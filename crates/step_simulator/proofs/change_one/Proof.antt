@@ -76,7 +76,7 @@ collect-bag-requires c κs =
 mark-at-requires : tie.Need-mark-at-requires
 mark-at-requires c κs =
     let row : tie.After-row-in = search in
-    rw (c .size16 .ensures) (numbered row)
+    rw (c .u16-to-usize .ensures) (numbered row)
 
 slice-reshare-prefix-bag : tie.Need-slice-reshare-prefix-bag
 slice-reshare-prefix-bag c =
@@ -102,7 +102,7 @@ returns-2 : tie.Need-returns-2
 unfolding isUp
 returns-2 c =
     let start : tie.Start = search in let after-transition : tie.After-transition = search in let after-mark-at : tie.After-mark-at = search in
-    let after-size16 : tie.After-size16 = search in let after-collect-bag : tie.After-collect-bag = search in
+    let after-u16-to-usize : tie.After-u16-to-usize = search in let after-collect-bag : tie.After-collect-bag = search in
     let row : tie.After-row-in = search in
     let a = start .args in
     let ps = phasesIn (now (a .phases)) in
@@ -113,7 +113,7 @@ returns-2 c =
     let put = c .put-end .ensures in
     let named = due-named ps t _ (a .i) (row .row-in .result) (after-transition .transition .result) (row .row-in .ensures) (changed .phase) in
     record {
-      state = put .held ∙ (rw (after-mark-at .mark-at .ensures, after-size16 .size16 .ensures, f .held, row .row-in .ensures) at (changed .state));
+      state = put .held ∙ (rw (after-mark-at .mark-at .ensures, after-u16-to-usize .u16-to-usize .ensures, f .held, row .row-in .ensures) at (changed .state));
       ends = put .ends ∙ rw (changed .ends, put .held) (ap (λ u. set ends (a .i) (dueNumber u)) named);
     }
 

@@ -5,8 +5,8 @@ use Rattle.step_simulator.proofs.is_still.Tie as tie
 
 returns : tie.Need-returns
 returns c =
-    let after-size16 : tie.After-size16 = search in
-    rw (c .reach-at .ensures, c .before .mark-at .ensures, after-size16 .size16 .ensures)
+    let after-u16-to-usize : tie.After-u16-to-usize = search in
+    rw (c .reach-at .ensures, c .before .mark-at .ensures, after-u16-to-usize .u16-to-usize .ensures)
 
 pub is-still-spec : {M : Type 1} → statement M
 is-still-spec = tie.close (tie.spec (λ c κs. search needs) (λ c κs. search needs) (λ c κs. search needs) returns)

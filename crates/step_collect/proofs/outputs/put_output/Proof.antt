@@ -15,8 +15,8 @@ returns : tie.Need-returns
 unfolding sentBy sentOn nodeComponent
 returns c =
     let after-put-sent : tie.After-put-sent = search in let after-port-of : tie.After-port-of = search in
-    let after-mark-at : tie.After-mark-at = search in let after-size : tie.After-size = search in
-    rw (after-mark-at .mark-at .ensures, after-size .size .ensures, after-port-of .port-of .ensures) at (after-put-sent .put-sent .ensures)
+    let after-mark-at : tie.After-mark-at = search in let after-u32-to-usize : tie.After-u32-to-usize = search in
+    rw (after-mark-at .mark-at .ensures, after-u32-to-usize .u32-to-usize .ensures, after-port-of .port-of .ensures) at (after-put-sent .put-sent .ensures)
 
 pub put-output-spec : {M : Type 1} → statement M
 put-output-spec =
