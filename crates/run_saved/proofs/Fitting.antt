@@ -20,8 +20,8 @@ use Rattle.law_bytes.specs.Parts.{row}
 use Rattle.law_base.proofs.Tests.{clash}
 use Rattle.model_records.specs.Values.{componentsIn, phasesIn, modelIn}
 use Rattle.clock.specs.Times.{latest}
-use Rattle.clock_due.specs.After.{dueAfter}
-use Rattle.clock_due.proofs.Laws.{after-tested}
+use Rattle.clock.specs.After.{dueAfter}
+use Rattle.clock.proofs.Laws.{after-tested}
 use Rattle.run_saved.specs.Runs.{bare, entryAt, entriesFitIn}
 
 -- ---- rows and components from a number on

@@ -10,7 +10,7 @@ ghost use Rattle.definition.specs.Limits.{maxComponents};
 ghost use Rattle.definition.specs.Model.{noPhase, atomics};
 ghost use Rattle.definition.specs.SavedRun.{runLength, entryBytes, runBytes, notBefore, runFits};
 ghost use Rattle.model_records.specs.Values.{componentsIn, phasesIn};
-ghost use Rattle.clock_due.specs.After.{dueAfter};
+ghost use Rattle.clock.specs.After.{dueAfter};
 ghost use Rattle.clock.specs.Times.{timeOf};
 ghost use Rattle.run_state.specs.Held.{heldIn, entriesOf};
 ghost use Rattle.run_saved.specs.Runs.{Loaded, bare, entryOf, entryAt, entriesFitIn, heldAt, entryRows, runIn, startEntries};
@@ -80,7 +80,7 @@ fn entry_due(phases: &[u8], first: usize, e: Entry) -> Due
     ensures { λ r. ⌜ timeOf r ≡ dueAfter (e .last .0) (getD (phasesIn (now (phases .entry))) (first + e .phase) noPhase .advance) ⌝ }
 {
     let phase = model_records::phase_at(phases, first + widen::u8_to_usize(e.phase));
-    clock_due::due_after(e.last, phase.advance)
+    clock::due_after(e.last, phase.advance)
 }
 
 // The lines that the entry of an atomic keeps, against the open moment.
@@ -90,7 +90,7 @@ fn entry_fits(own: Component, due: Due, e: Entry, opening: Moment) -> bool
 {
     let last = e.last;
     let begun = last.is_before(opening) | ((opening.0 == 0) & (last.0 == 0));
-    (e.phase < own.phases) & begun & clock_due::not_before(opening, due)
+    (e.phase < own.phases) & begun & clock::not_before(opening, due)
 }
 
 fn entries_fit(components: &[u8], phases: &[u8], run: &[u8]) -> bool

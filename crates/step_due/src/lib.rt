@@ -50,7 +50,7 @@ fn end_since(phases: &[u8], tables: &[u16; TABLE_SIZE], c: u16, p: u8, since: Mo
     ensures { λ r. ⌜ r ≡ endFor (now (phases .entry)) (now (tables .entry)) c p (since .0) ⌝ }
 {
     let own = phase_in(phases, tables, c, p);
-    clock_due::due_number(clock_due::due_after(since, own.advance))
+    clock::due_number(clock::due_after(since, own.advance))
 }
 
 // The due moment of the atomic c at a position, which is in phase p, is carried anew. Component and phase are handed in: they were known a

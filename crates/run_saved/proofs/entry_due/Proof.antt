@@ -1,6 +1,6 @@
 -- The phase record at the first one plus the phase, and `due_after` of its advance.
 use borrow.Author.Needs.{needs}
-use Rattle.clock_due.specs.After.{dueAfter}
+use Rattle.clock.specs.After.{dueAfter}
 use Rattle.model_records.specs.Values.{phasesIn}
 use Rattle.definition.specs.Model.{Phase, noPhase}
 use lib.ListN.{getD}

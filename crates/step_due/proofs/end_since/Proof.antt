@@ -3,7 +3,7 @@ use borrow.Author.Needs.{needs}
 use mathlib.Core.Path.{_∙_, ap}
 use Rattle.definition.specs.Engine.{dueNumber}
 use Rattle.spec_step.specs.TableStep.{dueIn}
-use Rattle.clock_due.specs.After.{dueAfter}
+use Rattle.clock.specs.After.{dueAfter}
 use Rattle.step_due.proofs.end_since.Statement.{statement}
 use Rattle.step_due.proofs.end_since.Tie as tie
 

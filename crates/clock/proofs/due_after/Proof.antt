@@ -1,11 +1,11 @@
 -- The two cases of the advance field; the sum is `Moment.plus`.
 use borrow.Author.Needs.{needs}
 use Rattle.definition.specs.Devs.{finite}
-use Rattle.clock_due.specs.After.{dueAfter}
+use Rattle.clock.specs.After.{dueAfter}
 use mathlib.Core.Path.{ap}
 use borrow.Author.Tests.{eq-eqb, ne-eqb}
-use Rattle.clock_due.proofs.due_after.Statement.{statement}
-use Rattle.clock_due.proofs.due_after.Tie as tie
+use Rattle.clock.proofs.due_after.Statement.{statement}
+use Rattle.clock.proofs.due_after.Tie as tie
 
 returns : tie.Need-returns
 unfolding dueAfter

@@ -1,8 +1,8 @@
 -- The two cases of a due moment.
 use borrow.Author.Needs.{needs}
 use Rattle.definition.specs.Engine.{dueNumber}
-use Rattle.clock_due.proofs.due_number.Statement.{statement}
-use Rattle.clock_due.proofs.due_number.Tie as tie
+use Rattle.clock.proofs.due_number.Statement.{statement}
+use Rattle.clock.proofs.due_number.Tie as tie
 
 returns : tie.Need-returns
 unfolding dueNumber

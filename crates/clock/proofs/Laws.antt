@@ -8,8 +8,8 @@ use borrow.Author.Tests.{leb-true, leb-false, le-leb, lt-leb}
 use Rattle.definition.specs.Limits.{neverField}
 use Rattle.definition.specs.Devs.{Time, finite, never, later}
 use Rattle.definition.specs.SavedRun.{notBefore}
 use Rattle.clock.specs.Times.{latest}
-use Rattle.clock_due.specs.After.{dueAfter}
+use Rattle.clock.specs.After.{dueAfter}
 
 -- The advance that a phase record holds.
 abbrev pub advanceTime : ℕ → Time

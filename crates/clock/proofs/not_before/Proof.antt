@@ -1,8 +1,8 @@
 -- The two cases of a due moment.
 use borrow.Author.Needs.{needs}
 use Rattle.definition.specs.SavedRun.{notBefore}
-use Rattle.clock_due.proofs.not_before.Statement.{statement}
-use Rattle.clock_due.proofs.not_before.Tie as tie
+use Rattle.clock.proofs.not_before.Statement.{statement}
+use Rattle.clock.proofs.not_before.Tie as tie
 
 returns : tie.Need-returns
 unfolding notBefore
