@@ -1,13 +1,13 @@
 // The engine's calls for C, under the names of include/pdevs.h; each promises what the engine's own call promises.
 // A slice stands for a pointer and a length.
 ghost use mathlib.Core.Path.{_≡_};
-ghost use Rattle.engine.specs.Answers.{wroteOf, advancedOf, readOf};
+ghost use Rattle.call_answers.specs.Answers.{wroteOf, advancedOf, readOf};
 ghost use Rattle.definition.specs.Pinned.Decoder.{checkModel};
 ghost use Rattle.definition.specs.Engine.{start, advance, reading};
 ghost use Rattle.definition.specs.Flatten.{flatten};
-use engine::Advanced;
-use engine::Reading;
-use engine::Written;
+use call_answers::Advanced;
+use call_answers::Reading;
+use call_answers::Written;
 
 #[no_mangle]
 pub extern "C" fn pdevs_check_model(model: &[u8]) -> u64

@@ -7,8 +7,9 @@ ghost use Rattle.definition.specs.Bytes.{ok};
 ghost use Rattle.definition.specs.Pinned.Decoder.{accepted};
 ghost use Rattle.definition.specs.Engine.{advanceChecks, advance};
 ghost use Rattle.model_file.specs.Checked.{modelOf};
-ghost use Rattle.call_advance.specs.Answers.{advancedOf};
+ghost use Rattle.call_answers.specs.Answers.{advancedOf};
 ghost use Rattle.call_advance.specs.LetIn.{ModelOpened, checkedBy, LetIn, Roomy};
+use call_answers::Advanced;
 use clock::Moment;
 use instant_loop::advance_from;
 use limits::BAD_BAG;
@@ -22,14 +23,6 @@ use model_file::Counts;
 use run_state::STATE_SIZE;
 use table_words::TABLE_SIZE;
 use table_words::atomics_in;
-
-// "Advance answers number, instants done, steps, trace bytes".
-pub struct Advanced {
-    pub number: u64,
-    pub instants: u64,
-    pub steps: u64,
-    pub trace_bytes: u64,
-}
 
 // A route carries at most 16 messages into an atomic. A model with few routes, as most have, gets a small buffer, so that a short call does
 // not pay for filling a large one with zeros.
@@ -69,7 +62,7 @@ fn advance_let_in(
     work: &mut [u32],
 ) -> Advanced
     requires { ⌜ LetIn (now file) n (now tables) (now run) (t .0) (now bag) × Roomy (now file) n (length (now work)) ⌝ }
-    ensures { λ r. ⌜ advancedOf r (now (run .exit)) (now (trace .exit)) ≡ advance (now (file .entry)) (now (run .entry)) (t .0) (now (bag .entry)) (now (trace .entry)) ⌝ }
+    ensures { λ r. ⌜ advancedOf (now (run .exit)) (now (trace .exit)) r ≡ advance (now (file .entry)) (now (run .entry)) (t .0) (now (bag .entry)) (now (trace .entry)) ⌝ }
 {
     let mut state = [0u64; STATE_SIZE];
     run_saved::load(run, size(atomics_in(tables)), &mut state);
@@ -95,7 +88,7 @@ fn advance_few(
     trace: &mut [u8],
 ) -> Advanced
     requires { ⌜ LetIn (now file) n (now tables) (now run) (t .0) (now bag) × (length (routes (modelOf (now file) n)) ≤ 64) ⌝ }
-    ensures { λ r. ⌜ advancedOf r (now (run .exit)) (now (trace .exit)) ≡ advance (now (file .entry)) (now (run .entry)) (t .0) (now (bag .entry)) (now (trace .entry)) ⌝ }
+    ensures { λ r. ⌜ advancedOf (now (run .exit)) (now (trace .exit)) r ≡ advance (now (file .entry)) (now (run .entry)) (t .0) (now (bag .entry)) (now (trace .entry)) ⌝ }
 {
     let mut work = [0u32; FEW_WORDS];
     advance_let_in(file, n, tables, run, t, bag, trace, &mut work)
@@ -111,7 +104,7 @@ fn advance_many(
     trace: &mut [u8],
 ) -> Advanced
     requires { ⌜ LetIn (now file) n (now tables) (now run) (t .0) (now bag) ⌝ }
-    ensures { λ r. ⌜ advancedOf r (now (run .exit)) (now (trace .exit)) ≡ advance (now (file .entry)) (now (run .entry)) (t .0) (now (bag .entry)) (now (trace .entry)) ⌝ }
+    ensures { λ r. ⌜ advancedOf (now (run .exit)) (now (trace .exit)) r ≡ advance (now (file .entry)) (now (run .entry)) (t .0) (now (bag .entry)) (now (trace .entry)) ⌝ }
 {
     let mut work = [0u32; MOST_WORDS];
     advance_let_in(file, n, tables, run, t, bag, trace, &mut work)
@@ -148,7 +141,7 @@ fn advance_accepted(
     trace: &mut [u8],
 ) -> Advanced
     requires { ⌜ ModelOpened (now file) n (now tables) «route_count» ⌝ }
-    ensures { λ r. ⌜ advancedOf r (now (run .exit)) (now (trace .exit)) ≡ advance (now (file .entry)) (now (run .entry)) t (now (bag .entry)) (now (trace .entry)) ⌝ }
+    ensures { λ r. ⌜ advancedOf (now (run .exit)) (now (trace .exit)) r ≡ advance (now (file .entry)) (now (run .entry)) t (now (bag .entry)) (now (trace .entry)) ⌝ }
 {
     let number = check_call(file, n, run, t, bag);
     if number != 0 {
@@ -162,7 +155,7 @@ fn advance_accepted(
 }
 
 pub fn advance(file: &[u8], run: &mut [u8], t: u64, bag: &[u8], trace: &mut [u8]) -> Advanced
-    ensures { λ r. ⌜ advancedOf r (now (run .exit)) (now (trace .exit)) ≡ advance (now (file .entry)) (now (run .entry)) t (now (bag .entry)) (now (trace .entry)) ⌝ }
+    ensures { λ r. ⌜ advancedOf (now (run .exit)) (now (trace .exit)) r ≡ advance (now (file .entry)) (now (run .entry)) t (now (bag .entry)) (now (trace .entry)) ⌝ }
 {
     let mut tables = [0u16; TABLE_SIZE];
     let counted = accept_tables::open_model(file, &mut tables);

@@ -2,10 +2,10 @@
 ghost use mathlib.Core.Path.{_≡_};
 ghost use lib.ListN.{length};
 ghost use Rattle.definition.specs.Flatten.{flatten};
-ghost use Rattle.call_start.specs.Answers.{wroteOf};
+ghost use Rattle.call_answers.specs.Answers.{wroteOf};
 ghost use Rattle.call_flatten.specs.Found.{CanFlatten, FlatFound};
 use accept_routes::Counted;
-use call_start::Written;
+use call_answers::Written;
 use limits::BUFFER_TOO_SHORT;
 use model_file::Checked;
 use model_file::Counts;
@@ -50,7 +50,7 @@ fn write_flat(
     out: &mut [u8],
 ) -> Written
     requires { ⌜ FlatFound (now file) n (now tables) (now rows) found ⌝ }
-    ensures { λ r. ⌜ wroteOf r (now (out .exit)) ≡ flatten (now (file .entry)) (now (out .entry)) ⌝ }
+    ensures { λ r. ⌜ wroteOf (now (out .exit)) r ≡ flatten (now (file .entry)) (now (out .entry)) ⌝ }
 {
     if out.len() < found.size {
         return Written {
@@ -80,7 +80,7 @@ fn write_flat(
 
 // Flatten: the flat form at the front of the buffer; the bytes beyond it stay.
 pub fn flatten(file: &[u8], out: &mut [u8]) -> Written
-    ensures { λ r. ⌜ wroteOf r (now (out .exit)) ≡ flatten (now (file .entry)) (now (out .entry)) ⌝ }
+    ensures { λ r. ⌜ wroteOf (now (out .exit)) r ≡ flatten (now (file .entry)) (now (out .entry)) ⌝ }
 {
     let mut tables = [0u16; TABLE_SIZE];
     let counted: Counted = accept_tables::open_model(file, &mut tables);

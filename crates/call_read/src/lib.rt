@@ -3,9 +3,10 @@ ghost use mathlib.Core.Path.{_≡_};
 ghost use Rattle.definition.specs.SavedRun.{runOf, nextDue};
 ghost use Rattle.definition.specs.Engine.{dueNumber, reading};
 ghost use Rattle.model_file.specs.Checked.{modelOf};
-ghost use Rattle.call_read.specs.Answers.{readOf};
+ghost use Rattle.call_answers.specs.Answers.{readOf};
 ghost use Rattle.call_read.specs.Opened.{ModelOpened, RunOpened};
 use accept_routes::Counted;
+use call_answers::Reading;
 use clock::Moment;
 use limits::BAD_POSITION;
 use limits::RUN_DOES_NOT_FIT;
@@ -13,14 +14,6 @@ use model_file::Checked;
 use model_file::Counts;
 use run_state::STATE_SIZE;
 use table_words::TABLE_SIZE;
-
-// The number, 0 for success; the phase and the last moment of the atomic at the position; and the whole model's next due moment.
-pub struct Reading {
-    pub number: u64,
-    pub phase: u64,
-    pub last: u64,
-    pub next_due: u64,
-}
 
 // A refused reading: zeros in every other number.
 fn refused(number: u64) -> Reading

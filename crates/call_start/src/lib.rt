@@ -9,23 +9,18 @@ ghost use Rattle.definition.specs.SavedRun.{runBytes};
 ghost use Rattle.definition.specs.Engine.{wrote, startRun, start};
 ghost use Rattle.model_records.specs.Values.{componentsIn};
 ghost use Rattle.run_saved.specs.Runs.{bare};
-ghost use Rattle.call_start.specs.Answers.{wroteOf};
+ghost use Rattle.call_answers.specs.Answers.{wroteOf};
+use call_answers::Written;
 use clock::Moment;
 use limits::BUFFER_TOO_SHORT;
 use model_file::Checked;
 use run_saved::run_size;
 use run_state::STATE_SIZE;
 
-// The number, 0 for success, and the bytes written.
-pub struct Written {
-    pub number: u64,
-    pub bytes: u64,
-}
-
 // The run of a start, where there is room for it.
 fn start_run(components: &[u8], run: &mut [u8]) -> Written
     requires { ⌜ length (componentsIn (now components)) ≤ maxComponents ⌝ }
-    ensures { λ r. ⌜ wroteOf r (now (run .exit)) ≡ wrote (now (run .entry)) (ok (runBytes (startRun (bare (now (components .entry)) [])))) ⌝ }
+    ensures { λ r. ⌜ wroteOf (now (run .exit)) r ≡ wrote (now (run .entry)) (ok (runBytes (startRun (bare (now (components .entry)) [])))) ⌝ }
 {
     let n = model_records::atomic_count(components);
     let size = run_size(n);
@@ -46,7 +41,7 @@ fn start_run(components: &[u8], run: &mut [u8]) -> Written
 
 // Start: the first run of a model, at the front of the buffer; the bytes beyond it stay.
 pub fn start(file: &[u8], run: &mut [u8]) -> Written
-    ensures { λ r. ⌜ wroteOf r (now (run .exit)) ≡ start (now (file .entry)) (now (run .entry)) ⌝ }
+    ensures { λ r. ⌜ wroteOf (now (run .exit)) r ≡ start (now (file .entry)) (now (run .entry)) ⌝ }
 {
     let checked = accept_routes::check(file);
     let Checked::Accepted(n) = checked else {

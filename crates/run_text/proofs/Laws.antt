@@ -8,9 +8,9 @@ use lib.Seq.{drop-cons, drop-drop}
 use borrow.Author.Tests.{lt-ltb, le-ltb, eq-eqb, ne-eqb}
 use Rattle.definition.specs.Bytes.{Bytes, numberAt}
 use Rattle.definition.specs.Limits.{messageSize}
-use Rattle.engine.specs.declared.Written.{Written}
-use Rattle.engine.specs.declared.Advanced.{Advanced}
-use Rattle.engine.specs.Answers.{wroteOf, advancedOf}
+use Rattle.call_answers.specs.declared.Written.{Written}
+use Rattle.call_answers.specs.declared.Advanced.{Advanced}
+use Rattle.call_answers.specs.Answers.{wroteOf, advancedOf}
 use Rattle.definition.specs.Engine.{start, advance}
 use Rattle.run_text.specs.Put.{Page, put1, put}
 use Rattle.run_text.specs.Text.{digit, decimalIn, field, messageLine, messageLines, recordHead, recordLines, behindRecord, lines, traceLines, endLine, refusedLine, space, newline, firstLine, momentSize}

@@ -2,7 +2,7 @@
 use borrow.Author.Needs.{needs}
 use Rattle.run_text.proofs.Laws.{advanced-text}
 use Rattle.definition.specs.Engine.{advance}
-use Rattle.engine.specs.Answers.{advancedOf}
+use Rattle.call_answers.specs.Answers.{advancedOf}
 use denote.Ref.{now}
 use mathlib.Core.List.{[]}
 use mathlib.Core.Path.{_≡_, sym, _∙_, ap}

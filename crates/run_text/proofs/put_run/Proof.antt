@@ -2,7 +2,7 @@
 use borrow.Author.Needs.{needs}
 use Rattle.run_text.proofs.Laws.{started-on, started-off}
 use Rattle.definition.specs.Engine.{start}
-use Rattle.engine.specs.Answers.{wroteOf}
+use Rattle.call_answers.specs.Answers.{wroteOf}
 use denote.Ref.{now}
 use mathlib.Core.Path.{_≡_}
 use Rattle.run_text.proofs.put_run.Statement.{statement}

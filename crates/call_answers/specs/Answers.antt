@@ -2,9 +2,9 @@
 use Rattle.definition.specs.Bytes.{Bytes}
 use Rattle.definition.specs.Engine.{Wrote, WasRead}
 use Rattle.definition.specs.Engine.{Advanced as DefAdvanced}
-use Rattle.engine.specs.declared.Written.{Written}
-use Rattle.engine.specs.declared.Advanced.{Advanced}
-use Rattle.engine.specs.declared.Reading.{Reading}
+use Rattle.call_answers.specs.declared.Written.{Written}
+use Rattle.call_answers.specs.declared.Advanced.{Advanced}
+use Rattle.call_answers.specs.declared.Reading.{Reading}
 
 abbrev pub wroteOf : Bytes → Written → Wrote
 wroteOf buffer r = record { number = r .number; written = r .bytes; buffer = buffer }
