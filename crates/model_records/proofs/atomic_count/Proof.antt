@@ -1,16 +1,15 @@
--- k is the number of atomics before component c, by `kept-more` one component more each turn.
+-- `model_records::atomic_count` meets its contract. Invariant: k is the number of atomics before component c, by `kept-more` one component more
+-- each turn. Assumes nothing.
 use borrow.Author.Needs.{needs}
 use native.Mathlib.Omega.{arith}
-use Prim.Native.Nat.{_+_}
 use mathlib.Core.Bool.{Bool, cond}
-use mathlib.Core.Path.{ap₂}
 use Rattle.model_records.proofs.Counting.{kept-more, one-most}
 use Rattle.model_records.specs.Values.{componentsIn}
 use Rattle.definition.specs.Model.{isAtomic, atomics}
 use Rattle.definition.specs.Lists.{keep, upFrom}
 use lib.ListN.{length}
-use Prim.Native.Nat.{_≤_, _-_}
-use mathlib.Core.Path.{_≡_, refl, _∙_, ap}
+use Prim.Native.Nat.{_+_, _≤_, _-_}
+use mathlib.Core.Path.{_≡_, refl, ap, ap₂, _∙_}
 use Rattle.model_records.proofs.atomic_count.Statement.{statement}
 use Rattle.model_records.proofs.atomic_count.Tie as tie
 
@@ -19,15 +18,6 @@ Inv-loop components n k₀ c₀ k c = (c ≤ n) × (k ≤ c) × (k ≡ length (k
 
 abbrev μ-loop : tie.MeasureT-loop
 μ-loop components n k₀ c₀ k c = n - c
-
-loop-holds : tie.Need-loop-holds Inv-loop μ-loop
-unfolding keep upFrom
-loop-holds c = (omega arith, omega arith, refl)
-
-add-k : tie.Need-add-k Inv-loop μ-loop
-add-k c =
-    let b = one-most (c .before .is-atomic .result) in
-    search needs
 
 loop-again : tie.Need-loop-again Inv-loop μ-loop
 loop-again c =
@@ -49,5 +39,6 @@ returns c =
 
 pub atomic-count-spec : {M : Type 1} → statement M
 atomic-count-spec =
-    tie.close (tie.spec Inv-loop μ-loop (λ c κs. search needs) loop-holds (λ c κs. search needs) (λ c κs. search needs) add-k (λ c. search needs)
-    (λ c. search needs) loop-again returns)
+    tie.close (tie.spec Inv-loop μ-loop (λ c κs. search needs) (λ c. unfold keep upFrom in (omega arith, omega arith, refl)) (λ c κs. search needs)
+    (λ c κs. search needs) (λ c. let b = one-most (c .before .is-atomic .result) in search needs) (λ c. search needs) (λ c. search needs) loop-again
+    returns)

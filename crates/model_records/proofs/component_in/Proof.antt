@@ -9,10 +9,6 @@ use Rattle.model_records.proofs.Fields.{record-there, record-is}
 use Rattle.model_records.proofs.component_in.Statement.{statement}
 use Rattle.model_records.proofs.component_in.Tie as tie
 
-record-bytes-requires : tie.Need-record-bytes-requires
-unfolding componentsIn
-record-bytes-requires c κs = let start : tie.Start = search in record-there componentSize toComponent _ _ (start .pre)
-
 returns : tie.Need-returns
 unfolding componentsIn toComponent componentAt
 returns c =
@@ -23,4 +19,5 @@ returns c =
 
 pub component-in-spec : {M : Type 1} → statement M
 component-in-spec =
-    tie.close (tie.spec record-bytes-requires (search needs) (search needs) (search needs) (search needs) (search needs) returns)
+    tie.close (tie.spec (λ c κs. unfold componentsIn in let start : tie.Start = search in record-there _ toComponent _ _ (start .pre)) (search needs)
+    (search needs) (search needs) (search needs) (search needs) returns)

@@ -9,10 +9,6 @@ use Rattle.model_records.proofs.Fields.{record-there, record-is}
 use Rattle.model_records.proofs.coupling_in.Statement.{statement}
 use Rattle.model_records.proofs.coupling_in.Tie as tie
 
-record-bytes-requires : tie.Need-record-bytes-requires
-unfolding couplingsIn
-record-bytes-requires c κs = let start : tie.Start = search in record-there couplingSize toCoupling _ _ (start .pre)
-
 returns : tie.Need-returns
 unfolding couplingsIn toCoupling
 returns c =
@@ -21,4 +17,6 @@ returns c =
     rw (← record-is couplingSize toCoupling (now (start .args .couplings)) (start .args .i) noCoupling (start .pre) (bytes .record-bytes .ensures), field0 .byte-at .ensures, field1 .byte-at2 .ensures, field2 .byte-at3 .ensures, field3 .byte-at4 .ensures)
 
 pub coupling-in-spec : {M : Type 1} → statement M
-coupling-in-spec = tie.close (tie.spec record-bytes-requires (search needs) (search needs) (search needs) (search needs) returns)
+coupling-in-spec =
+    tie.close (tie.spec (λ c κs. unfold couplingsIn in let start : tie.Start = search in record-there _ toCoupling _ _ (start .pre)) (search needs)
+    (search needs) (search needs) (search needs) returns)

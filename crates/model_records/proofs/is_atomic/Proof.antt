@@ -4,9 +4,5 @@ use Rattle.definition.specs.Model.{isAtomic}
 use Rattle.model_records.proofs.is_atomic.Statement.{statement}
 use Rattle.model_records.proofs.is_atomic.Tie as tie
 
-returns : tie.Need-returns
-unfolding isAtomic
-returns c = rw (← c .before .component-at .ensures)
-
 pub is-atomic-spec : {M : Type 1} → statement M
-is-atomic-spec = tie.close (tie.spec (λ c κs. search needs) returns)
+is-atomic-spec = tie.close (tie.spec (λ c κs. search needs) (λ c. unfold isAtomic in rw (← c .before .component-at .ensures)))

@@ -4,9 +4,7 @@ use Rattle.definition.specs.Model.{isChild}
 use Rattle.model_records.proofs.is_child.Statement.{statement}
 use Rattle.model_records.proofs.is_child.Tie as tie
 
-returns : tie.Need-returns
-unfolding isChild
-returns c = rw (← c .before .component-at .ensures, c .u8-to-usize .ensures)
-
 pub is-child-spec : {M : Type 1} → statement M
-is-child-spec = tie.close (tie.spec (λ c κs. search needs) (λ c κs. search needs) returns)
+is-child-spec =
+    tie.close (tie.spec (λ c κs. search needs) (λ c κs. search needs)
+    (λ c. unfold isChild in rw (← c .before .component-at .ensures, c .u8-to-usize .ensures)))

@@ -4,9 +4,6 @@ use Rattle.definition.specs.Records.{messageAt}
 use Rattle.model_records.proofs.message_at.Statement.{statement}
 use Rattle.model_records.proofs.message_at.Tie as tie
 
-returns : tie.Need-returns
-unfolding messageAt
-returns c = rw (c .before .byte-at .ensures, c .u16-at .ensures)
-
 pub message-at-spec : {M : Type 1} → statement M
-message-at-spec = tie.close (tie.spec (search needs) (search needs) (search needs) returns)
+message-at-spec =
+    tie.close (tie.spec (search needs) (search needs) (search needs) (λ c. unfold messageAt in rw (c .before .byte-at .ensures, c .u16-at .ensures)))

@@ -9,10 +9,6 @@ use Rattle.model_records.proofs.Fields.{record-there, record-is}
 use Rattle.model_records.proofs.phase_in.Statement.{statement}
 use Rattle.model_records.proofs.phase_in.Tie as tie
 
-record-bytes-requires : tie.Need-record-bytes-requires
-unfolding phasesIn
-record-bytes-requires c κs = let start : tie.Start = search in record-there phaseSize toPhase _ _ (start .pre)
-
 returns : tie.Need-returns
 unfolding phasesIn toPhase
 returns c =
@@ -23,4 +19,5 @@ returns c =
 
 pub phase-in-spec : {M : Type 1} → statement M
 phase-in-spec =
-    tie.close (tie.spec record-bytes-requires (search needs) (search needs) (search needs) (search needs) (search needs) (search needs) (search needs) returns)
+    tie.close (tie.spec (λ c κs. unfold phasesIn in let start : tie.Start = search in record-there _ toPhase _ _ (start .pre)) (search needs)
+    (search needs) (search needs) (search needs) (search needs) (search needs) (search needs) returns)

@@ -17,9 +17,6 @@ Inv-loop components c total₀ i₀ total i = (i ≤ c) × (total ≤ 255 * i) �
 abbrev μ-loop : tie.MeasureT-loop
 μ-loop components c total₀ i₀ total i = c - i
 
-loop-holds : tie.Need-loop-holds Inv-loop μ-loop
-loop-holds c = (omega arith, omega arith, sym (before-none (componentsIn (now (c .before .args .components)))))
-
 loop-again : tie.Need-loop-again Inv-loop μ-loop
 loop-again c =
     let start : tie.Start Inv-loop μ-loop = search in let after-u8-to-usize : tie.After-u8-to-usize Inv-loop μ-loop = search in
@@ -39,5 +36,6 @@ returns c =
 
 pub phases-before-spec : {M : Type 1} → statement M
 phases-before-spec =
-    tie.close (tie.spec Inv-loop μ-loop loop-holds (λ c κs. search needs) (λ c κs. search needs) (λ c κs. search needs) (λ c. search needs)
-    (λ c. search needs) (λ c. search needs) loop-again returns)
+    tie.close (tie.spec Inv-loop μ-loop (λ c. (omega arith, omega arith, sym (before-none (componentsIn (now (c .before .args .components))))))
+    (λ c κs. search needs) (λ c κs. search needs) (λ c κs. search needs) (λ c. search needs) (λ c. search needs) (λ c. search needs) loop-again
+    returns)

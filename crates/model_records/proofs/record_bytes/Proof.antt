@@ -14,22 +14,9 @@ use Rattle.model_records.proofs.record_bytes.Tie as tie
 ends : (c : tie.Start) → c .args .size * c .args .i + c .args .size ≤ length (now (c .args .records))
 ends c = record-ends (c .args .size) (now (c .args .records)) (c .args .i) (c .pre)
 
-mul-start : tie.Need-mul-start
-mul-start c = let start : tie.Start = search in let within = ends start in search needs
-
-add-result : tie.Need-add-result
-add-result c = let start : tie.Start = search in let within = ends start in search needs
-
-part-result-end : tie.Need-part-result-end
-part-result-end c = let start : tie.Start = search in let within = ends start in search needs
-
-returns : tie.Need-returns
-unfolding row
-returns c =
-    let start : tie.Start = search in
-    let a = start .args in
-    let e : a .size * a .i + a .size - a .size * a .i ≡ a .size = omega arith in
-    rw e
-
 pub record-bytes-spec : {M : Type 1} → statement M
-record-bytes-spec = tie.close (tie.spec mul-start add-result (search needs) (search needs) part-result-end returns)
+record-bytes-spec =
+    tie.close (tie.spec (λ c. let within = ends search in search needs) (λ c. let within = ends search in search needs) (search needs) (search needs)
+    (λ c. let within = ends search in search needs)
+    (λ c. unfold row in let start : tie.Start = search in let a = start .args in
+    let e : a .size * a .i + a .size - a .size * a .i ≡ a .size = omega arith in rw e))

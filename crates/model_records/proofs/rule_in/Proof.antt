@@ -9,10 +9,6 @@ use Rattle.model_records.proofs.Fields.{record-there, record-is}
 use Rattle.model_records.proofs.rule_in.Statement.{statement}
 use Rattle.model_records.proofs.rule_in.Tie as tie
 
-record-bytes-requires : tie.Need-record-bytes-requires
-unfolding rulesIn
-record-bytes-requires c κs = let start : tie.Start = search in record-there ruleSize toRule _ _ (start .pre)
-
 returns : tie.Need-returns
 unfolding rulesIn toRule
 returns c =
@@ -24,4 +20,5 @@ returns c =
 
 pub rule-in-spec : {M : Type 1} → statement M
 rule-in-spec =
-    tie.close (tie.spec record-bytes-requires (search needs) (search needs) (search needs) (search needs) (search needs) (search needs) (search needs) (search needs) (search needs) returns)
+    tie.close (tie.spec (λ c κs. unfold rulesIn in let start : tie.Start = search in record-there _ toRule _ _ (start .pre)) (search needs)
+    (search needs) (search needs) (search needs) (search needs) (search needs) (search needs) (search needs) (search needs) returns)
