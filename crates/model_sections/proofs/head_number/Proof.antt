@@ -6,14 +6,6 @@ use Rattle.definition.specs.Pinned.Decoder.{sectionCount}
 use Rattle.model_sections.proofs.head_number.Statement.{statement}
 use Rattle.model_sections.proofs.head_number.Tie as tie
 
-returns : tie.Need-returns
-unfolding sectionCount
-returns c = rw (lt-ltb _ _ (c .if1 .taken))
-
-returns-2 : tie.Need-returns-2
-unfolding sectionCount
-returns-2 c = rw (le-ltb _ _ (c .before .if1 .left), lt-ltb _ _ (c .if2 .taken))
-
 returns-3 : tie.Need-returns-3
 unfolding sectionCount
 returns-3 c =
@@ -27,4 +19,7 @@ returns-4 c =
     rw (le-ltb _ _ (counted .if1 .left), le-ltb _ _ (judged .if2 .left), ← count .u16-at .ensures, ← c .before .length-of .ensures .0, le-ltb _ _ (c .if3 .left))
 
 pub head-number-spec : {M : Type 1} → statement M
-head-number-spec = tie.close (tie.spec returns returns-2 (search needs) (search needs) (search needs) returns-3 returns-4)
+head-number-spec =
+    tie.close (tie.spec (λ c. unfold sectionCount in rw (lt-ltb _ _ (c .if1 .taken)))
+    (λ c. unfold sectionCount in rw (le-ltb _ _ (c .before .if1 .left), lt-ltb _ _ (c .if2 .taken))) (search needs) (search needs) (search needs)
+    returns-3 returns-4)

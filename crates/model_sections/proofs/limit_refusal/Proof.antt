@@ -4,13 +4,6 @@ use Rattle.definition.specs.Pinned.Decoder.{limitRefusal}
 use Rattle.model_sections.proofs.limit_refusal.Statement.{statement}
 use Rattle.model_sections.proofs.limit_refusal.Tie as tie
 
-returns : tie.Need-returns
-unfolding limitRefusal
-returns c = rw (lt-ltb _ _ (c .if1 .taken))
-
-returns-2 : tie.Need-returns-2
-unfolding limitRefusal
-returns-2 c = rw (le-ltb _ _ (c .if1 .left))
-
 pub limit-refusal-spec : {M : Type 1} → statement M
-limit-refusal-spec = tie.close (tie.spec returns returns-2)
+limit-refusal-spec =
+    tie.close (tie.spec (λ c. unfold limitRefusal in rw (lt-ltb _ _ (c .if1 .taken))) (λ c. unfold limitRefusal in rw (le-ltb _ _ (c .if1 .left))))

@@ -4,17 +4,8 @@ use Rattle.definition.specs.Pinned.Decoder.{phaseCountRefusal}
 use Rattle.model_sections.proofs.phase_count_refusal.Statement.{statement}
 use Rattle.model_sections.proofs.phase_count_refusal.Tie as tie
 
-returns : tie.Need-returns
-unfolding phaseCountRefusal
-returns c = rw (lt-ltb _ _ (c .if1 .taken))
-
-returns-2 : tie.Need-returns-2
-unfolding phaseCountRefusal
-returns-2 c = rw (le-ltb _ _ (c .before .if1 .left), ne-eqb _ _ (c .if2 .taken))
-
-returns-3 : tie.Need-returns-3
-unfolding phaseCountRefusal
-returns-3 c = rw (le-ltb _ _ (c .before .if1 .left), eq-eqb _ _ (c .if2 .left))
-
 pub phase-count-refusal-spec : {M : Type 1} → statement M
-phase-count-refusal-spec = tie.close (tie.spec returns returns-2 returns-3)
+phase-count-refusal-spec =
+    tie.close (tie.spec (λ c. unfold phaseCountRefusal in rw (lt-ltb _ _ (c .if1 .taken)))
+    (λ c. unfold phaseCountRefusal in rw (le-ltb _ _ (c .before .if1 .left), ne-eqb _ _ (c .if2 .taken)))
+    (λ c. unfold phaseCountRefusal in rw (le-ltb _ _ (c .before .if1 .left), eq-eqb _ _ (c .if2 .left))))

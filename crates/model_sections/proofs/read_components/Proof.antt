@@ -91,24 +91,6 @@ returns-3 c =
 
 pub read-components-spec : {M : Type 1} → statement M
 read-components-spec =
-    tie.close
-    (tie.spec
-    Inv-loop
-    μ-loop
-    (search needs)
-    (search needs)
-    (search needs)
-    (search needs)
-    returns
-    (search needs)
-    loop-holds
-    read-component-requires
-    (λ c. search needs)
-    (λ c. search needs)
-    (search needs)
-    returns-2
-    keep-component-requires
-    (λ c. search needs)
-    (λ c. search needs)
-    loop-again
-    returns-3)
+    tie.close (tie.spec Inv-loop μ-loop (search needs) (search needs) (search needs) (search needs) returns (search needs) loop-holds
+    read-component-requires (λ c. search needs) (λ c. search needs) (search needs) returns-2 keep-component-requires (λ c. search needs)
+    (λ c. search needs) loop-again returns-3)

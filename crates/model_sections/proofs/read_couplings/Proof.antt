@@ -67,24 +67,6 @@ returns-3 c = reading-ends (c .before .loop .inv .0) (c .loop-test .left)
 
 pub read-couplings-spec : {M : Type 1} → statement M
 read-couplings-spec =
-    tie.close
-    (tie.spec
-    Inv-loop
-    μ-loop
-    (search needs)
-    (search needs)
-    (search needs)
-    (search needs)
-    returns
-    (search needs)
-    loop-holds
-    read-coupling-requires
-    (λ c. search needs)
-    (λ c. search needs)
-    (search needs)
-    returns-2
-    (search needs)
-    (λ c. search needs)
-    (λ c. search needs)
-    loop-again
-    returns-3)
+    tie.close (tie.spec Inv-loop μ-loop (search needs) (search needs) (search needs) (search needs) returns (search needs) loop-holds
+    read-coupling-requires (λ c. search needs) (λ c. search needs) (search needs) returns-2 (search needs) (λ c. search needs) (λ c. search needs)
+    loop-again returns-3)

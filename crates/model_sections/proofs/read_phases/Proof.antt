@@ -123,33 +123,6 @@ returns-3 c =
 
 pub read-phases-spec : {M : Type 1} → statement M
 read-phases-spec =
-    tie.close
-    (tie.spec
-    Inv-loop2
-    μ-loop2
-    Inv-loop
-    μ-loop
-    (search needs)
-    (search needs)
-    (search needs)
-    (λ c κs. search needs)
-    (search needs)
-    (search needs)
-    returns
-    (search needs)
-    loop-holds
-    element-copy-out-bound
-    loop2-holds
-    read-phase-requires
-    (λ c. search needs)
-    (λ c. search needs)
-    (search needs)
-    returns-2
-    add-i
-    add-p
-    (λ c. search needs)
-    loop2-again
-    (λ c. search needs)
-    (λ c. search needs)
-    loop-again
-    returns-3)
+    tie.close (tie.spec Inv-loop2 μ-loop2 Inv-loop μ-loop (search needs) (search needs) (search needs) (λ c κs. search needs) (search needs)
+    (search needs) returns (search needs) loop-holds element-copy-out-bound loop2-holds read-phase-requires (λ c. search needs) (λ c. search needs)
+    (search needs) returns-2 add-i add-p (λ c. search needs) loop2-again (λ c. search needs) (λ c. search needs) loop-again returns-3)

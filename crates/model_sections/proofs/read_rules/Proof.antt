@@ -59,23 +59,5 @@ returns-3 c = reading-ends (c .before .loop .inv) (c .loop-test .left)
 
 pub read-rules-spec : {M : Type 1} → statement M
 read-rules-spec =
-    tie.close
-    (tie.spec
-    Inv-loop
-    μ-loop
-    (search needs)
-    (search needs)
-    (search needs)
-    (search needs)
-    returns
-    (search needs)
-    loop-holds
-    read-rule-requires
-    (λ c. search needs)
-    (λ c. search needs)
-    (search needs)
-    returns-2
-    (λ c. search needs)
-    (λ c. search needs)
-    loop-again
-    returns-3)
+    tie.close (tie.spec Inv-loop μ-loop (search needs) (search needs) (search needs) (search needs) returns (search needs) loop-holds
+    read-rule-requires (λ c. search needs) (λ c. search needs) (search needs) returns-2 (λ c. search needs) (λ c. search needs) loop-again returns-3)

@@ -4,9 +4,7 @@ use Rattle.law_bytes.specs.Parts.{restAfter}
 use Rattle.model_sections.proofs.section_rest.Statement.{statement}
 use Rattle.model_sections.proofs.section_rest.Tie as tie
 
-returns : tie.Need-returns
-unfolding restAfter
-returns c = rw (c .rest .ensures, c .before .length-of .ensures .0)
-
 pub section-rest-spec : {M : Type 1} → statement M
-section-rest-spec = tie.close (tie.spec (λ c κs. search needs) (λ c. search needs) (λ c κs. search needs) returns)
+section-rest-spec =
+    tie.close (tie.spec (λ c κs. search needs) (λ c. search needs) (λ c κs. search needs)
+    (λ c. unfold restAfter in rw (c .rest .ensures, c .before .length-of .ensures .0)))
