@@ -4,9 +4,5 @@ use Rattle.model_file.specs.Checked.{afterComponents}
 use Rattle.model_file.proofs.after_components.Statement.{statement}
 use Rattle.model_file.proofs.after_components.Tie as tie
 
-returns : tie.Need-returns
-unfolding afterComponents
-returns c = c .section-rest .ensures
-
 pub after-components-spec : {M : Type 1} → statement M
-after-components-spec = tie.close (tie.spec (λ c κs. search needs) returns)
+after-components-spec = tie.close (tie.spec (λ c κs. search needs) (λ c. unfold afterComponents in c .section-rest .ensures))

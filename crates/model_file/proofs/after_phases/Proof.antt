@@ -4,9 +4,7 @@ use Rattle.model_file.specs.Checked.{afterPhases}
 use Rattle.model_file.proofs.after_phases.Statement.{statement}
 use Rattle.model_file.proofs.after_phases.Tie as tie
 
-returns : tie.Need-returns
-unfolding afterPhases
-returns c = rw (c .section-rest .ensures, c .before .after-components .ensures)
-
 pub after-phases-spec : {M : Type 1} → statement M
-after-phases-spec = tie.close (tie.spec (λ c κs. search needs) (λ c κs. search needs) returns)
+after-phases-spec =
+    tie.close (tie.spec (λ c κs. search needs) (λ c κs. search needs)
+    (λ c. unfold afterPhases in rw (c .section-rest .ensures, c .before .after-components .ensures)))

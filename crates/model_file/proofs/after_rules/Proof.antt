@@ -4,9 +4,6 @@ use Rattle.model_file.specs.Checked.{afterRules}
 use Rattle.model_file.proofs.after_rules.Statement.{statement}
 use Rattle.model_file.proofs.after_rules.Tie as tie
 
-returns : tie.Need-returns
-unfolding afterRules
-returns c = rw (c .section-rest .ensures, c .before .after-phases .ensures)
-
 pub after-rules-spec : {M : Type 1} → statement M
-after-rules-spec = tie.close (tie.spec (λ c κs. search needs) (λ c κs. search needs) returns)
+after-rules-spec =
+    tie.close (tie.spec (λ c κs. search needs) (λ c κs. search needs) (λ c. unfold afterRules in rw (c .section-rest .ensures, c .before .after-phases .ensures)))

@@ -4,9 +4,5 @@ use Rattle.model_file.specs.Checked.{componentsPart}
 use Rattle.model_file.proofs.components_of.Statement.{statement}
 use Rattle.model_file.proofs.components_of.Tie as tie
 
-returns : tie.Need-returns
-unfolding componentsPart
-returns c = c .section-part .ensures
-
 pub components-of-spec : {M : Type 1} → statement M
-components-of-spec = tie.close (tie.spec (λ c κs. search needs) returns)
+components-of-spec = tie.close (tie.spec (λ c κs. search needs) (λ c. unfold componentsPart in c .section-part .ensures))

@@ -4,9 +4,7 @@ use Rattle.model_file.specs.Checked.{couplingsPart}
 use Rattle.model_file.proofs.couplings_of.Statement.{statement}
 use Rattle.model_file.proofs.couplings_of.Tie as tie
 
-returns : tie.Need-returns
-unfolding couplingsPart
-returns c = rw (c .section-part .ensures, c .before .after-rules .ensures)
-
 pub couplings-of-spec : {M : Type 1} → statement M
-couplings-of-spec = tie.close (tie.spec (λ c κs. search needs) (λ c κs. search needs) returns)
+couplings-of-spec =
+    tie.close (tie.spec (λ c κs. search needs) (λ c κs. search needs)
+    (λ c. unfold couplingsPart in rw (c .section-part .ensures, c .before .after-rules .ensures)))

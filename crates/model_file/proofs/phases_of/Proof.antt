@@ -4,9 +4,7 @@ use Rattle.model_file.specs.Checked.{phasesPart}
 use Rattle.model_file.proofs.phases_of.Statement.{statement}
 use Rattle.model_file.proofs.phases_of.Tie as tie
 
-returns : tie.Need-returns
-unfolding phasesPart
-returns c = rw (c .section-part .ensures, c .before .after-components .ensures)
-
 pub phases-of-spec : {M : Type 1} → statement M
-phases-of-spec = tie.close (tie.spec (λ c κs. search needs) (λ c κs. search needs) returns)
+phases-of-spec =
+    tie.close (tie.spec (λ c κs. search needs) (λ c κs. search needs)
+    (λ c. unfold phasesPart in rw (c .section-part .ensures, c .before .after-components .ensures)))

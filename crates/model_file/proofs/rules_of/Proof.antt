@@ -4,9 +4,7 @@ use Rattle.model_file.specs.Checked.{rulesPart}
 use Rattle.model_file.proofs.rules_of.Statement.{statement}
 use Rattle.model_file.proofs.rules_of.Tie as tie
 
-returns : tie.Need-returns
-unfolding rulesPart
-returns c = rw (c .section-part .ensures, c .before .after-phases .ensures)
-
 pub rules-of-spec : {M : Type 1} → statement M
-rules-of-spec = tie.close (tie.spec (λ c κs. search needs) (λ c κs. search needs) returns)
+rules-of-spec =
+    tie.close (tie.spec (λ c κs. search needs) (λ c κs. search needs)
+    (λ c. unfold rulesPart in rw (c .section-part .ensures, c .before .after-phases .ensures)))
