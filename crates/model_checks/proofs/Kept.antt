@@ -12,7 +12,7 @@ use borrow.Author.Tests.{ltb-true, leb-true, leb-false, eqb-true, eqb-false, lt-
 use Rattle.definition.specs.Limits.{maxComponents, maxAncestors, maxOwnPhases, portCount}
 use Rattle.definition.specs.Model.{Component, Rule, componentAt, isAtomic, isChild, isSibling}
 use Rattle.definition.specs.Pinned.Decoder.{coupledFields, atomicFields, kindFields, rootFields, rootWithin, placeFits, componentFits, ruleFields, related}
-use Rattle.law_base.proofs.Tests.{and-left, and-right}
+use Rattle.law_base.proofs.Tests.{and-left, and-right, eqb-sym}
 use Rattle.model_checks.specs.Known.{Accepted, Each, PhaseCounts, Depths}
 use Rattle.model_checks.proofs.Laws.{root-here, root-none, root-up}
 
@@ -220,13 +220,6 @@ or-self : (a : Bool) → (a || a) ≡ a
 or-self true = refl
 or-self false = refl
 
-eqb-swap : (a b : ℕ) → eqb a b ≡ eqb b a
-eqb-swap a b = go (eqb a b) refl
-  where
-    go : (t : Bool) → eqb a b ≡ t → t ≡ eqb b a
-    go true e = sym (eq-eqb b a (sym (eqb-true a b e)))
-    go false e = sym (ne-eqb b a (λ q. eqb-false a b e (sym q)))
-
 or-last : (a b c : Bool) → ((a || b) || c) ≡ ((a || c) || b)
 or-last true b c = refl
 or-last false true true = refl
@@ -252,9 +245,9 @@ module _ (cs : List Component) (n s t : ℕ) (a : Accepted cs n) (ls : s < n) (l
       go true f false g =
           let z = eqb-true s 0 f in
           let e : ps ≡ s = root-parent cs s (a .fit s ls) z ∙ sym z in
-          rw (e, ne-eqb s t d, eqb-swap s pt) (simp (and-false, or-false, or-self))
+          rw (e, ne-eqb s t d, eqb-sym s pt) (simp (and-false, or-false, or-self))
       go false f true g =
           let z = eqb-true t 0 g in
           let e : pt ≡ t = root-parent cs t (a .fit t lt) z ∙ sym z in
-          rw (e, eqb-swap t s, ne-eqb s t d) (simp (and-false, or-false, or-self))
-      go false f false g = rw (ne-eqb s t d, eqb-swap pt ps) (or-last (eqb pt s) (eqb ps t) (eqb ps pt))
+          rw (e, eqb-sym t s, ne-eqb s t d) (simp (and-false, or-false, or-self))
+      go false f false g = rw (ne-eqb s t d, eqb-sym pt ps) (or-last (eqb pt s) (eqb ps t) (eqb ps pt))

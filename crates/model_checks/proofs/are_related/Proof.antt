@@ -10,12 +10,6 @@ use Rattle.model_checks.proofs.Kept.{related-self, related-by}
 use Rattle.model_checks.proofs.are_related.Statement.{statement}
 use Rattle.model_checks.proofs.are_related.Tie as tie
 
-element-copy-out-u8-to-usize : tie.Need-element-copy-out-u8-to-usize
-element-copy-out-u8-to-usize c = let start : tie.Start = search in omega (arith, start .pre .placed .0 .few)
-
-element-copy-out-u8-to-usize-2 : tie.Need-element-copy-out-u8-to-usize-2
-element-copy-out-u8-to-usize-2 c = let start : tie.Start = search in omega (arith, start .pre .placed .0 .few)
-
 returns : tie.Need-returns
 returns c =
     let start : tie.Start = search in
@@ -36,4 +30,6 @@ returns-2 c =
     rw (f, g) (related-by cs (length cs) (a .source) (a .target) (q .placed .0) (q .sourceThere) (q .targetThere) (c .if1 .left))
 
 pub are-related-spec : {M : Type 1} → statement M
-are-related-spec = tie.close (tie.spec element-copy-out-u8-to-usize (search needs) element-copy-out-u8-to-usize-2 (search needs) returns returns-2)
+are-related-spec =
+    tie.close (tie.spec (λ c. let start : tie.Start = search in omega (arith, start .pre .placed .0 .few)) (search needs)
+    (λ c. let start : tie.Start = search in omega (arith, start .pre .placed .0 .few)) (search needs) returns returns-2)

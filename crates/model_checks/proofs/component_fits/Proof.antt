@@ -12,18 +12,6 @@ use Rattle.model_checks.specs.Known.{fitsBehind}
 use Rattle.model_checks.proofs.component_fits.Statement.{statement}
 use Rattle.model_checks.proofs.component_fits.Tie as tie
 
-returns : tie.Need-returns
-unfolding fitsBehind rootFields
-returns c =
-    let root : tie.Then1 = search in let kind : tie.After-kind-fields = search in
-    rw (eq-eqb _ _ (root .if1 .taken), kind .kind-fields .ensures)
-
-returns-2 : tie.Need-returns-2
-unfolding fitsBehind
-returns-2 c =
-    let other : tie.Else1 = search in let parent : tie.After-u8-to-usize = search in
-    rw (ne-eqb _ _ (other .if1 .left), ← parent .u8-to-usize .ensures, le-ltb _ _ (c .if2 .taken)) (simp and-false)
-
 returns-3 : tie.Need-returns-3
 unfolding fitsBehind
 returns-3 c =
@@ -45,15 +33,10 @@ returns-4 c =
 
 pub component-fits-spec : {M : Type 1} → statement M
 component-fits-spec =
-    tie.close
-    (tie.spec
+    tie.close (tie.spec (search needs)
+    (λ c. unfold fitsBehind rootFields in let root : tie.Then1 = search in let kind : tie.After-kind-fields = search in
+    rw (eq-eqb _ _ (root .if1 .taken), kind .kind-fields .ensures))
     (search needs)
-    returns
-    (search needs)
-    returns-2
-    (λ c. search needs)
-    (λ c. search needs)
-    (search needs)
-    returns-3
-    (search needs)
-    returns-4)
+    (λ c. unfold fitsBehind in let other : tie.Else1 = search in let parent : tie.After-u8-to-usize = search in
+    rw (ne-eqb _ _ (other .if1 .left), ← parent .u8-to-usize .ensures, le-ltb _ _ (c .if2 .taken)) (simp and-false))
+    (λ c. search needs) (λ c. search needs) (search needs) returns-3 (search needs) returns-4)

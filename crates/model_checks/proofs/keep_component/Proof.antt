@@ -7,9 +7,6 @@ use borrow.Author.Tests.{eq-eqb, ne-eqb}
 use Rattle.model_checks.proofs.keep_component.Statement.{statement}
 use Rattle.model_checks.proofs.keep_component.Tie as tie
 
-returns : tie.Need-returns
-returns c = record { parent = refl; count = refl; depth = rw (eq-eqb _ _ (c .if1 .taken)) }
-
 element-copy-out-depths : tie.Need-element-copy-out-depths
 element-copy-out-depths c =
     let start : tie.Start = search in
@@ -29,4 +26,6 @@ returns-2 c =
 
 pub keep-component-spec : {M : Type 1} → statement M
 keep-component-spec =
-    tie.close (tie.spec (search needs) (search needs) (search needs) returns (search needs) element-copy-out-depths add-depths (search needs) returns-2)
+    tie.close (tie.spec (search needs) (search needs) (search needs)
+    (λ c. record { parent = refl; count = refl; depth = rw (eq-eqb _ _ (c .if1 .taken)) }) (search needs) element-copy-out-depths add-depths
+    (search needs) returns-2)

@@ -5,17 +5,8 @@ use Rattle.definition.specs.Pinned.Decoder.{kindFields, coupledFields, atomicFi
 use Rattle.model_checks.proofs.kind_fields.Statement.{statement}
 use Rattle.model_checks.proofs.kind_fields.Tie as tie
 
-returns : tie.Need-returns
-unfolding kindFields coupledFields atomicFields
-returns c =
-    let then1 : tie.Then1 = search in
-    rw (then1 .if1 .taken) (simp or-false)
-
-returns-2 : tie.Need-returns-2
-unfolding kindFields coupledFields atomicFields
-returns-2 c =
-    let else1 : tie.Else1 = search in
-    rw (ne-eqb _ _ (else1 .if1 .left))
-
 pub kind-fields-spec : {M : Type 1} → statement M
-kind-fields-spec = tie.close (tie.spec returns returns-2)
+kind-fields-spec =
+    tie.close (tie.spec
+    (λ c. unfold kindFields coupledFields atomicFields in let then1 : tie.Then1 = search in rw (then1 .if1 .taken) (simp or-false))
+    (λ c. unfold kindFields coupledFields atomicFields in let else1 : tie.Else1 = search in rw (ne-eqb _ _ (else1 .if1 .left))))

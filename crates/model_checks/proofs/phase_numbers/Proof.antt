@@ -4,9 +4,5 @@ use Rattle.definition.specs.Pinned.Decoder.{advanceFits}
 use Rattle.model_checks.proofs.phase_numbers.Statement.{statement}
 use Rattle.model_checks.proofs.phase_numbers.Tie as tie
 
-returns : tie.Need-returns
-unfolding advanceFits
-returns c = search needs
-
 pub phase-numbers-spec : {M : Type 1} → statement M
-phase-numbers-spec = tie.close (tie.spec returns)
+phase-numbers-spec = tie.close (tie.spec (λ c. unfold advanceFits in search needs))

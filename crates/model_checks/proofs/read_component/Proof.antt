@@ -6,14 +6,6 @@ use Rattle.model_checks.proofs.Keeping.{fits-known}
 use Rattle.model_checks.proofs.read_component.Statement.{statement}
 use Rattle.model_checks.proofs.read_component.Tie as tie
 
-component-in-requires : tie.Need-component-in-requires
-component-in-requires c κs = let start : tie.Start = search in start .pre .there
-
-component-fits-requires : tie.Need-component-fits-requires
-component-fits-requires c κs =
-    let start : tie.Start = search in
-    record { few = start .pre .accepted .few; countsRoom = start .pre .counted .room; depthsRoom = start .pre .deep .room }
-
 returns : tie.Need-returns
 returns c =
     let start : tie.Start = search in let read : tie.After-component-in = search in
@@ -26,4 +18,8 @@ returns-2 c =
     sym (breaks _ 4 _ (sym (fits-known (start .pre) (read .component-in .ensures)) ∙ sym (c .before .component-fits .ensures) ∙ c .if1 .left))
 
 pub read-component-spec : {M : Type 1} → statement M
-read-component-spec = tie.close (tie.spec component-in-requires component-fits-requires returns returns-2)
+read-component-spec =
+    tie.close (tie.spec (λ c κs. let start : tie.Start = search in start .pre .there)
+    (λ c κs. let start : tie.Start = search in
+    record { few = start .pre .accepted .few; countsRoom = start .pre .counted .room; depthsRoom = start .pre .deep .room })
+    returns returns-2)

@@ -5,15 +5,8 @@ use Rattle.model_checks.proofs.Laws.{keeps, breaks}
 use Rattle.model_checks.proofs.read_rule.Statement.{statement}
 use Rattle.model_checks.proofs.read_rule.Tie as tie
 
-returns : tie.Need-returns
-returns c =
-    let after-rule-in : tie.After-rule-in = search in
-    rw (← after-rule-in .rule-in .ensures) (sym (keeps _ 7 _ (sym (c .before .rule-fields .ensures) ∙ c .if1 .taken)))
-
-returns-2 : tie.Need-returns-2
-returns-2 c =
-    let after-rule-in : tie.After-rule-in = search in
-    rw (← after-rule-in .rule-in .ensures) (sym (breaks _ 7 _ (sym (c .before .rule-fields .ensures) ∙ c .if1 .left)))
-
 pub read-rule-spec : {M : Type 1} → statement M
-read-rule-spec = tie.close (tie.spec (λ c κs. search needs) (λ c κs. search needs) returns returns-2)
+read-rule-spec =
+    tie.close (tie.spec (λ c κs. search needs) (λ c κs. search needs)
+    (λ c. let read : tie.After-rule-in = search in rw (← read .rule-in .ensures) (sym (keeps _ 7 _ (sym (c .before .rule-fields .ensures) ∙ c .if1 .taken))))
+    (λ c. let read : tie.After-rule-in = search in rw (← read .rule-in .ensures) (sym (breaks _ 7 _ (sym (c .before .rule-fields .ensures) ∙ c .if1 .left)))))

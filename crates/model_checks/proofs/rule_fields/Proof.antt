@@ -14,17 +14,6 @@ use Rattle.model_checks.proofs.Kept.{rule-by}
 use Rattle.model_checks.proofs.rule_fields.Statement.{statement}
 use Rattle.model_checks.proofs.rule_fields.Tie as tie
 
-returns : tie.Need-returns
-unfolding ruleFields
-returns c =
-    let component : tie.After-u8-to-usize = search in
-    rw (← c .before .component-count .ensures, ← component .u8-to-usize .ensures, le-ltb _ _ (c .if1 .taken))
-
-element-copy-out-phases : tie.Need-element-copy-out-phases
-element-copy-out-phases c =
-    let start : tie.Start = search in
-    omega (arith, c .before .component-count .ensures, start .pre .0 .few)
-
 returns-2 : tie.Need-returns-2
 returns-2 c =
     let start : tie.Start = search in let component : tie.After-u8-to-usize = search in let there : tie.After-component-count = search in
@@ -35,4 +24,8 @@ returns-2 c =
     rule-by cs (ruleOf (start .args .rule)) (start .pre .0) (rw (← e) l) (start .pre .1 .holds number l ∙ ap (λ c. componentAt cs c .phases) e)
 
 pub rule-fields-spec : {M : Type 1} → statement M
-rule-fields-spec = tie.close (tie.spec (search needs) (search needs) returns element-copy-out-phases returns-2)
+rule-fields-spec =
+    tie.close (tie.spec (search needs) (search needs)
+    (λ c. unfold ruleFields in let component : tie.After-u8-to-usize = search in
+    rw (← c .before .component-count .ensures, ← component .u8-to-usize .ensures, le-ltb _ _ (c .if1 .taken)))
+    (λ c. let start : tie.Start = search in omega (arith, c .before .component-count .ensures, start .pre .0 .few)) returns-2)
