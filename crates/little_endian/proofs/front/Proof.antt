@@ -13,8 +13,6 @@ slice-aggregate-result c =
     let start : tie.Start = search in
     let a = start .args in sym (length-take-le (a .n) (now (a .s)) (omega arith))
 
-returns-2 : tie.Need-returns-2
-returns-2 c = let a = c .before .args in sym (take-all (a .n) (now (a .s)) (omega arith))
-
 pub front-spec : {M : Type 1} → statement M
-front-spec = tie.close (tie.spec slice-aggregate-result (λ c. search needs) returns-2)
+front-spec =
+    tie.close (tie.spec slice-aggregate-result (λ c. search needs) (λ c. let a = c .before .args in sym (take-all (a .n) (now (a .s)) (omega arith))))

@@ -46,12 +46,7 @@ loop-again c =
     let k = at-loop .loop .k in
     (omega arith, omega (arith, number-back (a .n) k (now (a .s)) (omega arith) (omega arith)))
 
-returns : tie.Need-returns Inv-loop μ-loop
-returns c =
-    let z : c .before .loop .k ≡ 0 = omega arith in
-    c .before .loop .inv .1 ∙ rw (z, sub-zero)
-
 pub number-of-spec : {M : Type 1} → statement M
 number-of-spec =
     tie.close (tie.spec Inv-loop μ-loop loop-holds (λ c. search needs) mul-v (λ c κs. search needs) (λ c κs. search needs) add-v (λ c. search needs)
-    loop-again returns)
+    loop-again (λ c. let z : c .before .loop .k ≡ 0 = omega arith in c .before .loop .inv .1 ∙ rw (z, sub-zero)))
