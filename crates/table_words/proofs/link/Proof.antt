@@ -7,20 +7,14 @@ use borrow.Author.Tests.{lt-ltb, le-ltb}
 use Rattle.table_words.proofs.link.Statement.{statement}
 use Rattle.table_words.proofs.link.Tie as tie
 
-slice-write-t-2 : tie.Need-slice-write-t-2
-slice-write-t-2 c = simp length-set (omega arith)
-
 returns : tie.Need-returns
 unfolding linkAt
 returns c =
     let then1 : tie.Then1 = search in
     rw (lt-ltb _ _ (then1 .if1 .taken), c .u16-to-usize .ensures)
 
-returns-2 : tie.Need-returns-2
-unfolding linkAt
-returns-2 c = rw (le-ltb _ _ (c .if1 .left))
-
 pub link-spec : {M : Type 1} → statement M
 link-spec =
     tie.close (tie.spec (λ c. search needs) (λ c. search needs) (λ c. search needs) (λ c κs. search needs) (λ c. search needs) (λ c. search needs)
-    (λ c. search needs) (λ c. search needs) (λ c. search needs) slice-write-t-2 (λ c. search needs) returns returns-2)
+    (λ c. search needs) (λ c. search needs) (λ c. search needs) (λ c. simp length-set (omega arith)) (λ c. search needs) returns
+    (λ c. unfold linkAt in (rw (le-ltb _ _ (c .if1 .left)))))

@@ -16,9 +16,6 @@ Inv-loop keys n first size next t₀ j₀ t j = (j ≤ n) × (length t ≡ lengt
 abbrev μ-loop : tie.MeasureT-loop
 μ-loop keys n first size next t₀ j₀ t j = j
 
-loop-holds : tie.Need-loop-holds Inv-loop μ-loop
-loop-holds c = (omega arith, refl, refl)
-
 loop-again : tie.Need-loop-again Inv-loop μ-loop
 loop-again c =
     let start : tie.Start Inv-loop μ-loop = search in let after-link : tie.After-link Inv-loop μ-loop = search in
@@ -32,9 +29,6 @@ loop-again c =
     let s : after-link .link .last .0 ≡ linkAt (a .first) (a .size) (a .next) (key (l .j)) (l .j) (l .t) = rw k at (after-link .link .ensures) in
     (omega arith, after-link .link .kept .0 ∙ l .inv .1, ap (linked (a .first) (a .size) (a .next) key (l .j - 1)) s ∙ linked-more (a .first) (a .size) (a .next) key (l .j) (l .t) (omega arith) ∙ l .inv .2)
 
-same-length : tie.Need-same-length Inv-loop μ-loop
-same-length c = c .before .loop .inv .1
-
 returns : tie.Need-returns Inv-loop μ-loop
 returns c =
     let start : tie.Start Inv-loop μ-loop = search in
@@ -44,5 +38,5 @@ returns c =
 
 pub link-all-spec : {M : Type 1} → statement M
 link-all-spec =
-    tie.close (tie.spec Inv-loop μ-loop loop-holds (λ c κs. search needs) (λ c κs. search needs) (λ c κs. search needs) (λ c κs. search needs)
-    (λ c. search needs) (λ c. search needs) loop-again same-length returns)
+    tie.close (tie.spec Inv-loop μ-loop (λ c. (omega arith, refl, refl)) (λ c κs. search needs) (λ c κs. search needs) (λ c κs. search needs)
+    (λ c κs. search needs) (λ c. search needs) (λ c. search needs) loop-again (λ c. c .before .loop .inv .1) returns)

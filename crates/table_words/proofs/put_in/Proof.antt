@@ -5,13 +5,7 @@ use borrow.Author.Tests.{lt-ltb, le-ltb}
 use Rattle.table_words.proofs.put_in.Statement.{statement}
 use Rattle.table_words.proofs.put_in.Tie as tie
 
-returns : tie.Need-returns
-unfolding putIn
-returns c = rw (lt-ltb _ _ (c .if1 .taken))
-
-returns-2 : tie.Need-returns-2
-unfolding putIn
-returns-2 c = rw (le-ltb _ _ (c .if1 .left))
-
 pub put-in-spec : {M : Type 1} → statement M
-put-in-spec = tie.close (tie.spec (λ c. search needs) (λ c. search needs) (λ c. search needs) (λ c. search needs) returns returns-2)
+put-in-spec =
+    tie.close (tie.spec (λ c. search needs) (λ c. search needs) (λ c. search needs) (λ c. search needs)
+    (λ c. unfold putIn in (rw (lt-ltb _ _ (c .if1 .taken)))) (λ c. unfold putIn in (rw (le-ltb _ _ (c .if1 .left)))))

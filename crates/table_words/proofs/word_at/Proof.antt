@@ -6,8 +6,7 @@ use mathlib.Core.Path.{sym}
 use Rattle.table_words.proofs.word_at.Statement.{statement}
 use Rattle.table_words.proofs.word_at.Tie as tie
 
-returns-2 : tie.Need-returns-2
-returns-2 c = sym (List·getD-eq-default (now (c .before .args .t)) 0 (c .if1 .left))
-
 pub word-at-spec : {M : Type 1} → statement M
-word-at-spec = tie.close (tie.spec (λ c. search needs) (λ c. search needs) (λ c. search needs) returns-2)
+word-at-spec =
+    tie.close (tie.spec (λ c. search needs) (λ c. search needs) (λ c. search needs)
+    (λ c. sym (List·getD-eq-default (now (c .before .args .t)) 0 (c .if1 .left))))
