@@ -23,9 +23,6 @@ Inv-loop components t₀ n c₀ t c = (c ≤ n) × (column liveAt (sourceFlag (c
 abbrev μ-loop : tie.MeasureT-loop
 μ-loop components t₀ n c₀ t c = n - c
 
-loop-holds : tie.Need-loop-holds Inv-loop μ-loop
-loop-holds c = (omega arith, rw sub-zero)
-
 loop-again : tie.Need-loop-again Inv-loop μ-loop
 loop-again c =
     let start : tie.Start Inv-loop μ-loop = search in let after-is-atomic : tie.After-is-atomic Inv-loop μ-loop = search in
@@ -57,6 +54,6 @@ returns c =
 
 pub mark-sources-spec : {M : Type 1} → statement M
 mark-sources-spec =
-    tie.close (tie.spec Inv-loop μ-loop (λ c κs. search needs) loop-holds (λ c. search needs) (λ c. search needs) (λ c κs. search needs)
-    (λ c κs. search needs) (λ c. search needs) (λ c. search needs) (λ c κs. search needs) (λ c κs. search needs) (λ c κs. search needs)
-    (λ c. search needs) (λ c. search needs) loop-again returns)
+    tie.close (tie.spec Inv-loop μ-loop (λ c κs. search needs) (λ c. (omega arith, rw sub-zero)) (λ c. search needs) (λ c. search needs)
+    (λ c κs. search needs) (λ c κs. search needs) (λ c. search needs) (λ c. search needs) (λ c κs. search needs) (λ c κs. search needs)
+    (λ c κs. search needs) (λ c. search needs) (λ c. search needs) loop-again returns)

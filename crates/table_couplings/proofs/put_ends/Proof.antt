@@ -23,9 +23,6 @@ Inv-loop components couplings targets₀ t₀ n i₀ targets t i = (i ≤ n) × 
 abbrev μ-loop : tie.MeasureT-loop
 μ-loop components couplings targets₀ t₀ n i₀ targets t i = n - i
 
-loop-holds : tie.Need-loop-holds Inv-loop μ-loop
-loop-holds c = (omega arith, refl, λ j p q. absurd (omega arith), rw sub-zero)
-
 loop-again : tie.Need-loop-again Inv-loop μ-loop
 loop-again c =
     let start : tie.Start Inv-loop μ-loop = search in let after-coupling-at : tie.After-coupling-at Inv-loop μ-loop = search in
@@ -55,6 +52,6 @@ returns c =
 
 pub put-ends-spec : {M : Type 1} → statement M
 put-ends-spec =
-    tie.close (tie.spec Inv-loop μ-loop (λ c κs. search needs) loop-holds (λ c κs. search needs) (λ c κs. search needs) (λ c. search needs)
-    (λ c. search needs) (λ c. search needs) (λ c. search needs) (λ c. search needs) (λ c κs. search needs) (λ c. search needs) (λ c. search needs)
-    (λ c. search needs) loop-again returns)
+    tie.close (tie.spec Inv-loop μ-loop (λ c κs. search needs) (λ c. (omega arith, refl, λ j p q. absurd (omega arith), rw sub-zero))
+    (λ c κs. search needs) (λ c κs. search needs) (λ c. search needs) (λ c. search needs) (λ c. search needs) (λ c. search needs) (λ c. search needs)
+    (λ c κs. search needs) (λ c. search needs) (λ c. search needs) (λ c. search needs) loop-again returns)

@@ -22,9 +22,6 @@ Inv-loop targets n t₀ j₀ t j = (j ≤ n) × Within liveAt (liveAt + portNode
 abbrev μ-loop : tie.MeasureT-loop
 μ-loop targets n t₀ j₀ t j = j
 
-loop-holds : tie.Need-loop-holds Inv-loop μ-loop
-loop-holds c = (omega arith, within-none liveAt (liveAt + portNodes * maxComponents) _, refl)
-
 spread-link-requires : tie.Need-spread-link-requires Inv-loop μ-loop
 spread-link-requires c κs =
     let start : tie.Start Inv-loop μ-loop = search in let at-loop : tie.At-loop Inv-loop μ-loop = search in
@@ -51,4 +48,5 @@ returns c =
 
 pub spread-up-spec : {M : Type 1} → statement M
 spread-up-spec =
-    tie.close (tie.spec Inv-loop μ-loop loop-holds spread-link-requires (λ c. search needs) (λ c. search needs) loop-again returns)
+    tie.close (tie.spec Inv-loop μ-loop (λ c. (omega arith, within-none liveAt (liveAt + portNodes * maxComponents) _, refl)) spread-link-requires
+    (λ c. search needs) (λ c. search needs) loop-again returns)
