@@ -4,9 +4,5 @@ use Rattle.spec_step.specs.Tables.{isOutput}
 use Rattle.accept_ways.proofs.is_output.Statement.{statement}
 use Rattle.accept_ways.proofs.is_output.Tie as tie
 
-returns : tie.Need-returns
-unfolding isOutput
-returns c = search needs
-
 pub is-output-spec : {M : Type 1} → statement M
-is-output-spec = tie.close (tie.spec returns)
+is-output-spec = tie.close (tie.spec (λ c. unfold isOutput in (search needs)))

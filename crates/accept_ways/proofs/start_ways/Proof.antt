@@ -23,9 +23,6 @@ Inv-loop components ways₀ n c₀ ways c = (c ≤ n) × (column 0 (endAt (compo
 abbrev μ-loop : tie.MeasureT-loop
 μ-loop components ways₀ n c₀ ways c = n - c
 
-loop-holds : tie.Need-loop-holds Inv-loop μ-loop
-loop-holds c = (omega arith, rw sub-zero)
-
 loop-again : tie.Need-loop-again Inv-loop μ-loop
 loop-again c =
     let start : tie.Start Inv-loop μ-loop = search in let after-put-four : tie.After-put-four Inv-loop μ-loop = search in
@@ -61,6 +58,6 @@ returns c =
 
 pub start-ways-spec : {M : Type 1} → statement M
 start-ways-spec =
-    tie.close (tie.spec Inv-loop μ-loop (λ c κs. search needs) loop-holds (λ c. search needs) (λ c κs. search needs) (λ c κs. search needs)
-    (λ c κs. search needs) (λ c. search needs) (λ c κs. search needs) (λ c κs. search needs) (λ c. search needs) (λ c. search needs) loop-again
-    returns)
+    tie.close (tie.spec Inv-loop μ-loop (λ c κs. search needs) (λ c. (omega arith, rw sub-zero)) (λ c. search needs) (λ c κs. search needs)
+    (λ c κs. search needs) (λ c κs. search needs) (λ c. search needs) (λ c κs. search needs) (λ c κs. search needs) (λ c. search needs)
+    (λ c. search needs) loop-again returns)

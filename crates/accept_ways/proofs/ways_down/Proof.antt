@@ -17,9 +17,6 @@ Inv-loop tables targets n ways₀ j₀ ways j = (j ≤ n) × (waysDown (sourceIn
 abbrev μ-loop : tie.MeasureT-loop
 μ-loop tables targets n ways₀ j₀ ways j = j
 
-loop-holds : tie.Need-loop-holds Inv-loop μ-loop
-loop-holds c = (omega arith, refl)
-
 take-down-requires : tie.Need-take-down-requires Inv-loop μ-loop
 take-down-requires c κs =
     let start : tie.Start Inv-loop μ-loop = search in let at-loop : tie.At-loop Inv-loop μ-loop = search in
@@ -44,4 +41,4 @@ returns c =
 
 pub ways-down-spec : {M : Type 1} → statement M
 ways-down-spec =
-    tie.close (tie.spec Inv-loop μ-loop loop-holds take-down-requires (λ c. search needs) (λ c. search needs) loop-again returns)
+    tie.close (tie.spec Inv-loop μ-loop (λ c. (omega arith, refl)) take-down-requires (λ c. search needs) (λ c. search needs) loop-again returns)

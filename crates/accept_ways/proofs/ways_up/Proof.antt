@@ -17,12 +17,6 @@ Inv-loop tables targets n ways₀ j₀ ways j = (0 < j) × (j ≤ n + 1) × (way
 abbrev μ-loop : tie.MeasureT-loop
 μ-loop tables targets n ways₀ j₀ ways j = n + 1 - j
 
-loop-holds : tie.Need-loop-holds Inv-loop μ-loop
-loop-holds c =
-    let a = c .args in
-    let z : a .n + 1 - 1 ≡ a .n = omega arith in
-    (omega arith, omega arith, rw z)
-
 take-up-requires : tie.Need-take-up-requires Inv-loop μ-loop
 take-up-requires c κs =
     let start : tie.Start Inv-loop μ-loop = search in let at-loop : tie.At-loop Inv-loop μ-loop = search in
@@ -47,4 +41,6 @@ returns c =
     sym (up-none (sourceIn (now (a .tables))) (λ j. getD (now (a .targets)) j 0) (a .n) (l .j) (l .ways) (omega arith)) ∙ l .inv .2
 
 pub ways-up-spec : {M : Type 1} → statement M
-ways-up-spec = tie.close (tie.spec Inv-loop μ-loop loop-holds take-up-requires (λ c. search needs) (λ c. search needs) loop-again returns)
+ways-up-spec =
+    tie.close (tie.spec Inv-loop μ-loop (λ c. let a = c .args in let z : a .n + 1 - 1 ≡ a .n = omega arith in (omega arith, omega arith, rw z))
+    take-up-requires (λ c. search needs) (λ c. search needs) loop-again returns)
