@@ -19,9 +19,6 @@ Inv-loop components which at t₀ n c₀ t c = (c ≤ n) × (length t ≡ length
 abbrev μ-loop : tie.MeasureT-loop
 μ-loop components which at t₀ n c₀ t c = n - c
 
-loop-holds : tie.Need-loop-holds Inv-loop μ-loop
-loop-holds c = (omega arith, refl, rw sub-zero)
-
 loop-again : tie.Need-loop-again Inv-loop μ-loop
 loop-again c =
     let start : tie.Start Inv-loop μ-loop = search in let at-loop : tie.At-loop Inv-loop μ-loop = search in
@@ -31,9 +28,6 @@ loop-again c =
     let f = fieldAt (a .which) (componentsIn (now (a .components))) in
     let v : c .u8-to-u16 .result ≡ f (l .c) = c .u8-to-u16 .ensures ∙ c .before .field-at .ensures in
     (omega arith, simp length-set (l .inv .1), rw v (column-more (a .at) f (after-component-count .component-count .result) (l .c) (l .t) (omega arith)) ∙ l .inv .2)
-
-same-length : tie.Need-same-length Inv-loop μ-loop
-same-length c = c .before .loop .inv .1
 
 returns : tie.Need-returns Inv-loop μ-loop
 returns c =
@@ -45,5 +39,6 @@ returns c =
 
 pub put-fields-spec : {M : Type 1} → statement M
 put-fields-spec =
-    tie.close (tie.spec Inv-loop μ-loop (λ c κs. search needs) loop-holds (λ c κs. search needs) (λ c κs. search needs) (λ c. search needs)
-    (λ c. search needs) (λ c. search needs) (λ c. search needs) (λ c. search needs) loop-again same-length returns)
+    tie.close (tie.spec Inv-loop μ-loop (λ c κs. search needs) (λ c. (omega arith, refl, rw sub-zero)) (λ c κs. search needs) (λ c κs. search needs)
+    (λ c. search needs) (λ c. search needs) (λ c. search needs) (λ c. search needs) (λ c. search needs) loop-again (λ c. c .before .loop .inv .1)
+    returns)

@@ -18,9 +18,6 @@ Inv-loop components t₀ n i₀ c₀ t i c = (c ≤ n) × (i ≤ c) × (length t
 abbrev μ-loop : tie.MeasureT-loop
 μ-loop components t₀ n i₀ c₀ t i c = n - c
 
-loop-holds : tie.Need-loop-holds Inv-loop μ-loop
-loop-holds c = (omega arith, omega arith, refl, rw sub-zero)
-
 loop-again : tie.Need-loop-again Inv-loop μ-loop
 loop-again c =
     let start : tie.Start Inv-loop μ-loop = search in let after-put-number : tie.After-put-number Inv-loop μ-loop = search in
@@ -31,9 +28,6 @@ loop-again c =
     let n = after-count-word .count-word .result in
     let e = after-put-number .put-number .ensures in
     (omega arith, omega (arith, ap (λ st. st .1) e, number-most cs n (l .c) (l .t, l .i)), after-put-number .put-number .kept .1 .1 .1 .0 ∙ l .inv .2, ap (numbered cs (n - (l .c + 1)) (l .c + 1)) e ∙ numbered-more cs n (l .c) (l .t, l .i) (omega arith) ∙ l .inv .3)
-
-same-length : tie.Need-same-length Inv-loop μ-loop
-same-length c = c .before .loop .inv .2
 
 returns : tie.Need-returns Inv-loop μ-loop
 returns c =
@@ -46,5 +40,5 @@ returns c =
 
 pub put-numbers-spec : {M : Type 1} → statement M
 put-numbers-spec =
-    tie.close (tie.spec Inv-loop μ-loop (λ c κs. search needs) loop-holds (λ c κs. search needs) (λ c. search needs) (λ c. search needs) loop-again
-    same-length returns)
+    tie.close (tie.spec Inv-loop μ-loop (λ c κs. search needs) (λ c. (omega arith, omega arith, refl, rw sub-zero)) (λ c κs. search needs)
+    (λ c. search needs) (λ c. search needs) loop-again (λ c. c .before .loop .inv .2) returns)

@@ -37,9 +37,6 @@ loop-again c =
     let s : l .c < length cs = omega (arith, after-component-count .component-count .ensures) in
     (omega arith, omega arith, omega (arith, fields-more (a .which) cs (l .c) s), simp length-set (l .inv .3), rw (l .inv .2) (column-more (a .at) f (after-component-count .component-count .result) (l .c) (l .t) (omega arith)) ∙ l .inv .4)
 
-same-length : tie.Need-same-length Inv-loop μ-loop
-same-length c = c .before .loop .inv .3
-
 returns : tie.Need-returns Inv-loop μ-loop
 returns c =
     let start : tie.Start Inv-loop μ-loop = search in let after-component-count : tie.After-component-count Inv-loop μ-loop = search in
@@ -51,4 +48,5 @@ returns c =
 pub put-sums-spec : {M : Type 1} → statement M
 put-sums-spec =
     tie.close (tie.spec Inv-loop μ-loop (λ c κs. search needs) loop-holds (λ c. search needs) (λ c. search needs) (λ c. search needs)
-    (λ c κs. search needs) (λ c κs. search needs) (λ c. search needs) (λ c. search needs) (λ c. search needs) loop-again same-length returns)
+    (λ c κs. search needs) (λ c κs. search needs) (λ c. search needs) (λ c. search needs) (λ c. search needs) loop-again
+    (λ c. c .before .loop .inv .3) returns)
