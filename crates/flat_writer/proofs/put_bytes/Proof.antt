@@ -18,16 +18,10 @@ Inv-loop part out₀ at i₀ out i = (i ≤ length part) × (length out ≡ leng
 abbrev μ-loop : tie.MeasureT-loop
 μ-loop part out₀ at i₀ out i = length part - i
 
-loop-holds : tie.Need-loop-holds Inv-loop μ-loop
-loop-holds c = let a = c .args in (omega arith, refl, copy-start (now (a .part)) (now (a .out)) (a .at))
-
 loop-again : tie.Need-loop-again Inv-loop μ-loop
 loop-again c =
     let start : tie.Start Inv-loop μ-loop = search in let at-loop : tie.At-loop Inv-loop μ-loop = search in
     let a = start .args in let l = at-loop .loop in (omega arith, simp length-set (l .inv .1), copy-more (now (a .part)) (length (now (a .part))) (l .i) (a .at) (l .out) (omega arith) (le-refl _) ∙ l .inv .2)
-
-same-length : tie.Need-same-length Inv-loop μ-loop
-same-length c = c .before .loop .inv .1
 
 returns : tie.Need-returns Inv-loop μ-loop
 returns c =
@@ -36,5 +30,6 @@ returns c =
 
 pub put-bytes-spec : {M : Type 1} → statement M
 put-bytes-spec =
-    tie.close (tie.spec Inv-loop μ-loop loop-holds (λ c. search needs) (λ c. search needs) (λ c. search needs) (λ c. search needs)
-    (λ c. search needs) loop-again same-length returns)
+    tie.close (tie.spec Inv-loop μ-loop (λ c. let a = c .args in (omega arith, refl, copy-start (now (a .part)) (now (a .out)) (a .at)))
+    (λ c. search needs) (λ c. search needs) (λ c. search needs) (λ c. search needs) (λ c. search needs) loop-again (λ c. c .before .loop .inv .1)
+    returns)

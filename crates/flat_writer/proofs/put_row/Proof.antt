@@ -8,19 +8,10 @@ use denote.Ref.{now}
 use Rattle.flat_writer.proofs.put_row.Statement.{statement}
 use Rattle.flat_writer.proofs.put_row.Tie as tie
 
-slice-write-out-2 : tie.Need-slice-write-out-2
-slice-write-out-2 c = let a = c .args in let h : a .at + 1 < length (now (a .out)) = omega arith in simp length-set h
-
-slice-write-out-3 : tie.Need-slice-write-out-3
-slice-write-out-3 c = let a = c .args in let h : a .at + 2 < length (now (a .out)) = omega arith in simp length-set h
-
-slice-write-out-4 : tie.Need-slice-write-out-4
-slice-write-out-4 c = let a = c .args in let h : a .at + 3 < length (now (a .out)) = omega arith in simp length-set h
-
-returns : tie.Need-returns
-returns c = let a = c .args in row-puts (a .row) (a .at) (now (a .out))
-
 pub put-row-spec : {M : Type 1} → statement M
 put-row-spec =
-    tie.close (tie.spec (λ c. search needs) (λ c. search needs) (λ c. search needs) (λ c. search needs) slice-write-out-2 (λ c. search needs)
-    (λ c. search needs) slice-write-out-3 (λ c. search needs) (λ c. search needs) slice-write-out-4 (λ c. search needs) returns)
+    tie.close (tie.spec (λ c. search needs) (λ c. search needs) (λ c. search needs) (λ c. search needs)
+    (λ c. let a = c .args in let h : a .at + 1 < length (now (a .out)) = omega arith in simp length-set h) (λ c. search needs) (λ c. search needs)
+    (λ c. let a = c .args in let h : a .at + 2 < length (now (a .out)) = omega arith in simp length-set h) (λ c. search needs) (λ c. search needs)
+    (λ c. let a = c .args in let h : a .at + 3 < length (now (a .out)) = omega arith in simp length-set h) (λ c. search needs)
+    (λ c. let a = c .args in row-puts (a .row) (a .at) (now (a .out))))

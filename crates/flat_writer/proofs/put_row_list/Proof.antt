@@ -31,9 +31,6 @@ loop-again c =
     let in-loop : tie.In-loop Inv-loop μ-loop = search in let at-loop : tie.At-loop Inv-loop μ-loop = search in
     let a = start .args in let l = at-loop .loop in (omega arith, after-put-row .put-row .kept .1 .0 ∙ l .inv .1, rw (after-put-row .put-row .ensures) (rows-more (now (a .rows)) (a .n) (start .pre .0) (l .i) (a .at) (l .out) (in-loop .loop-test .taken) ∙ l .inv .2))
 
-same-length : tie.Need-same-length Inv-loop μ-loop
-same-length c = c .before .loop .inv .1
-
 returns : tie.Need-returns Inv-loop μ-loop
 returns c =
     let start : tie.Start Inv-loop μ-loop = search in
@@ -42,4 +39,4 @@ returns c =
 pub put-row-list-spec : {M : Type 1} → statement M
 put-row-list-spec =
     tie.close (tie.spec Inv-loop μ-loop loop-holds (λ c. search needs) (λ c. search needs) (λ c. search needs) (λ c. search needs)
-    (λ c κs. search needs) (λ c. search needs) (λ c. search needs) loop-again same-length returns)
+    (λ c κs. search needs) (λ c. search needs) (λ c. search needs) loop-again (λ c. c .before .loop .inv .1) returns)

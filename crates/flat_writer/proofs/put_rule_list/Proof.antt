@@ -39,9 +39,6 @@ loop-again c =
     let at-loop : tie.At-loop Inv-loop μ-loop = search in
     let a = start .args in let l = at-loop .loop in (omega arith, after-put-rule .put-rule .kept .1 .1 .0 ∙ l .inv .1, rw (after-put-rule .put-rule .ensures, after-front .front .ensures, after-rest .rest .ensures) (rules-more (now (a .rules)) (now (a .tables)) (l .i) (a .at) (l .out) (omega (arith, start .pre .0)) ∙ l .inv .2))
 
-same-length : tie.Need-same-length Inv-loop μ-loop
-same-length c = c .before .loop .inv .1
-
 returns : tie.Need-returns Inv-loop μ-loop
 returns c =
     let start : tie.Start Inv-loop μ-loop = search in
@@ -50,4 +47,4 @@ returns c =
 pub put-rule-list-spec : {M : Type 1} → statement M
 put-rule-list-spec =
     tie.close (tie.spec Inv-loop μ-loop loop-holds (λ c. search needs) (λ c κs. search needs) (λ c κs. search needs) (λ c. search needs)
-    (λ c. search needs) put-rule-requires (λ c. search needs) (λ c. search needs) loop-again same-length returns)
+    (λ c. search needs) put-rule-requires (λ c. search needs) (λ c. search needs) loop-again (λ c. c .before .loop .inv .1) returns)
