@@ -46,25 +46,31 @@ fn number_of(s: &[u8], n: usize) -> u64
     v
 }
 
+// The number in n bytes from a position on, n at most 8.
+fn number_at(s: &[u8], at: usize, n: usize) -> u64
+    requires { ⌜ n ≤ 8 ⌝ }
+    ensures { λ r. ⌜ r ≡ numberAt n at (now (s .entry)) ⌝ }
+{
+    let t = rest(s, at);
+    number_of(t, n)
+}
+
 pub fn u16_at(s: &[u8], at: usize) -> u16
     ensures { λ r. ⌜ r ≡ numberAt 2 at (now (s .entry)) ⌝ }
 {
-    let t = rest(s, at);
-    number_of(t, 2) as u16
+    number_at(s, at, 2) as u16
 }
 
 pub fn u32_at(s: &[u8], at: usize) -> u32
     ensures { λ r. ⌜ r ≡ numberAt 4 at (now (s .entry)) ⌝ }
 {
-    let t = rest(s, at);
-    number_of(t, 4) as u32
+    number_at(s, at, 4) as u32
 }
 
 pub fn u64_at(s: &[u8], at: usize) -> u64
     ensures { λ r. ⌜ r ≡ numberAt 8 at (now (s .entry)) ⌝ }
 {
-    let t = rest(s, at);
-    number_of(t, 8)
+    number_at(s, at, 8)
 }
 
 // The low n bytes of v at `at`.

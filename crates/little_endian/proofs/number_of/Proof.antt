@@ -3,7 +3,7 @@
 -- nothing.
 use borrow.Author.Needs.{needs}
 use native.Mathlib.Omega.{arith}
-use Prim.Native.Nat.{_≤_, _-_}
+use Prim.Native.Nat.{_≤_, _<_, _-_}
 use mathlib.Core.Path.{_≡_, _∙_, sym}
 use denote.Ref.{now}
 use native.Mathlib.Nat.{sub-zero}
@@ -24,19 +24,12 @@ loop-holds c =
     let e : a .n - a .n ≡ 0 = omega arith in
     (omega arith, rw e (sym (number-none (a .n) (now (a .s)))))
 
-mul-v : tie.Need-mul-v Inv-loop μ-loop
-mul-v c =
+-- seven bytes at most before the last is added
+small : (c : tie.In-loop Inv-loop μ-loop) → c .before .loop .v < 72057594037927936
+small c =
     let start : tie.Start Inv-loop μ-loop = search in let after-shared-slice-known : tie.After-shared-slice-known Inv-loop μ-loop = search in
     let a = start .args in
     let k = c .before .loop .k in
-    omega (arith, number-fits 7 {w = a .n - k} (omega arith) k (now (a .s)) (λ i. after-shared-slice-known .shared-slice-known .given i .fits))
-
-add-v : tie.Need-add-v Inv-loop μ-loop
-add-v c =
-    let start : tie.Start Inv-loop μ-loop = search in let at-loop : tie.At-loop Inv-loop μ-loop = search in
-    let after-shared-slice-known : tie.After-shared-slice-known Inv-loop μ-loop = search in
-    let a = start .args in
-    let k = at-loop .loop .k in
     omega (arith, number-fits 7 {w = a .n - k} (omega arith) k (now (a .s)) (λ i. after-shared-slice-known .shared-slice-known .given i .fits))
 
 loop-again : tie.Need-loop-again Inv-loop μ-loop
@@ -48,5 +41,7 @@ loop-again c =
 
 pub number-of-spec : {M : Type 1} → statement M
 number-of-spec =
-    tie.close (tie.spec Inv-loop μ-loop loop-holds (λ c. search needs) mul-v (λ c κs. search needs) (λ c κs. search needs) add-v (λ c. search needs)
-    loop-again (λ c. let z : c .before .loop .k ≡ 0 = omega arith in c .before .loop .inv .1 ∙ rw (z, sub-zero)))
+    tie.close (tie.spec Inv-loop μ-loop loop-holds (λ c. search needs)
+    (λ c. let in-loop : tie.In-loop Inv-loop μ-loop = search in omega (arith, small in-loop)) (λ c κs. search needs) (λ c κs. search needs)
+    (λ c. let in-loop : tie.In-loop Inv-loop μ-loop = search in omega (arith, small in-loop)) (λ c. search needs) loop-again
+    (λ c. let z : c .before .loop .k ≡ 0 = omega arith in c .before .loop .inv .1 ∙ rw (z, sub-zero)))
