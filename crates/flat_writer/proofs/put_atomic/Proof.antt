@@ -14,8 +14,6 @@ returns c = let a = c .args in atomic-puts (componentOf (a .k)) (a .at) (now (a 
 
 pub put-atomic-spec : {M : Type 1} → statement M
 put-atomic-spec =
-    tie.close (tie.spec (λ c. search needs) (λ c. search needs)
-    (λ c. let a = c .args in let h : a .at + 1 < length (now (a .out)) = omega arith in simp length-set h) (λ c. search needs)
-    (λ c. let a = c .args in let h : a .at + 2 < length (now (a .out)) = omega arith in simp length-set h) (λ c. search needs)
-    (λ c. let a = c .args in let h : a .at + 3 < length (now (a .out)) = omega arith in simp length-set h) (λ c. search needs)
-    (λ c. let a = c .args in let h : a .at + 4 < length (now (a .out)) = omega arith in simp length-set h) (λ c. search needs) returns)
+    tie.close (tie.spec (λ c. search needs) (λ c. search needs) (λ c. simp length-set (omega arith)) (λ c. search needs)
+    (λ c. simp length-set (omega arith)) (λ c. search needs) (λ c. simp length-set (omega arith)) (λ c. search needs)
+    (λ c. simp length-set (omega arith)) (λ c. search needs) returns)

@@ -10,8 +10,6 @@ use Rattle.flat_writer.proofs.put_row.Tie as tie
 
 pub put-row-spec : {M : Type 1} → statement M
 put-row-spec =
-    tie.close (tie.spec (λ c. search needs) (λ c. search needs) (λ c. search needs) (λ c. search needs)
-    (λ c. let a = c .args in let h : a .at + 1 < length (now (a .out)) = omega arith in simp length-set h) (λ c. search needs) (λ c. search needs)
-    (λ c. let a = c .args in let h : a .at + 2 < length (now (a .out)) = omega arith in simp length-set h) (λ c. search needs) (λ c. search needs)
-    (λ c. let a = c .args in let h : a .at + 3 < length (now (a .out)) = omega arith in simp length-set h) (λ c. search needs)
-    (λ c. let a = c .args in row-puts (a .row) (a .at) (now (a .out))))
+    tie.close (tie.spec (λ c. search needs) (λ c. search needs) (λ c. search needs) (λ c. search needs) (λ c. simp length-set (omega arith))
+    (λ c. search needs) (λ c. search needs) (λ c. simp length-set (omega arith)) (λ c. search needs) (λ c. search needs)
+    (λ c. simp length-set (omega arith)) (λ c. search needs) (λ c. let a = c .args in row-puts (a .row) (a .at) (now (a .out))))

@@ -47,4 +47,4 @@ returns c =
 pub put-rule-list-spec : {M : Type 1} → statement M
 put-rule-list-spec =
     tie.close (tie.spec Inv-loop μ-loop loop-holds (λ c. search needs) (λ c κs. search needs) (λ c κs. search needs) (λ c. search needs)
-    (λ c. search needs) put-rule-requires (λ c. search needs) (λ c. search needs) loop-again (λ c. c .before .loop .inv .1) returns)
+    (λ c. search needs) put-rule-requires (λ c. search needs) (λ c. search needs) loop-again (λ c. search needs) returns)

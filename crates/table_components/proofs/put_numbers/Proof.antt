@@ -41,4 +41,4 @@ returns c =
 pub put-numbers-spec : {M : Type 1} → statement M
 put-numbers-spec =
     tie.close (tie.spec Inv-loop μ-loop (λ c κs. search needs) (λ c. (omega arith, omega arith, refl, rw sub-zero)) (λ c κs. search needs)
-    (λ c. search needs) (λ c. search needs) loop-again (λ c. c .before .loop .inv .2) returns)
+    (λ c. search needs) (λ c. search needs) loop-again (λ c. search needs) returns)

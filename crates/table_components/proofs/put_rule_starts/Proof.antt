@@ -43,4 +43,4 @@ returns c =
 pub put-rule-starts-spec : {M : Type 1} → statement M
 put-rule-starts-spec =
     tie.close (tie.spec Inv-loop μ-loop (λ c κs. search needs) (λ c. (omega arith, refl, rw (c .rule-word .ensures))) (λ c. search needs)
-    (λ c κs. search needs) (λ c κs. search needs) (λ c κs. search needs) (λ c. search needs) loop-again (λ c. c .before .loop .inv .1) returns)
+    (λ c κs. search needs) (λ c κs. search needs) (λ c κs. search needs) (λ c. search needs) loop-again (λ c. search needs) returns)
