@@ -2,16 +2,17 @@
 use mathlib.Core.Path.{_≡_, refl, sym, ap, _∙_}
 use Prim.Native.Nat.{ℕ, zero, suc, _+_, _-_, _*_, _/_, _%_, _<_, _≤_}
 use mathlib.Core.List.{List}
-use mathlib.Core.Bool.{Bool, true, false, cond}
+use mathlib.Core.Bool.{Bool, true, false, not, cond}
 use native.Mathlib.Omega.{arith}
 use lib.ListN.{length, getD, set}
 use lib.Seq.{getD-set-same, getD-set-other}
 use lib.Dec.{ltb, eqb}
 use borrow.Author.Tests.{ltb-true, ltb-false, eqb-true, eqb-false, lt-ltb, le-ltb}
-use Rattle.definition.specs.Model.{Component, Coupling, noCoupling, isAtomic}
-use Rattle.spec_step.specs.Tables.{isOutput, isRootNode, nodeComponent}
+use Rattle.definition.specs.Model.{Component, Coupling, noCoupling, isChild}
+use Rattle.law_routes.proofs.PortNodes.{end-input, end-output}
+use Rattle.spec_step.specs.Tables.{inputNode, outputNode, sourceNumber, isOutput, isRootNode, nodeComponent}
 use Rattle.table_couplings.specs.declared.End.{End}
-use Rattle.table_couplings.specs.Links.{endOf, linkEnd, Held, isSource, sourceFlag, spread, spreadUp, spreadDown}
+use Rattle.table_couplings.specs.Links.{sideNode, endOf, linkEnd, Held, isSource, sourceFlag, flagAt, portFlag, spread, spreadUp, spreadDown}
 
 -- one link more is held
 pub held-more : (f : ℕ → ℕ) (i v : ℕ) (t : List ℕ) → i + 1 < length t → v ≡ f (i + 1) → Held f i t → Held f (i + 1) (set t (i + 1) v)
@@ -64,6 +65,15 @@ module _ (src tgt src′ tgt′ : ℕ → ℕ) where
 
 -- ---- the ports of component c
 
+-- a coupling from a parent begins on the input side
+pub source-turned : (cs : List Component) (k : Coupling) → sideNode (not (isChild cs (k .source) (k .target))) (k .source) (k .sourcePort) ≡ sourceNumber cs k
+unfolding sideNode sourceNumber
+source-turned cs k = go (isChild cs (k .source) (k .target)) _ _
+  where
+    go : (b : Bool) (x y : ℕ) → cond (not b) x y ≡ cond b y x
+    go true x y = refl
+    go false x y = refl
+
 same-zero : (c k : ℕ) → k < 4 → ltb (8 * c + k) 8 ≡ eqb c 0
 same-zero c k h = go (eqb c 0) refl
   where
@@ -71,12 +81,13 @@ same-zero c k h = go (eqb c 0) refl
     go true e = lt-ltb (8 * c + k) 8 (omega (arith, eqb-true c 0 e))
     go false e = le-ltb (8 * c + k) 8 (omega (arith, eqb-false c 0 e))
 
-pub input-flag : (cs : List Component) (c k : ℕ) → k < 4 → sourceFlag cs (8 * c + k) ≡ cond (eqb c 0) 1 0
-unfolding sourceFlag isSource isOutput isRootNode
-input-flag cs c k h = rw (lt-ltb ((8 * c + k) % 8) 4 (omega arith), same-zero c k h)
+-- the flags of component c's ports
+pub input-flag : (sources : Bool) (cs : List Component) (c k : ℕ) → k < 4 → flagAt sources cs (8 * c + k) ≡ portFlag sources cs c
+unfolding portFlag sourceFlag isSource isOutput isRootNode inputNode
+input-flag true cs c k h = rw (lt-ltb ((8 * c + k) % 8) 4 (omega arith), same-zero c k h)
+input-flag false cs c k h = end-input cs c k h
 
-pub output-flag : (cs : List Component) (c k : ℕ) → k < 4 → sourceFlag cs (8 * c + 4 + k) ≡ cond (isAtomic cs c) 1 0
-unfolding sourceFlag isSource isOutput nodeComponent
-output-flag cs c k h =
-    let e : (8 * c + 4 + k) / 8 ≡ c = omega arith in
-    rw (le-ltb ((8 * c + 4 + k) % 8) 4 (omega arith), e)
+pub output-flag : (sources : Bool) (cs : List Component) (c k : ℕ) → k < 4 → flagAt sources cs (8 * c + 4 + k) ≡ portFlag (not sources) cs c
+unfolding portFlag sourceFlag isSource isOutput nodeComponent outputNode
+output-flag true cs c k h = let e : (8 * c + 4 + k) / 8 ≡ c = omega arith in rw (le-ltb ((8 * c + 4 + k) % 8) 4 (omega arith), e)
+output-flag false cs c k h = let e : 8 * c + 4 + k ≡ 8 * c + (4 + k) = omega arith in rw e (end-output cs c k h)

@@ -5,15 +5,16 @@ use mathlib.Core.List.{List}
 use mathlib.Core.Bool.{Bool, true, false, cond}
 use mathlib.Core.Logic.{inr}
 use native.Mathlib.Omega.{arith}
-use lib.ListN.{length}
+use lib.ListN.{length, getD}
 use Rattle.definition.specs.Limits.{maxComponents, maxCouplings}
-use Rattle.definition.specs.Model.{Component}
+use Rattle.definition.specs.Model.{Component, Coupling}
 use Rattle.spec_step.specs.Tables.{portNodes, firstAt, liveAt, nextAt, sourceAt}
 use Rattle.spec_step.specs.Tabled.{isLive}
-use Rattle.table_words.specs.Writes.{column, putIn, linked}
+use Rattle.table_words.specs.Writes.{putIn, linked}
 use Rattle.table_words.proofs.Columns.{Within, within-none, within-both, within-put, column-within}
 use Rattle.table_words.proofs.Chains.{linked-cong, linked-else}
-use Rattle.table_couplings.specs.Links.{sourceIn, OnNodes, sourceFlag, spread, spreadUp, spreadDown, byLink}
+use Rattle.table_couplings.specs.declared.End.the-variants.{Source, Target}
+use Rattle.table_couplings.specs.Links.{linkEnd, sourceIn, OnNodes, Joined, sourceFlag, marked, spread, spreadUp, spreadDown, byLink, byCoupling}
 use Rattle.table_couplings.proofs.Loops.{up-cong, down-cong}
 
 -- ---- flags
@@ -35,53 +36,59 @@ up-within src tgt (suc j) t =
 
 -- ---- the tables in the order in which they are written
 
-module _ (src tgt held : ℕ → ℕ) (cs : List Component) (n : ℕ) (t : List ℕ) (few : length cs ≤ maxComponents) (most : n ≤ maxCouplings)
-    (ends : (j : ℕ) → 0 < j → j ≤ n → held j ≡ tgt j) (begins : (j : ℕ) → 0 < j → j ≤ n → sourceIn t j ≡ src j)
+module _ (cs : List Component) (ks : List Coupling) (targets t : List ℕ) (few : length cs ≤ maxComponents) (most : length ks ≤ maxCouplings)
+    (joined : Joined cs ks targets t)
   where
-    abbrev chained : (ℕ → ℕ) → List ℕ
-    chained key = linked firstAt (portNodes * maxComponents) nextAt key n t
+    abbrev src : ℕ → ℕ
+    src = linkEnd Source cs ks
 
-    abbrev marked : List ℕ → List ℕ
-    marked s = column liveAt (sourceFlag cs) (portNodes * length cs) 0 s
+    abbrev tgt : ℕ → ℕ
+    tgt = linkEnd Target cs ks
 
-    abbrev ready : List ℕ
-    ready = marked (chained tgt)
+    abbrev pub held : ℕ → ℕ
+    held j = getD targets j 0
 
-    marked-source : (key : ℕ → ℕ) (j : ℕ) → 0 < j → j ≤ n → sourceIn (marked (chained key)) j ≡ src j
-    marked-source key j p q =
-        column-within liveAt (sourceFlag cs) (portNodes * length cs) (chained key) .above (sourceAt + j) (omega arith)
-        ∙ linked-else firstAt (portNodes * maxComponents) nextAt (omega arith) key n t (sourceAt + j) (inr (omega arith)) (inr (omega arith))
-        ∙ begins j p q
+    abbrev pub readyBy : (ℕ → ℕ) → List ℕ
+    readyBy key = marked liveAt sourceFlag cs (linked firstAt (portNodes * maxComponents) nextAt key (length ks) t)
+
+    ready-source : (key : ℕ → ℕ) (j : ℕ) → 0 < j → j ≤ length ks → sourceIn (readyBy key) j ≡ src j
+    ready-source key j p q =
+        column-within liveAt (sourceFlag cs) (portNodes * length cs) (linked firstAt (portNodes * maxComponents) nextAt key (length ks) t) .above (sourceAt + j) (omega arith)
+        ∙ linked-else firstAt (portNodes * maxComponents) nextAt (omega arith) key (length ks) t (sourceAt + j) (inr (omega arith)) (inr (omega arith))
+        ∙ joined .begins j p q
 
     -- so the links still join nodes that there is room for
-    module _ (on : OnNodes src tgt n) (r : List ℕ) (e : r ≡ marked (chained held)) where
-      pub marked-nodes : OnNodes (sourceIn r) held n
-      marked-nodes j p q =
-          let x : sourceIn r j ≡ src j = ap (λ s. sourceIn s j) e ∙ marked-source held j p q in
-          rw (x, ends j p q) (on j p q)
+    pub ready-nodes : (s : List ℕ) → s ≡ readyBy held → OnNodes (sourceIn s) held (length ks)
+    ready-nodes s e j p q =
+        let x : sourceIn s j ≡ src j = ap (λ s. sourceIn s j) e ∙ ready-source held j p q in
+        rw (x, joined .ends j p q) (joined .nodes j p q)
 
-      pub spread-nodes : (s : List ℕ) → s ≡ spreadUp (sourceIn r) held n r → OnNodes (sourceIn s) held n
-      spread-nodes s f j p q =
-          let x : sourceIn s j ≡ sourceIn r j = ap (λ s. sourceIn s j) f ∙ up-within (sourceIn r) held n r .above (sourceAt + j) (omega arith) in
-          rw x (marked-nodes j p q)
+    abbrev pub upward : List ℕ → List ℕ
+    upward s = spreadUp (sourceIn s) held (length ks) s
 
-    abbrev upward : List ℕ → List ℕ
-    upward s = spreadUp (sourceIn s) held n s
+    pub spread-nodes : (s r : List ℕ) → s ≡ upward r → r ≡ readyBy held → OnNodes (sourceIn s) held (length ks)
+    spread-nodes s r f e j p q =
+        let x : sourceIn s j ≡ sourceIn r j = ap (λ s. sourceIn s j) f ∙ up-within (sourceIn r) held (length ks) r .above (sourceAt + j) (omega arith) in
+        rw x (ready-nodes r e j p q)
 
-    abbrev downward : List ℕ → List ℕ
-    downward s = spreadDown (sourceIn s) held n 1 s
+    abbrev pub downward : List ℕ → List ℕ
+    downward s = spreadDown (sourceIn s) held (length ks) 1 s
 
-    up-ready : upward ready ≡ spreadUp src tgt n ready
-    up-ready = up-cong (sourceIn ready) held src tgt n ready (marked-source tgt) ends
+    abbrev ready : List ℕ
+    ready = readyBy tgt
 
-    down-ready : downward (spreadUp src tgt n ready) ≡ spreadDown src tgt n 1 (spreadUp src tgt n ready)
+    up-ready : upward ready ≡ spreadUp src tgt (length ks) ready
+    up-ready = up-cong (sourceIn ready) held src tgt (length ks) ready (ready-source tgt) (joined .ends)
+
+    down-ready : downward (spreadUp src tgt (length ks) ready) ≡ spreadDown src tgt (length ks) 1 (spreadUp src tgt (length ks) ready)
     down-ready =
-        down-cong (sourceIn (spreadUp src tgt n ready)) held src tgt n 1 (spreadUp src tgt n ready)
-        (λ j p q. up-within src tgt n ready .above (sourceAt + j) (omega arith) ∙ marked-source tgt j (omega arith) (omega arith))
-        (λ j p q. ends j (omega arith) (omega arith))
+        let s = spreadUp src tgt (length ks) ready in
+        down-cong (sourceIn s) held src tgt (length ks) 1 s
+        (λ j p q. up-within src tgt (length ks) ready .above (sourceAt + j) (omega arith) ∙ ready-source tgt j (omega arith) (omega arith))
+        (λ j p q. joined .ends j (omega arith) (omega arith))
 
-    pub links-whole : downward (upward (marked (chained held))) ≡ byLink src tgt cs n t
-    unfolding byLink
+    pub links-whole : downward (upward (readyBy held)) ≡ byCoupling cs ks t
+    unfolding byLink byCoupling
     links-whole =
-        ap (λ s. downward (upward (marked s))) (linked-cong firstAt (portNodes * maxComponents) nextAt held tgt n t ends)
+        ap (λ s. downward (upward (marked liveAt sourceFlag cs s))) (linked-cong firstAt (portNodes * maxComponents) nextAt held tgt (length ks) t (joined .ends))
         ∙ ap downward up-ready ∙ down-ready

@@ -3,15 +3,21 @@
 use mathlib.Core.Path.{_≡_}
 use Prim.Native.Nat.{ℕ, zero, suc, _+_, _-_, _*_, _<_, _≤_}
 use mathlib.Core.List.{List}
-use mathlib.Core.Bool.{Bool, cond}
+use mathlib.Core.Bool.{Bool, true, false, cond}
 use lib.ListN.{length, getD, replicate}
+use lib.Dec.{eqb}
 use Rattle.definition.specs.Limits.{maxComponents}
 use Rattle.definition.specs.Model.{Component, Coupling, noCoupling, isAtomic}
-use Rattle.spec_step.specs.Tables.{portNodes, isOutput, isRootNode, nodeComponent, firstAt, liveAt, nextAt, sourceAt, tableSize, sourceNumber, targetNumber}
+use Rattle.law_routes.specs.Ways.{endAt}
+use Rattle.spec_step.specs.Tables.{portNodes, inputNode, outputNode, isOutput, isRootNode, nodeComponent, firstAt, liveAt, nextAt, sourceAt, tableSize, sourceNumber, targetNumber}
 use Rattle.spec_step.specs.Tabled.{isLive}
 use Rattle.table_words.specs.Writes.{column, putIn, linked}
 use Rattle.table_couplings.specs.declared.End.{End}
 use Rattle.table_couplings.specs.declared.End.the-variants.{Source, Target}
+
+-- Port q of component c, on its output side or on its input side.
+unfoldable pub sideNode : Bool → ℕ → ℕ → ℕ
+sideNode output c q = cond output (outputNode c q) (inputNode c q)
 
 -- The nodes of a coupling, and of a link.
 abbrev pub endOf : End → List Component → Coupling → ℕ
@@ -60,6 +66,18 @@ isSource cs x = cond (isOutput x) (isAtomic cs (nodeComponent x)) (isRootNode x)
 unfoldable pub sourceFlag : List Component → ℕ → ℕ
 sourceFlag cs x = cond (isSource cs x) 1 0
 
+-- The nodes where messages begin, or those where they end: each is the root's or an atomic's.
+abbrev pub flagAt : Bool → List Component → ℕ → ℕ
+flagAt true = sourceFlag
+flagAt false = endAt
+
+unfoldable pub portFlag : Bool → List Component → ℕ → ℕ
+portFlag root cs c = cond root (cond (eqb c 0) 1 0) (cond (isAtomic cs c) 1 0)
+
+-- A flag for each node, from `at` on.
+abbrev pub marked : ℕ → (List Component → ℕ → ℕ) → List Component → List ℕ → List ℕ
+marked at flag cs t = column at (flag cs) (portNodes * length cs) 0 t
+
 -- Where x is live, so is y.
 unfoldable pub spread : ℕ → ℕ → List ℕ → List ℕ
 spread x y t = let live = putIn liveAt (portNodes * maxComponents) y 1 t in cond (isLive t x) live t
@@ -79,8 +97,7 @@ module _ (src tgt : ℕ → ℕ) where
   unfoldable pub byLink : List Component → ℕ → List ℕ → List ℕ
   byLink cs m t =
       let chains = linked firstAt (portNodes * maxComponents) nextAt tgt m t in
-      let marked = column liveAt (sourceFlag cs) (portNodes * length cs) 0 chains in
-      spreadDown m 1 (spreadUp m marked)
+      spreadDown m 1 (spreadUp m (marked liveAt sourceFlag cs chains))
 
 unfoldable pub byCoupling : List Component → List Coupling → List ℕ → List ℕ
 byCoupling cs ks t = byLink (linkEnd Source cs ks) (linkEnd Target cs ks) cs (length ks) t

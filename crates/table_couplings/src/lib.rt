@@ -4,9 +4,8 @@ ghost use Prim.Native.Nat.{_+_, _*_, _<_, _≤_};
 ghost use lib.ListN.{length, getD};
 ghost use Rattle.definition.specs.Limits.{maxComponents, maxCouplings};
 ghost use Rattle.model_records.specs.Values.{couplingOf, componentsIn, couplingsIn};
-ghost use Rattle.spec_step.specs.Tables.{portNodes, inputNode, outputNode, sourceNumber, targetNumber, liveAt};
-ghost use Rattle.table_words.specs.Writes.{column};
-ghost use Rattle.table_couplings.specs.Links.{sourceIn, linkEnd, Held, OnNodes, Joined, begun, sourceFlag, spread, spreadUp, spreadDown, byCoupling};
+ghost use Rattle.spec_step.specs.Tables.{portNodes, sourceNumber, targetNumber};
+ghost use Rattle.table_couplings.specs.Links.{sideNode, sourceIn, linkEnd, Held, OnNodes, Joined, begun, portFlag, flagAt, marked, spread, spreadUp, spreadDown, byCoupling};
 use limits::MAX_NODES;
 use limits::OUTPUTS_AT;
 use limits::PORT_COUNT;
@@ -29,38 +28,31 @@ pub enum End {
     Target,
 }
 
-fn input_node(c: u8, q: u8) -> u16
-    ensures { λ r. ⌜ r ≡ inputNode c q ⌝ }
+// Port q of component c, on its output side or on its input side.
+fn side_node(output: bool, c: u8, q: u8) -> u16
+    ensures { λ r. ⌜ r ≡ sideNode output c q ⌝ }
 {
-    PORT_NODES as u16 * u8_to_u16(c) + u8_to_u16(q)
-}
-
-fn output_node(c: u8, q: u8) -> u16
-    ensures { λ r. ⌜ r ≡ outputNode c q ⌝ }
-{
-    PORT_NODES as u16 * u8_to_u16(c) + (u8_to_u16(PORT_COUNT) + u8_to_u16(q))
+    if output {
+        PORT_NODES as u16 * u8_to_u16(c) + (u8_to_u16(PORT_COUNT) + u8_to_u16(q))
+    } else {
+        PORT_NODES as u16 * u8_to_u16(c) + u8_to_u16(q)
+    }
 }
 
 // A coupling from a parent begins at an input, any other at an output.
 fn source_node(components: &[u8], k: Coupling) -> u16
     ensures { λ r. ⌜ r ≡ sourceNumber (componentsIn (now (components .entry))) (couplingOf k) ⌝ }
 {
-    if model_records::is_child(components, u8_to_usize(k.source), u8_to_usize(k.target)) {
-        input_node(k.source, k.source_port)
-    } else {
-        output_node(k.source, k.source_port)
-    }
+    let inward = model_records::is_child(components, u8_to_usize(k.source), u8_to_usize(k.target));
+    side_node(!inward, k.source, k.source_port)
 }
 
 // A coupling to a parent ends at an output, any other at an input.
 fn target_node(components: &[u8], k: Coupling) -> u16
     ensures { λ r. ⌜ r ≡ targetNumber (componentsIn (now (components .entry))) (couplingOf k) ⌝ }
 {
-    if model_records::is_child(components, u8_to_usize(k.target), u8_to_usize(k.source)) {
-        output_node(k.target, k.target_port)
-    } else {
-        input_node(k.target, k.target_port)
-    }
+    let outward = model_records::is_child(components, u8_to_usize(k.target), u8_to_usize(k.source));
+    side_node(outward, k.target, k.target_port)
 }
 
 fn link_count(couplings: &[u8]) -> u16
@@ -91,21 +83,29 @@ pub fn put_ends(
     }
 }
 
-// The sources are live, and nothing else yet: the root's inputs and the atomics' outputs, four ports at once.
-fn mark_sources(components: &[u8], t: &mut [u16; TABLE_SIZE])
-    requires { ⌜ length (componentsIn (now components)) ≤ maxComponents ⌝ }
-    ensures { λ _. ⌜ now (t .exit) ≡ column liveAt (sourceFlag (componentsIn (now (components .entry)))) (portNodes * length (componentsIn (now (components .entry)))) 0 (now (t .entry)) ⌝ }
+// Whether c is the root, or whether it is an atomic.
+fn port_flag(components: &[u8], root: bool, c: usize) -> u16
+    ensures { λ r. ⌜ r ≡ portFlag root (componentsIn (now (components .entry))) c ⌝ }
+{
+    if root {
+        bool_to_u16(c == 0)
+    } else {
+        bool_to_u16(model_records::is_atomic(components, c))
+    }
+}
+
+// 1 at the ports where messages begin, the root's inputs and the atomics' outputs, or at those where they end, the atomics' inputs and the
+// root's outputs, and 0 at all others; four ports at once.
+pub fn mark_ports(components: &[u8], sources: bool, at: usize, t: &mut [u16])
+    requires { ⌜ at + portNodes * length (componentsIn (now components)) ≤ length (now t) ⌝ }
+    ensures { λ _. ⌜ now (t .exit) ≡ marked at (flagAt sources) (componentsIn (now (components .entry))) (now (t .entry)) ⌝ }
 {
     let n = model_records::component_count(components);
     let mut c: usize = 0;
     while c < n {
-        let x = PORT_NODES * c;
-        table_words::put_four(t, LIVE_AT + x, bool_to_u16(c == 0));
-        table_words::put_four(
-            t,
-            LIVE_AT + (x + OUTPUTS_AT),
-            bool_to_u16(model_records::is_atomic(components, c)),
-        );
+        let x = at + PORT_NODES * c;
+        table_words::put_four(t, x, port_flag(components, sources, c));
+        table_words::put_four(t, x + OUTPUTS_AT, port_flag(components, !sources, c));
         c = c + 1;
     }
 }
@@ -168,7 +168,7 @@ pub fn fill_linked(
 {
     let n = link_count(couplings);
     table_words::link_all(targets, n, FIRST_AT, MAX_NODES, NEXT_AT, t);
-    mark_sources(components, t);
+    mark_ports(components, true, LIVE_AT, t);
     spread_up(targets, n, t);
     spread_down(targets, n, t);
 }
