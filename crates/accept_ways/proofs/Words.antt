@@ -2,7 +2,7 @@
 -- exactly where it begins at an input. So the table counts the ways. Assumes nothing.
 use mathlib.Core.Path.{_≡_, refl, sym, ap, ap₂, _∙_, subst}
 use mathlib.Core.List.{List}
-use mathlib.Core.Bool.{Bool, true, false, not, cond}
+use mathlib.Core.Bool.{Bool, true, false, not, cond, Bool·beq}
 use Prim.Native.Nat.{ℕ, zero, suc, _+_, _*_, _<_, _≤_}
 use native.Mathlib.Omega.{arith}
 use native.Mathlib.Numerals.{add-one}
@@ -21,27 +21,26 @@ use Rattle.table_couplings.specs.declared.End.the-variants.{Source, Target}
 use Rattle.table_couplings.specs.Links.{sourceIn, OnNodes, Joined}
 use Rattle.table_couplings.proofs.Loops.{end-next}
 use Rattle.table_couplings.proofs.Nodes.{source-side}
-use Rattle.accept_ways.specs.Words.{linkTaken, linkDown, linkUp, waysDown, waysUp}
-use Rattle.accept_ways.proofs.Loops.{down-long, up-long, down-whole}
+use Rattle.accept_ways.specs.Words.{linkTaken, linkOn, waysDown, waysUp}
+use Rattle.accept_ways.proofs.Loops.{on-long, down-whole}
 
 -- ---- one coupling
 
-module _ (cs : List Component) (k : Coupling) (w : Kept cs k) (ways : List ℕ) where
-  down-is : linkDown (sourceNumber cs k) (targetNumber cs k) ways ≡ takenDown cs k ways
-  unfolding linkDown linkTaken takenDown taken
-  down-is = rw (source-side cs k w) (go (isChild cs (k .source) (k .target)) (taken cs k ways))
-    where
-      go : (b : Bool) (t : List ℕ) → cond (not b) ways t ≡ cond b t ways
-      go true t = refl
-      go false t = refl
+-- in either pass
+abbrev takenOn : Bool → List Component → Coupling → List ℕ → List ℕ
+takenOn true = takenUp
+takenOn false = takenDown
 
-  up-is : linkUp (sourceNumber cs k) (targetNumber cs k) ways ≡ takenUp cs k ways
-  unfolding linkUp linkTaken takenUp taken
-  up-is = rw (source-side cs k w) (go (isChild cs (k .source) (k .target)) (taken cs k ways))
-    where
-      go : (b : Bool) (t : List ℕ) → cond (not b) t ways ≡ cond b ways t
-      go true t = refl
-      go false t = refl
+on-is : (output : Bool) (cs : List Component) (k : Coupling) → Kept cs k → (ways : List ℕ)
+    → linkOn output (sourceNumber cs k) (targetNumber cs k) ways ≡ takenOn output cs k ways
+unfolding linkOn linkTaken takenDown takenUp taken
+on-is output cs k w ways = rw (source-side cs k w) (go output (isChild cs (k .source) (k .target)) refl)
+  where
+    go : (output b : Bool) → isChild cs (k .source) (k .target) ≡ b → cond (Bool·beq (not b) output) (taken cs k ways) ways ≡ takenOn output cs k ways
+    go true true e = rw e
+    go true false e = rw e
+    go false true e = rw e
+    go false false e = rw e
 
 -- ---- all couplings
 
@@ -65,11 +64,9 @@ module _ (cs : List Component) (ks : List Coupling) (p : Placed cs ks) (targets 
   tgt-is : (i : ℕ) → i < length ks → tgt (i + 1) ≡ targetNumber cs (at i)
   tgt-is i l = w .ends (i + 1) (omega arith) (omega arith) ∙ sym (end-next Target cs ks i)
 
-  down-link : (i : ℕ) (ways : List ℕ) → i < length ks → linkDown (src (i + 1)) (tgt (i + 1)) ways ≡ takenDown cs (at i) ways
-  down-link i ways l = ap₂ (λ x y. linkDown x y ways) (src-is i l) (tgt-is i l) ∙ down-is cs (at i) (kept-at cs ks (p .couplings) i l) ways
-
-  up-link : (i : ℕ) (ways : List ℕ) → i < length ks → linkUp (src (i + 1)) (tgt (i + 1)) ways ≡ takenUp cs (at i) ways
-  up-link i ways l = ap₂ (λ x y. linkUp x y ways) (src-is i l) (tgt-is i l) ∙ up-is cs (at i) (kept-at cs ks (p .couplings) i l) ways
+  on-link : (output : Bool) (i : ℕ) (ways : List ℕ) → i < length ks → linkOn output (src (i + 1)) (tgt (i + 1)) ways ≡ takenOn output cs (at i) ways
+  on-link output i ways l =
+      ap₂ (λ x y. linkOn output x y ways) (src-is i l) (tgt-is i l) ∙ on-is output cs (at i) (kept-at cs ks (p .couplings) i l) ways
 
   downs : (j : ℕ) (ways : List ℕ) → j ≤ length ks → portNodes * length cs ≤ length ways → Filled cs ks (downFrom cs ks j) ways
       → Filled cs ks (downFrom cs ks 0) (waysDown src tgt j ways)
@@ -77,8 +74,8 @@ module _ (cs : List Component) (ks : List Coupling) (p : Placed cs ks) (targets 
   downs zero ways l room f = f
   downs (suc j) ways l room f =
       let e = add-one j in
-      let h : linkDown (src (suc j)) (tgt (suc j)) ways ≡ takenDown cs (at j) ways = ap (λ i. linkDown (src i) (tgt i) ways) (sym e) ∙ down-link j ways (omega arith) in
-      downs j (linkDown (src (suc j)) (tgt (suc j)) ways) (omega arith) (omega (arith, down-long (src (suc j)) (tgt (suc j)) ways))
+      let h : linkOn false (src (suc j)) (tgt (suc j)) ways ≡ takenDown cs (at j) ways = ap (λ i. linkOn false (src i) (tgt i) ways) (sym e) ∙ on-link false j ways (omega arith) in
+      downs j (linkOn false (src (suc j)) (tgt (suc j)) ways) (omega arith) (omega (arith, on-long false (src (suc j)) (tgt (suc j)) ways))
       (subst (Filled cs ks (downFrom cs ks j)) (sym h)
       (down-turn cs ks (p .components) (p .couplings) ways j (omega arith) room (subst (λ i. Filled cs ks (downFrom cs ks i) ways) (sym e) f)))
 
@@ -87,8 +84,8 @@ module _ (cs : List Component) (ks : List Coupling) (p : Placed cs ks) (targets 
   unfolding waysUp
   ups zero i ways e room f = up-end cs ks (p .components) (p .couplings) ways i (omega arith) f
   ups (suc m) i ways e room f =
-      ups m (i + 1) (linkUp (src (i + 1)) (tgt (i + 1)) ways) (omega arith) (omega (arith, up-long (src (i + 1)) (tgt (i + 1)) ways))
-      (subst (Filled cs ks (upTo cs ks (i + 1))) (sym (up-link i ways (omega arith)))
+      ups m (i + 1) (linkOn true (src (i + 1)) (tgt (i + 1)) ways) (omega arith) (omega (arith, on-long true (src (i + 1)) (tgt (i + 1)) ways))
+      (subst (Filled cs ks (upTo cs ks (i + 1))) (sym (on-link true i ways (omega arith)))
       (up-turn cs ks (p .components) (p .couplings) ways i (omega arith) room f))
 
   -- both passes, from the ends alone

@@ -1,15 +1,14 @@
-// How many ways lead on from each port to an end, counted up to one more than a model may have, on the nodes of the links: one pass from
-// the last link to the first for the ways down, and one from the first to the last for the others.
+// How many ways lead on from each port to an end, counted up to one more than a model may have, on the nodes of the links: the ends alone,
+// then one pass from the last link to the first for the ways down, and one from the first to the last for the others.
 ghost use mathlib.Core.Path.{_≡_};
 ghost use Prim.Native.Nat.{_+_, _*_, _<_, _≤_, min};
 ghost use lib.ListN.{length, getD};
 ghost use Rattle.definition.specs.Limits.{maxComponents, maxCouplings};
 ghost use Rattle.model_records.specs.Values.{componentsIn, couplingsIn};
-ghost use Rattle.law_routes.specs.Ways.{endAt, waysCap, Counted, Placed};
+ghost use Rattle.law_routes.specs.Ways.{waysCap, Counted, Placed};
 ghost use Rattle.spec_step.specs.Tables.{portNodes, isOutput};
-ghost use Rattle.table_words.specs.Writes.{column};
 ghost use Rattle.table_couplings.specs.Links.{sourceIn, OnNodes, Joined};
-ghost use Rattle.accept_ways.specs.Words.{linkTaken, linkDown, linkUp, waysDown, waysUp};
+ghost use Rattle.accept_ways.specs.Words.{linkTaken, linkOn, waysDown, waysUp};
 use limits::MAX_NODES;
 use limits::OUTPUTS_AT;
 use limits::PORT_NODES;
@@ -17,8 +16,6 @@ use limits::WAYS_CAP;
 use table_words::LINKS;
 use table_words::SOURCE_AT;
 use table_words::TABLE_SIZE;
-use table_words::put_four;
-use widen::bool_to_u16;
 use widen::u16_to_u32;
 use widen::u16_to_usize;
 
@@ -31,25 +28,6 @@ pub fn capped(a: u16, b: u16) -> u16
         sum as u16
     } else {
         WAYS_CAP
-    }
-}
-
-// The ends alone, an atomic's inputs and the root's outputs, four ports at once.
-fn start_ways(components: &[u8], ways: &mut [u16; MAX_NODES])
-    requires { ⌜ length (componentsIn (now components)) ≤ maxComponents ⌝ }
-    ensures { λ _. ⌜ now (ways .exit) ≡ column 0 (endAt (componentsIn (now (components .entry)))) (portNodes * length (componentsIn (now (components .entry)))) 0 (now (ways .entry)) ⌝ }
-{
-    let n = model_records::component_count(components);
-    let mut c: usize = 0;
-    while c < n {
-        let x = PORT_NODES * c;
-        put_four(
-            ways,
-            x,
-            bool_to_u16(model_records::is_atomic(components, c)),
-        );
-        put_four(ways, x + OUTPUTS_AT, bool_to_u16(c == 0));
-        c = c + 1;
     }
 }
 
@@ -70,35 +48,19 @@ fn is_output(x: usize) -> bool
     !(x % PORT_NODES < OUTPUTS_AT)
 }
 
-// Link j, where it leads down: it is left out where it begins at an output.
-fn take_down(
+// Link j, where it begins on that side: at an output where it leads up or across, at an input where it leads down.
+fn take_side(
     tables: &[u16; TABLE_SIZE],
     targets: &[u16; LINKS],
     j: usize,
+    output: bool,
     ways: &mut [u16; MAX_NODES],
 )
     requires { ⌜ (j ≤ maxCouplings) × (sourceIn (now tables) j < portNodes * maxComponents) × (getD (now targets) j 0 < portNodes * maxComponents) ⌝ }
-    ensures { λ _. ⌜ now (ways .exit) ≡ linkDown (sourceIn (now (tables .entry)) j) (getD (now (targets .entry)) j 0) (now (ways .entry)) ⌝ }
+    ensures { λ _. ⌜ now (ways .exit) ≡ linkOn output (sourceIn (now (tables .entry)) j) (getD (now (targets .entry)) j 0) (now (ways .entry)) ⌝ }
 {
     let x = u16_to_usize(tables[SOURCE_AT + j]);
-    if is_output(x) {
-        return;
-    }
-    take_link(x, u16_to_usize(targets[j]), ways);
-}
-
-// Link j, where it leads up or across: it is left out where it begins at an input.
-fn take_up(
-    tables: &[u16; TABLE_SIZE],
-    targets: &[u16; LINKS],
-    j: usize,
-    ways: &mut [u16; MAX_NODES],
-)
-    requires { ⌜ (j ≤ maxCouplings) × (sourceIn (now tables) j < portNodes * maxComponents) × (getD (now targets) j 0 < portNodes * maxComponents) ⌝ }
-    ensures { λ _. ⌜ now (ways .exit) ≡ linkUp (sourceIn (now (tables .entry)) j) (getD (now (targets .entry)) j 0) (now (ways .entry)) ⌝ }
-{
-    let x = u16_to_usize(tables[SOURCE_AT + j]);
-    if is_output(x) {
+    if is_output(x) == output {
         take_link(x, u16_to_usize(targets[j]), ways);
     }
 }
@@ -117,7 +79,7 @@ fn ways_down(
 {
     let mut j = n;
     while 0 < j {
-        take_down(tables, targets, j, ways);
+        take_side(tables, targets, j, false, ways);
         j = j - 1;
     }
 }
@@ -134,7 +96,7 @@ fn ways_up(
 {
     let mut j: usize = 1;
     while j <= n {
-        take_up(tables, targets, j, ways);
+        take_side(tables, targets, j, true, ways);
         j = j + 1;
     }
 }
@@ -151,7 +113,7 @@ pub fn count_ways(
         × Placed (componentsIn (now components)) (couplingsIn (now couplings)) × Joined (componentsIn (now components)) (couplingsIn (now couplings)) (now targets) (now tables) ⌝ }
     ensures { λ _. ⌜ Counted (componentsIn (now (components .entry))) (couplingsIn (now (couplings .entry))) (now (ways .exit)) ⌝ }
 {
-    start_ways(components, ways);
+    table_couplings::mark_ports(components, false, 0, ways);
     let n = model_records::coupling_count(couplings);
     ways_down(tables, targets, n, ways);
     ways_up(tables, targets, n, ways);

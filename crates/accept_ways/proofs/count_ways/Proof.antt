@@ -32,7 +32,7 @@ ways-up-requires c κs =
 returns : tie.Need-returns
 returns c =
     let start : tie.Start = search in let after-ways-down : tie.After-ways-down = search in
-    let after-coupling-count : tie.After-coupling-count = search in let after-start-ways : tie.After-start-ways = search in
+    let after-coupling-count : tie.After-coupling-count = search in let after-mark-ports : tie.After-mark-ports = search in
     let a = start .args in
     let p = start .pre in
     let cs = componentsIn (now (a .components)) in
@@ -41,7 +41,7 @@ returns c =
     let tgt : ℕ → ℕ = λ j. getD (now (a .targets)) j 0 in
     let n = after-coupling-count .coupling-count .result in
     let both : ℕ → List ℕ → List ℕ = λ n ways. waysUp src tgt n 1 (waysDown src tgt n ways) in
-    let e = c .ways-up .ensures ∙ ap (waysUp src tgt n 1) (after-ways-down .ways-down .ensures ∙ ap (waysDown src tgt n) (after-start-ways .start-ways .ensures))
+    let e = c .ways-up .ensures ∙ ap (waysUp src tgt n 1) (after-ways-down .ways-down .ensures ∙ ap (waysDown src tgt n) (after-mark-ports .mark-ports .ensures))
     ∙ ap (λ n. both n (column 0 (endAt cs) (portNodes * length cs) 0 (now (a .ways)))) (after-coupling-count .coupling-count .ensures) in
     subst (Counted cs ks) (sym e) (ways-counted cs ks (p .3) (now (a .targets)) (now (a .tables)) (p .4) (p .0) (now (a .ways)) (p .2))
 

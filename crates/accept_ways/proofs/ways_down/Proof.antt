@@ -17,8 +17,8 @@ Inv-loop tables targets n ways₀ j₀ ways j = (j ≤ n) × (waysDown (sourceIn
 abbrev μ-loop : tie.MeasureT-loop
 μ-loop tables targets n ways₀ j₀ ways j = j
 
-take-down-requires : tie.Need-take-down-requires Inv-loop μ-loop
-take-down-requires c κs =
+take-side-requires : tie.Need-take-side-requires Inv-loop μ-loop
+take-side-requires c κs =
     let start : tie.Start Inv-loop μ-loop = search in let at-loop : tie.At-loop Inv-loop μ-loop = search in
     let w = start .pre .1 (at-loop .loop .j) (omega arith) (omega arith) in
     (omega arith, w .0, w .1)
@@ -30,7 +30,7 @@ loop-again c =
     let l = at-loop .loop in
     let src = sourceIn (now (a .tables)) in
     let tgt : ℕ → ℕ = λ j. getD (now (a .targets)) j 0 in
-    (omega arith, ap (waysDown src tgt (l .j - 1)) (c .take-down .ensures) ∙ down-more src tgt (l .j) (l .ways) (omega arith) ∙ l .inv .1)
+    (omega arith, ap (waysDown src tgt (l .j - 1)) (c .take-side .ensures) ∙ down-more src tgt (l .j) (l .ways) (omega arith) ∙ l .inv .1)
 
 returns : tie.Need-returns Inv-loop μ-loop
 returns c =
@@ -41,4 +41,4 @@ returns c =
 
 pub ways-down-spec : {M : Type 1} → statement M
 ways-down-spec =
-    tie.close (tie.spec Inv-loop μ-loop (λ c. (omega arith, refl)) take-down-requires (λ c. search needs) (λ c. search needs) loop-again returns)
+    tie.close (tie.spec Inv-loop μ-loop (λ c. (omega arith, refl)) take-side-requires (λ c. search needs) (λ c. search needs) loop-again returns)

@@ -17,8 +17,8 @@ Inv-loop tables targets n ways₀ j₀ ways j = (0 < j) × (j ≤ n + 1) × (way
 abbrev μ-loop : tie.MeasureT-loop
 μ-loop tables targets n ways₀ j₀ ways j = n + 1 - j
 
-take-up-requires : tie.Need-take-up-requires Inv-loop μ-loop
-take-up-requires c κs =
+take-side-requires : tie.Need-take-side-requires Inv-loop μ-loop
+take-side-requires c κs =
     let start : tie.Start Inv-loop μ-loop = search in let at-loop : tie.At-loop Inv-loop μ-loop = search in
     let w = start .pre .1 (at-loop .loop .j) (omega arith) (omega arith) in
     (omega arith, w .0, w .1)
@@ -31,7 +31,7 @@ loop-again c =
     let src = sourceIn (now (a .tables)) in
     let tgt : ℕ → ℕ = λ j. getD (now (a .targets)) j 0 in
     let z : a .n + 1 - (l .j + 1) ≡ a .n - l .j = omega arith in
-    (omega arith, omega arith, rw z (ap (waysUp src tgt (a .n - l .j) (l .j + 1)) (c .take-up .ensures) ∙ up-more src tgt (a .n) (l .j) (l .ways) (omega arith) ∙ l .inv .2))
+    (omega arith, omega arith, rw z (ap (waysUp src tgt (a .n - l .j) (l .j + 1)) (c .take-side .ensures) ∙ up-more src tgt (a .n) (l .j) (l .ways) (omega arith) ∙ l .inv .2))
 
 returns : tie.Need-returns Inv-loop μ-loop
 returns c =
@@ -43,4 +43,4 @@ returns c =
 pub ways-up-spec : {M : Type 1} → statement M
 ways-up-spec =
     tie.close (tie.spec Inv-loop μ-loop (λ c. let a = c .args in let z : a .n + 1 - 1 ≡ a .n = omega arith in (omega arith, omega arith, rw z))
-    take-up-requires (λ c. search needs) (λ c. search needs) loop-again returns)
+    take-side-requires (λ c. search needs) (λ c. search needs) loop-again returns)

@@ -3,8 +3,7 @@ use borrow.Author.Needs.{needs}
 use native.Mathlib.Omega.{arith}
 use Rattle.flat_writer.proofs.Sections.{atomic-puts}
 use Rattle.model_records.specs.Values.{componentOf}
-use lib.ListN.{length, length-set}
-use Prim.Native.Nat.{_+_, _<_}
+use lib.ListN.{length-set}
 use denote.Ref.{now}
 use Rattle.flat_writer.proofs.put_atomic.Statement.{statement}
 use Rattle.flat_writer.proofs.put_atomic.Tie as tie

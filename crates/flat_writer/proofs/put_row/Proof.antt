@@ -2,8 +2,7 @@
 use borrow.Author.Needs.{needs}
 use native.Mathlib.Omega.{arith}
 use Rattle.flat_writer.proofs.Sections.{row-puts}
-use lib.ListN.{length, length-set}
-use Prim.Native.Nat.{_+_, _<_}
+use lib.ListN.{length-set}
 use denote.Ref.{now}
 use Rattle.flat_writer.proofs.put_row.Statement.{statement}
 use Rattle.flat_writer.proofs.put_row.Tie as tie

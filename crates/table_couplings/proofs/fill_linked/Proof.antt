@@ -1,14 +1,12 @@
 -- Four parts, one after the other, each over the table that the one before it left: together the definition's tables (links-whole).
 -- None moves where a link begins (ready-nodes, spread-nodes). Assumes nothing.
 use borrow.Author.Needs.{needs}
-use mathlib.Core.Path.{_≡_, ap, _∙_}
-use Prim.Native.Nat.{ℕ, _*_}
+use mathlib.Core.Path.{ap, _∙_}
+use Prim.Native.Nat.{ℕ}
 use denote.Ref.{now}
-use lib.ListN.{length, getD}
+use lib.ListN.{getD}
 use Rattle.model_records.specs.Values.{componentsIn, couplingsIn}
-use Rattle.definition.specs.Limits.{maxComponents}
-use Rattle.spec_step.specs.Tables.{portNodes, firstAt, liveAt, nextAt}
-use Rattle.table_words.specs.Writes.{linked}
+use Rattle.spec_step.specs.Tables.{liveAt}
 use Rattle.table_couplings.specs.Links.{sourceIn, sourceFlag, marked, spreadUp, spreadDown}
 use Rattle.table_couplings.proofs.Order.{ready-nodes, spread-nodes, links-whole}
 use Rattle.table_couplings.proofs.fill_linked.Statement.{statement}

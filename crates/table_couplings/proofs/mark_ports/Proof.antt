@@ -4,7 +4,6 @@ use borrow.Author.Needs.{needs}
 use native.Mathlib.Omega.{arith}
 use Prim.Native.Nat.{_≤_, _-_, _+_, _*_}
 use mathlib.Core.Path.{_≡_, refl, sym, ap, _∙_}
-use mathlib.Core.Bool.{not}
 use native.Mathlib.Nat.{sub-zero}
 use denote.Ref.{now}
 use lib.ListN.{length}
@@ -62,6 +61,6 @@ returns c =
 
 pub mark-ports-spec : {M : Type 1} → statement M
 mark-ports-spec =
-    tie.close (tie.spec Inv-loop μ-loop (λ c κs. search needs) (λ c. (omega arith, refl, rw sub-zero)) (λ c. search needs) (λ c. search needs) (λ c κs. search needs)
-    (λ c κs. search needs) (λ c. search needs) (λ c κs. search needs) (λ c κs. search needs)
-    (λ c. search needs) (λ c. search needs) loop-again (λ c. search needs) returns)
+    tie.close (tie.spec Inv-loop μ-loop (λ c κs. search needs) (λ c. (omega arith, refl, rw sub-zero)) (λ c. search needs) (λ c. search needs)
+    (λ c κs. search needs) (λ c κs. search needs) (λ c. search needs) (λ c κs. search needs) (λ c κs. search needs) (λ c. search needs)
+    (λ c. search needs) loop-again (λ c. search needs) returns)

@@ -4,12 +4,6 @@ use Rattle.table_couplings.specs.Links.{portFlag}
 use Rattle.table_couplings.proofs.port_flag.Statement.{statement}
 use Rattle.table_couplings.proofs.port_flag.Tie as tie
 
-returns : tie.Need-returns
-unfolding portFlag
-returns c =
-    let then1 : tie.Then1 = search in
-    rw (then1 .if1 .taken) (c .bool-to-u16 .ensures)
-
 returns-2 : tie.Need-returns-2
 unfolding portFlag
 returns-2 c =
@@ -18,4 +12,5 @@ returns-2 c =
 
 pub port-flag-spec : {M : Type 1} → statement M
 port-flag-spec =
-    tie.close (tie.spec (λ c κs. search needs) (λ c κs. search needs) (λ c κs. search needs) returns returns-2)
+    tie.close (tie.spec (λ c κs. search needs) (λ c κs. search needs) (λ c κs. search needs)
+    (λ c. unfold portFlag in (let then1 : tie.Then1 = search in rw (then1 .if1 .taken) (c .bool-to-u16 .ensures))) returns-2)
