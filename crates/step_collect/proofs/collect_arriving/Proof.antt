@@ -10,11 +10,6 @@ use Rattle.step_collect.proofs.Laws.{input-root, input-shut}
 use Rattle.step_collect.proofs.collect_arriving.Statement.{statement}
 use Rattle.step_collect.proofs.collect_arriving.Tie as tie
 
-same-length : tie.Need-same-length
-same-length c =
-    let after-put-given : tie.After-put-given = search in
-    after-put-given .put-given .kept .1 .1 .1 .0
-
 returns : tie.Need-returns
 returns c =
     let start : tie.Start = search in let after-put-given : tie.After-put-given = search in let after-port-of : tie.After-port-of = search in
@@ -42,17 +37,7 @@ collect-input-requires c κs =
       not-root = else1 .if1 .left;
     }
 
-same-length-2 : tie.Need-same-length-2
-same-length-2 c =
-    let after-collect-input : tie.After-collect-input = search in
-    after-collect-input .collect-input .kept .1 .1 .1 .1 .1 .1 .1 .0
-
-returns-3 : tie.Need-returns-3
-returns-3 c =
-    let after-collect-input : tie.After-collect-input = search in
-    after-collect-input .collect-input .ensures
-
 pub collect-arriving-spec : {M : Type 1} → statement M
 collect-arriving-spec =
-    tie.close (tie.spec (λ c κs. search needs) (λ c κs. search needs) same-length returns (λ c κs. search needs) returns-2 collect-input-requires
-    same-length-2 returns-3)
+    tie.close (tie.spec (λ c κs. search needs) (λ c κs. search needs) (λ c. search needs) returns (λ c κs. search needs) returns-2
+    collect-input-requires (λ c. search needs) (λ c. search needs))

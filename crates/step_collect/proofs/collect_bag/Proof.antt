@@ -8,7 +8,7 @@ use Rattle.step_collect.specs.Collected.{arriving, bagPut}
 use denote.Ref.{now}
 use lib.ListN.{length}
 use mathlib.Core.List.{List}
-use mathlib.Core.Path.{_≡_, _∙_, refl, sym}
+use mathlib.Core.Path.{_≡_, _∙_, sym}
 use Prim.Native.Nat.{ℕ, _≤_, _-_}
 use Rattle.step_collect.proofs.collect_bag.Statement.{statement}
 use Rattle.step_collect.proofs.collect_bag.Tie as tie
@@ -28,9 +28,6 @@ returns c =
     let shut = rw (c .before .reach-at .ensures, after-u16-to-usize .u16-to-usize .ensures) at (c .if1 .taken) in
     sym (unreached (now (a .phases)) (now (a .tables)) (now (a .flags)) (now (a .given)) 8 (a .c) 4 0 (now (a .buf), 0) shut (omega arith))
 
-loop-holds : tie.Need-loop-holds Inv-loop μ-loop
-loop-holds c = (omega arith, refl, refl)
-
 collect-arriving-requires : tie.Need-collect-arriving-requires Inv-loop μ-loop
 collect-arriving-requires c κs =
     let start : tie.Start Inv-loop μ-loop = search in
@@ -47,13 +44,10 @@ loop-again c =
     let f : ℕ → List ℕ = λ p. arriving (now (a .phases)) (now (a .tables)) (now (a .flags)) (now (a .given)) 8 (inputNode (a .c) p) in
     (omega arith, m .kept .1 .1 .1 .1 .1 .1 .0 ∙ l .inv .1, rw (m .ensures, after-input-node .input-node .ensures) (ports-more f 4 (l .q) (l .buf, l .end) (omega arith) ∙ l .inv .2))
 
-same-length : tie.Need-same-length Inv-loop μ-loop
-same-length c = c .before .loop .inv .1
-
 returns-2 : tie.Need-returns-2 Inv-loop μ-loop
 returns-2 c = sym (ports-none _ 4 (c .before .loop .q) _ (omega arith)) ∙ c .before .loop .inv .2
 
 pub collect-bag-spec : {M : Type 1} → statement M
 collect-bag-spec =
-    tie.close (tie.spec Inv-loop μ-loop (λ c κs. search needs) (λ c κs. search needs) returns loop-holds (λ c κs. search needs)
-    collect-arriving-requires (λ c. search needs) (λ c. search needs) loop-again same-length returns-2)
+    tie.close (tie.spec Inv-loop μ-loop (λ c κs. search needs) (λ c κs. search needs) returns (λ c. search needs) (λ c κs. search needs)
+    collect-arriving-requires (λ c. search needs) (λ c. search needs) loop-again (λ c. search needs) returns-2)

@@ -21,15 +21,5 @@ collect-coupled-requires c κs =
     let p = start .pre in
     record { below = p .below; in-range = p .in-range; enters = sym (after-is-open .is-open .ensures) ∙ not-false _ (c .before .if1 .left) }
 
-same-length : tie.Need-same-length
-same-length c =
-    let after-collect-coupled : tie.After-collect-coupled = search in
-    after-collect-coupled .collect-coupled .kept .1 .1 .1 .1 .1 .1 .0
-
-returns-2 : tie.Need-returns-2
-returns-2 c =
-    let after-collect-coupled : tie.After-collect-coupled = search in
-    after-collect-coupled .collect-coupled .ensures
-
 pub collect-leaving-spec : {M : Type 1} → statement M
-collect-leaving-spec = tie.close (tie.spec (λ c κs. search needs) returns collect-coupled-requires same-length returns-2)
+collect-leaving-spec = tie.close (tie.spec (λ c κs. search needs) returns collect-coupled-requires (λ c. search needs) (λ c. search needs))

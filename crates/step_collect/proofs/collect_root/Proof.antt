@@ -8,7 +8,7 @@ use Rattle.step_collect.specs.Collected.{leaving, rootPut}
 use denote.Ref.{now}
 use lib.ListN.{length}
 use mathlib.Core.List.{List}
-use mathlib.Core.Path.{_≡_, _∙_, refl, sym}
+use mathlib.Core.Path.{_≡_, _∙_, sym}
 use Prim.Native.Nat.{ℕ, _≤_, _-_}
 use Rattle.step_collect.proofs.collect_root.Statement.{statement}
 use Rattle.step_collect.proofs.collect_root.Tie as tie
@@ -20,9 +20,6 @@ Inv-loop phases tables flags buf₀ end₀ q₀ buf end q =
 
 abbrev μ-loop : tie.MeasureT-loop
 μ-loop phases tables flags buf₀ end₀ q₀ buf end q = 4 - q
-
-loop-holds : tie.Need-loop-holds Inv-loop μ-loop
-loop-holds c = (omega arith, refl, refl)
 
 collect-leaving-requires : tie.Need-collect-leaving-requires Inv-loop μ-loop
 collect-leaving-requires c κs =
@@ -39,13 +36,10 @@ loop-again c =
     let f : ℕ → List ℕ = λ p. leaving (now (a .phases)) (now (a .tables)) (now (a .flags)) 8 (outputNode 0 p) in
     (omega arith, m .kept .1 .1 .1 .1 .1 .0 ∙ l .inv .1, rw (m .ensures, after-root-output .root-output .ensures) (ports-more f 4 (l .q) (l .buf, l .end) (omega arith) ∙ l .inv .2))
 
-same-length : tie.Need-same-length Inv-loop μ-loop
-same-length c = c .before .loop .inv .1
-
 returns : tie.Need-returns Inv-loop μ-loop
 returns c = sym (ports-none _ 4 (c .before .loop .q) _ (omega arith)) ∙ c .before .loop .inv .2
 
 pub collect-root-spec : {M : Type 1} → statement M
 collect-root-spec =
-    tie.close (tie.spec Inv-loop μ-loop loop-holds (λ c κs. search needs) collect-leaving-requires (λ c. search needs) (λ c. search needs)
-    loop-again same-length returns)
+    tie.close (tie.spec Inv-loop μ-loop (λ c. search needs) (λ c κs. search needs) collect-leaving-requires (λ c. search needs) (λ c. search needs)
+    loop-again (λ c. search needs) returns)

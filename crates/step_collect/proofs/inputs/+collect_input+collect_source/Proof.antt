@@ -22,15 +22,15 @@ use Rattle.step_collect.proofs.inputs.+collect_input+collect_source.Lts
 use Rattle.step_collect.proofs.inputs.collect_source.Reads as collect-source
 use Rattle.step_collect.proofs.inputs.collect_source.Kinds as collect-source-kinds
 use Rattle.step_collect.proofs.inputs.+collect_input+collect_source.Lts-collect_source as collect-source-lts
-use Rattle.step_keys.proofs.put_given.Reads as put-given-reads
-use Rattle.step_collect.proofs.outputs.collect_coupled.Reads as collect-coupled-reads
-use Rattle.step_collect.proofs.first_link.Reads as first-link-reads
-use Rattle.step_collect.proofs.outputs.is_atomic.Reads as is-atomic-reads
-use Rattle.step_collect.proofs.is_open.Reads as is-open-reads
-use Rattle.step_collect.proofs.next_link.Reads as next-link-reads
-use Rattle.step_collect.proofs.port_of.Reads as port-of-reads
-use Rattle.step_collect.proofs.outputs.put_output.Reads as put-output-reads
-use Rattle.step_collect.proofs.source_of.Reads as source-of-reads
+use Rattle.step_keys.proofs.put_given.Reads as put-given
+use Rattle.step_collect.proofs.outputs.collect_coupled.Reads as collect-coupled
+use Rattle.step_collect.proofs.first_link.Reads as first-link
+use Rattle.step_collect.proofs.outputs.is_atomic.Reads as is-atomic
+use Rattle.step_collect.proofs.is_open.Reads as is-open
+use Rattle.step_collect.proofs.next_link.Reads as next-link
+use Rattle.step_collect.proofs.port_of.Reads as port-of
+use Rattle.step_collect.proofs.outputs.put_output.Reads as put-output
+use Rattle.step_collect.proofs.source_of.Reads as source-of
 use Rattle.step_collect.proofs.inputs.+collect_input+collect_source.{statement}
 use Rattle.step_collect.proofs.inputs.+collect_input+collect_source.Tie.{close}
 
@@ -62,33 +62,24 @@ abbrev collect-input-μ-loop : collect-input-lts.MeasureT-loop
 collect-input-μ-loop phases tables flags given depth port target buf₀ end next₀ left₀ link₀ buf next left link = left
 
 abbrev collect-input-calls : ℕ → collect-input-lts.Claims
-collect-input-calls t = (
-  first-link-reads.Asked,
-  first-link-reads.Learnt,
-  source-of-reads.Asked,
-  source-of-reads.Learnt,
-  collect-source-below t,
-  collect-source.Post,
-  next-link-reads.Asked,
-  next-link-reads.Learnt,
-)
+collect-input-calls t = (first-link.Asked, first-link.Learnt, source-of.Asked, source-of.Learnt, collect-source-below t, collect-source.Post, next-link.Asked, next-link.Learnt)
 
 abbrev collect-source-calls : ℕ → collect-source-lts.Claims
 collect-source-calls t = (
-  port-of-reads.Asked,
-  port-of-reads.Learnt,
-  put-given-reads.Asked,
-  put-given-reads.Learnt,
-  is-open-reads.Asked,
-  is-open-reads.Learnt,
+  port-of.Asked,
+  port-of.Learnt,
+  put-given.Asked,
+  put-given.Learnt,
+  is-open.Asked,
+  is-open.Learnt,
   collect-input-below t,
   collect-input.Post,
-  is-atomic-reads.Asked,
-  is-atomic-reads.Learnt,
-  put-output-reads.Asked,
-  put-output-reads.Learnt,
-  collect-coupled-reads.Asked,
-  collect-coupled-reads.Learnt,
+  is-atomic.Asked,
+  is-atomic.Learnt,
+  put-output.Asked,
+  put-output.Learnt,
+  collect-coupled.Asked,
+  collect-coupled.Learnt,
 )
 
 collect-input-returns : (t : ℕ) → collect-input-lts.Need-returns (collect-input-calls t) (collect-input-at t) collect-input.Post collect-input-Inv-loop collect-input-μ-loop
@@ -112,9 +103,6 @@ collect-input-loop-holds t c =
       rw (c .first-link .ensures) (ap (λ l. puts (a .port) l (now (a .buf), a .end)) all),
     )
 
-collect-input-source-of-requires : (t : ℕ) → collect-input-lts.Need-source-of-requires (collect-input-calls t) (collect-input-at t) collect-input.Post collect-input-Inv-loop collect-input-μ-loop
-collect-input-source-of-requires t c κs = c .before .loop .inv .1
-
 collect-input-collect-source-requires : (t : ℕ)
     → collect-input-lts.Need-collect-source-requires (collect-input-calls t) (collect-input-at t) collect-input.Post collect-input-Inv-loop collect-input-μ-loop
 collect-input-collect-source-requires t c κs =
@@ -123,11 +111,6 @@ collect-input-collect-source-requires t c κs =
     let r = start .pre .1 .in-range in
     let l = at-loop .loop in
     (search needs, record { below = rw (c .before .source-of .ensures) (r .sources (l .link) (l .inv .1)); in-range = r })
-
-collect-input-next-link-requires : (t : ℕ) → collect-input-lts.Need-next-link-requires (collect-input-calls t) (collect-input-at t) collect-input.Post collect-input-Inv-loop collect-input-μ-loop
-collect-input-next-link-requires t c κs =
-    let at-loop : collect-input-lts.At-loop (collect-input-calls t) (collect-input-at t) collect-input.Post collect-input-Inv-loop collect-input-μ-loop = search in
-    at-loop .loop .inv .1
 
 collect-input-sub-left : (t : ℕ) → collect-input-lts.Need-sub-left (collect-input-calls t) (collect-input-at t) collect-input.Post collect-input-Inv-loop collect-input-μ-loop
 collect-input-sub-left t c =
@@ -158,9 +141,6 @@ collect-input-loop-again t c =
       m .kept .1 .1 .1 .1 .1 .1 .1 .0 ∙ l .inv .2,
       rw (m .ensures, after-source-of .source-of .ensures, c .next-link .ensures) (more ∙ l .inv .3),
     )
-
-collect-input-same-length : (t : ℕ) → collect-input-lts.Need-same-length (collect-input-calls t) (collect-input-at t) collect-input.Post collect-input-Inv-loop collect-input-μ-loop
-collect-input-same-length t c = c .before .loop .inv .2
 
 collect-input-returns-2 : (t : ℕ) → collect-input-lts.Need-returns-2 (collect-input-calls t) (collect-input-at t) collect-input.Post collect-input-Inv-loop collect-input-μ-loop
 collect-input-returns-2 t c =
@@ -251,11 +231,10 @@ collect-source-returns-6 t c =
 pub +collect-input+collect-source-spec : {M : Type 1} → statement M
 +collect-input+collect-source-spec =
     close μ-collect-input μ-collect-source (λ t. collect-input-lts.spec (collect-input-calls t) (collect-input-at t) collect-input.Post
-    collect-input-Inv-loop collect-input-μ-loop (collect-input-returns t) (λ c κs. search needs) (collect-input-loop-holds t)
-    (collect-input-source-of-requires t) (λ c. search needs) (collect-input-collect-source-requires t) (collect-input-next-link-requires t)
-    (collect-input-sub-left t) (collect-input-loop-less t) (collect-input-loop-again t) (collect-input-same-length t) (collect-input-returns-2 t))
-    λ t. collect-source-lts.spec (collect-source-calls t) (collect-source-at t) collect-source.Post (λ c κs. search needs) (λ c κs. search needs)
-    (λ c. search needs) (collect-source-returns t) (λ c κs. search needs) (collect-source-returns-2 t)
-    (collect-source-collect-input-requires t) (λ c. search needs) (collect-source-returns-3 t) (λ c κs. search needs)
-    (λ c κs. search needs) (λ c. search needs) (collect-source-returns-4 t) (λ c κs. search needs) (collect-source-returns-5 t)
+    collect-input-Inv-loop collect-input-μ-loop (collect-input-returns t) (λ c κs. search needs) (collect-input-loop-holds t) (λ c κs. search needs)
+    (λ c. search needs) (collect-input-collect-source-requires t) (λ c κs. search needs) (collect-input-sub-left t) (collect-input-loop-less t)
+    (collect-input-loop-again t) (λ c. search needs) (collect-input-returns-2 t)) λ t. collect-source-lts.spec (collect-source-calls t)
+    (collect-source-at t) collect-source.Post (λ c κs. search needs) (λ c κs. search needs) (λ c. search needs) (collect-source-returns t)
+    (λ c κs. search needs) (collect-source-returns-2 t) (collect-source-collect-input-requires t) (λ c. search needs) (collect-source-returns-3 t)
+    (λ c κs. search needs) (λ c κs. search needs) (λ c. search needs) (collect-source-returns-4 t) (λ c κs. search needs) (collect-source-returns-5 t)
     (collect-source-collect-coupled-requires t) (λ c. search needs) (collect-source-returns-6 t)

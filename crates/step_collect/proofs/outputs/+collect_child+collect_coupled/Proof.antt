@@ -20,12 +20,12 @@ use Rattle.step_collect.proofs.outputs.+collect_child+collect_coupled.L
 use Rattle.step_collect.proofs.outputs.collect_coupled.Reads as collect-coupled
 use Rattle.step_collect.proofs.outputs.collect_coupled.Kinds as collect-coupled-kinds
 use Rattle.step_collect.proofs.outputs.+collect_child+collect_coupled.Lts-collect_coupled as collect-coupled-lts
-use Rattle.step_collect.proofs.first_link.Reads as first-link-reads
-use Rattle.step_collect.proofs.outputs.is_atomic.Reads as is-atomic-reads
-use Rattle.step_collect.proofs.is_open.Reads as is-open-reads
-use Rattle.step_collect.proofs.next_link.Reads as next-link-reads
-use Rattle.step_collect.proofs.outputs.put_output.Reads as put-output-reads
-use Rattle.step_collect.proofs.source_of.Reads as source-of-reads
+use Rattle.step_collect.proofs.first_link.Reads as first-link
+use Rattle.step_collect.proofs.outputs.is_atomic.Reads as is-atomic
+use Rattle.step_collect.proofs.is_open.Reads as is-open
+use Rattle.step_collect.proofs.next_link.Reads as next-link
+use Rattle.step_collect.proofs.outputs.put_output.Reads as put-output
+use Rattle.step_collect.proofs.source_of.Reads as source-of
 use Rattle.step_collect.proofs.outputs.+collect_child+collect_coupled.{statement}
 use Rattle.step_collect.proofs.outputs.+collect_child+collect_coupled.Tie.{close}
 
@@ -48,33 +48,10 @@ abbrev collect-coupled-below : ℕ → In 4 collect-coupled-kinds.ps
 collect-coupled-below t = and 4 collect-coupled-kinds.ps (falls 4 collect-coupled-kinds.ps _<_ μ-collect-coupled t) collect-coupled.Pre
 
 abbrev collect-child-calls : ℕ → collect-child-lts.Claims
-collect-child-calls t = (
-  is-atomic-reads.Asked,
-  is-atomic-reads.Learnt,
-  put-output-reads.Asked,
-  put-output-reads.Learnt,
-  is-open-reads.Asked,
-  is-open-reads.Learnt,
-  collect-coupled-below t,
-  collect-coupled.Post,
-)
+collect-child-calls t = (is-atomic.Asked, is-atomic.Learnt, put-output.Asked, put-output.Learnt, is-open.Asked, is-open.Learnt, collect-coupled-below t, collect-coupled.Post)
 
 abbrev collect-coupled-calls : ℕ → collect-coupled-lts.Claims
-collect-coupled-calls t = (
-  first-link-reads.Asked,
-  first-link-reads.Learnt,
-  source-of-reads.Asked,
-  source-of-reads.Learnt,
-  collect-child-below t,
-  collect-child.Post,
-  next-link-reads.Asked,
-  next-link-reads.Learnt,
-)
-
-collect-child-same-length : (t : ℕ) → collect-child-lts.Need-same-length (collect-child-calls t) (collect-child-at t) collect-child.Post
-collect-child-same-length t c =
-    let after-put-output : collect-child-lts.After-put-output (collect-child-calls t) (collect-child-at t) collect-child.Post = search in
-    after-put-output .put-output .kept .1 .1 .1 .1 .0
+collect-coupled-calls t = (first-link.Asked, first-link.Learnt, source-of.Asked, source-of.Learnt, collect-child-below t, collect-child.Post, next-link.Asked, next-link.Learnt)
 
 collect-child-returns : (t : ℕ) → collect-child-lts.Need-returns (collect-child-calls t) (collect-child-at t) collect-child.Post
 unfolding childOut
@@ -103,11 +80,6 @@ collect-child-collect-coupled-requires t c κs =
     let p = start .pre .1 in
     let entered = sym (after-is-open .is-open .ensures) ∙ not-false _ (c .before .if2 .left) in
     (search needs, record { below = p .below; in-range = p .in-range; enters = entered })
-
-collect-child-same-length-2 : (t : ℕ) → collect-child-lts.Need-same-length-2 (collect-child-calls t) (collect-child-at t) collect-child.Post
-collect-child-same-length-2 t c =
-    let after-collect-coupled : collect-child-lts.After-collect-coupled (collect-child-calls t) (collect-child-at t) collect-child.Post = search in
-    after-collect-coupled .collect-coupled .kept .1 .1 .1 .1 .1 .1 .0
 
 collect-child-returns-3 : (t : ℕ) → collect-child-lts.Need-returns-3 (collect-child-calls t) (collect-child-at t) collect-child.Post
 unfolding childOut
@@ -142,10 +114,6 @@ collect-coupled-loop-holds t c =
       rw (c .first-link .ensures) (ap (λ l. puts (a .port) l (now (a .buf), a .end)) all),
     )
 
-collect-coupled-source-of-requires : (t : ℕ)
-    → collect-coupled-lts.Need-source-of-requires (collect-coupled-calls t) (collect-coupled-at t) collect-coupled.Post collect-coupled-Inv-loop collect-coupled-μ-loop
-collect-coupled-source-of-requires t c κs = c .before .loop .inv .1
-
 collect-coupled-collect-child-requires : (t : ℕ)
     → collect-coupled-lts.Need-collect-child-requires (collect-coupled-calls t) (collect-coupled-at t) collect-coupled.Post collect-coupled-Inv-loop collect-coupled-μ-loop
 collect-coupled-collect-child-requires t c κs =
@@ -154,12 +122,6 @@ collect-coupled-collect-child-requires t c κs =
     let r = start .pre .1 .in-range in
     let l = at-loop .loop in
     (search needs, record { below = rw (c .before .source-of .ensures) (r .sources (l .link) (l .inv .1)); in-range = r })
-
-collect-coupled-next-link-requires : (t : ℕ)
-    → collect-coupled-lts.Need-next-link-requires (collect-coupled-calls t) (collect-coupled-at t) collect-coupled.Post collect-coupled-Inv-loop collect-coupled-μ-loop
-collect-coupled-next-link-requires t c κs =
-    let at-loop : collect-coupled-lts.At-loop (collect-coupled-calls t) (collect-coupled-at t) collect-coupled.Post collect-coupled-Inv-loop collect-coupled-μ-loop = search in
-    at-loop .loop .inv .1
 
 collect-coupled-sub-left : (t : ℕ) → collect-coupled-lts.Need-sub-left (collect-coupled-calls t) (collect-coupled-at t) collect-coupled.Post collect-coupled-Inv-loop collect-coupled-μ-loop
 collect-coupled-sub-left t c =
@@ -191,9 +153,6 @@ collect-coupled-loop-again t c =
       rw (m .ensures, after-source-of .source-of .ensures, c .next-link .ensures) (more ∙ l .inv .3),
     )
 
-collect-coupled-same-length : (t : ℕ) → collect-coupled-lts.Need-same-length (collect-coupled-calls t) (collect-coupled-at t) collect-coupled.Post collect-coupled-Inv-loop collect-coupled-μ-loop
-collect-coupled-same-length t c = c .before .loop .inv .2
-
 collect-coupled-returns-2 : (t : ℕ) → collect-coupled-lts.Need-returns-2 (collect-coupled-calls t) (collect-coupled-at t) collect-coupled.Post collect-coupled-Inv-loop collect-coupled-μ-loop
 collect-coupled-returns-2 t c =
     let start : collect-coupled-lts.Start (collect-coupled-calls t) (collect-coupled-at t) collect-coupled.Post collect-coupled-Inv-loop collect-coupled-μ-loop = search in
@@ -205,10 +164,8 @@ collect-coupled-returns-2 t c =
 pub +collect-child+collect-coupled-spec : {M : Type 1} → statement M
 +collect-child+collect-coupled-spec =
     close μ-collect-child μ-collect-coupled (λ t. collect-child-lts.spec (collect-child-calls t) (collect-child-at t) collect-child.Post
-    (λ c κs. search needs) (λ c κs. search needs) (collect-child-same-length t) (collect-child-returns t) (λ c κs. search needs)
-    (collect-child-returns-2 t) (collect-child-collect-coupled-requires t) (collect-child-same-length-2 t) (collect-child-returns-3 t))
-    λ t. collect-coupled-lts.spec (collect-coupled-calls t) (collect-coupled-at t) collect-coupled.Post collect-coupled-Inv-loop
-    collect-coupled-μ-loop (collect-coupled-returns t) (λ c κs. search needs) (collect-coupled-loop-holds t)
-    (collect-coupled-source-of-requires t) (λ c. search needs) (collect-coupled-collect-child-requires t) (collect-coupled-next-link-requires t)
-    (collect-coupled-sub-left t) (collect-coupled-loop-less t) (collect-coupled-loop-again t) (collect-coupled-same-length t)
-    (collect-coupled-returns-2 t)
+    (λ c κs. search needs) (λ c κs. search needs) (λ c. search needs) (collect-child-returns t) (λ c κs. search needs) (collect-child-returns-2 t)
+    (collect-child-collect-coupled-requires t) (λ c. search needs) (collect-child-returns-3 t)) λ t. collect-coupled-lts.spec
+    (collect-coupled-calls t) (collect-coupled-at t) collect-coupled.Post collect-coupled-Inv-loop collect-coupled-μ-loop (collect-coupled-returns t) (λ c κs. search needs)
+    (collect-coupled-loop-holds t) (λ c κs. search needs) (λ c. search needs) (collect-coupled-collect-child-requires t) (λ c κs. search needs)
+    (collect-coupled-sub-left t) (collect-coupled-loop-less t) (collect-coupled-loop-again t) (λ c. search needs) (collect-coupled-returns-2 t)

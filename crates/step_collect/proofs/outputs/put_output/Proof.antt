@@ -6,11 +6,6 @@ use Rattle.step_keys.specs.Sent.{sentOn}
 use Rattle.step_collect.proofs.outputs.put_output.Statement.{statement}
 use Rattle.step_collect.proofs.outputs.put_output.Tie as tie
 
-same-length : tie.Need-same-length
-same-length c =
-    let after-put-sent : tie.After-put-sent = search in
-    after-put-sent .put-sent .kept .1 .1 .1 .1 .0
-
 returns : tie.Need-returns
 unfolding sentBy sentOn nodeComponent
 returns c =
@@ -20,4 +15,4 @@ returns c =
 
 pub put-output-spec : {M : Type 1} → statement M
 put-output-spec =
-    tie.close (tie.spec (λ c κs. search needs) (λ c κs. search needs) (λ c κs. search needs) (λ c κs. search needs) same-length returns)
+    tie.close (tie.spec (λ c κs. search needs) (λ c κs. search needs) (λ c κs. search needs) (λ c κs. search needs) (λ c. search needs) returns)
