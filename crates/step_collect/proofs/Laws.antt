@@ -1,12 +1,12 @@
 -- Laws of pulling, as the two recursions meet them: one coupling more of a chain, and a node that is open, shut, or the root's.
 -- Assumes nothing.
-use mathlib.Core.Path.{_≡_, refl, sym, _∙_}
+use mathlib.Core.Path.{_≡_, refl, sym, _∙_, ap}
 use mathlib.Core.List.{List, [], map}
 use mathlib.Core.Bool.{Bool, true, false, _&&_, not, true≢false, and-false}
 use Prim.Native.Nat.{ℕ, zero, suc, _+_, _-_, _*_, _/_, _%_, _≤_, _<_}
 use native.Mathlib.Omega.{arith}
 use lib.Dec.{ltb, eqb}
-use lib.ListN.{getD}
+use lib.ListN.{getD, length}
 use borrow.Author.Tests.{ltb-true, ltb-false, lt-ltb, le-ltb, eqb-false, ne-eqb, eq-eqb}
 use Rattle.definition.specs.Limits.{maxComponents, maxCouplings, portCount}
 use Rattle.definition.specs.Bytes.{Bytes}
@@ -14,7 +14,7 @@ use Rattle.definition.specs.Engine.{toBag}
 use Rattle.spec_step.specs.Pull.{joined, coupledOut, inputIn}
 use Rattle.spec_step.specs.Put.{valuesOn, puts, putPorts}
 use Rattle.spec_step.specs.Tables.{sourceAt, nextAt, firstAt, liveAt, links, chainRows, portNodes, inputNode, outputNode, nodeComponent, nodePort, isRootNode, isOutput}
-use Rattle.spec_step.specs.Ranges.{maxNodes}
+use Rattle.spec_step.specs.Ranges.{maxNodes, InRange}
 use Rattle.spec_step.specs.TableStep.{isUp, mayCome, isOpen, openRows, givenBy}
 use Rattle.spec_step.specs.Flags.{reachedIn}
 use Rattle.step_keys.proofs.Laws.{puts-append, puts-none}
@@ -39,8 +39,10 @@ both-left a b h = go (ltb 0 a) refl (ltb 0 b) refl h
     go true e false f k = absurd (true≢false (sym k))
     go false e y f k = absurd (true≢false (sym k))
 
--- one coupling more
-pub chain-more : (F : ℕ → List ℕ) (t : List ℕ) (port left link : ℕ) (st : List ℕ × ℕ) → (ltb 0 left && ltb 0 link) ≡ true
+pub some-left : (a b : ℕ) → (ltb 0 a && ltb 0 b) ≡ true → 0 < a
+some-left a b h = both-left a b h .0
+
+chain-more : (F : ℕ → List ℕ) (t : List ℕ) (port left link : ℕ) (st : List ℕ × ℕ) → (ltb 0 left && ltb 0 link) ≡ true
     → puts port (joined F (rowsFrom t (left - 1) (getD t (nextAt + link) 0))) (puts port (F (getD t (sourceAt + link) 0)) st)
     ≡ puts port (joined F (rowsFrom t left link)) st
 unfolding joined links
@@ -49,7 +51,7 @@ chain-more F t port (suc n) link st h =
     let e : suc n - 1 ≡ n = omega arith in
     rw (e, ne-eqb link 0 (λ z. omega (arith, both-left (suc n) link h .1)), puts-append)
 
-pub chain-end : (F : ℕ → List ℕ) (t : List ℕ) (port left link : ℕ) (st : List ℕ × ℕ) → (ltb 0 left && ltb 0 link) ≡ false
+chain-end : (F : ℕ → List ℕ) (t : List ℕ) (port left link : ℕ) (st : List ℕ × ℕ) → (ltb 0 left && ltb 0 link) ≡ false
     → puts port (joined F (rowsFrom t left link)) st ≡ st
 unfolding joined links
 chain-end F t port zero link st h = puts-none port st
@@ -59,6 +61,38 @@ chain-end F t port (suc n) link st h = go (ltb 0 link) refl h
         → puts port (joined F (rowsFrom t (suc n) link)) st ≡ st
     go true e k = absurd (true≢false (sym (rw (lt-ltb 0 (suc n) (omega arith))) ∙ k))
     go false e k = rw (eq-eqb link 0 (omega (arith, ltb-false 0 link e))) (puts-none port st)
+
+-- A turn of the loop over a node's couplings: what is put so far and what the rest of the chain gives is the whole.
+pub record Turn (F : ℕ → List ℕ) (t : List ℕ) (port : ℕ) (first : List ℕ) (whole : List ℕ × ℕ) (buf : List ℕ) (next left link : ℕ) : Type 0 where
+  pub left-most : left ≤ maxCouplings
+  pub link-most : link ≤ maxCouplings
+  pub same-size : length buf ≡ length first
+  pub rest : puts port (joined F (rowsFrom t left link)) (buf, next) ≡ whole
+
+pub turn-first : {F : ℕ → List ℕ} {t : List ℕ} {all buf : List ℕ} {port end link : ℕ} (x : ℕ) → InRange t → x < maxNodes
+    → joined F (rowsFrom t maxCouplings (getD t (firstAt + x) 0)) ≡ all → link ≡ getD t (firstAt + x) 0
+    → Turn F t port buf (puts port all (buf, end)) buf end maxCouplings link
+turn-first {all = all} {buf = buf} {port = port} {end = end} x r h k e = record {
+  left-most = omega arith;
+  link-most = rw e (r .firsts x h);
+  same-size = refl;
+  rest = rw e (ap (λ l. puts port l (buf, end)) k);
+}
+
+module _ {F : ℕ → List ℕ} {t first buf : List ℕ} {whole : List ℕ × ℕ} {port next left link : ℕ} (turn : Turn F t port first whole buf next left link) where
+  -- one coupling more
+  pub turn-more : {buf' : List ℕ} {next' source link' : ℕ} → InRange t → (ltb 0 left && ltb 0 link) ≡ true → length buf' ≡ length buf
+      → (buf', next') ≡ puts port (F source) (buf, next) → source ≡ getD t (sourceAt + link) 0 → link' ≡ getD t (nextAt + link) 0
+      → Turn F t port first whole buf' next' (left - 1) link'
+  turn-more r h size put from to = record {
+    left-most = omega (arith, turn .left-most);
+    link-most = rw to (r .nexts link (turn .link-most));
+    same-size = size ∙ turn .same-size;
+    rest = rw (put, from, to) (chain-more F t port left link (buf, next) h ∙ turn .rest);
+  }
+
+  pub turn-end : (ltb 0 left && ltb 0 link) ≡ false → (buf, next) ≡ whole
+  turn-end h = sym (chain-end F t port left link (buf, next) h) ∙ turn .rest
 
 -- ---- open and shut
 

@@ -2,18 +2,16 @@
 -- level further up. The measures are twice the depth, and one more for the source.
 use borrow.Author.Needs.{needs}
 use native.Mathlib.Omega.{arith}
-use Prim.Native.Nat.{_≤_, _+_, _-_, _*_, ℕ, _<_}
-use mathlib.Core.Path.{_≡_, _∙_, refl, sym, ap}
+use Prim.Native.Nat.{_+_, _-_, _*_, ℕ, _<_}
+use mathlib.Core.Path.{_≡_, _∙_, sym}
 use mathlib.Core.Bool.{true, false}
-use lib.ListN.{length}
 use denote.Ref.{now}
 use borrow.Author.Tests.{lt-ltb, le-ltb, not-true, not-false}
 use Rattle.spec_step.specs.Tables.{isRootNode, isOutput}
 use Rattle.spec_step.specs.Put.{puts}
-use Rattle.spec_step.specs.Pull.{joined, childOut, sourceIn}
-use Rattle.definition.specs.Limits.{maxCouplings}
+use Rattle.spec_step.specs.Pull.{childOut, sourceIn}
 use Rattle.step_collect.specs.Collected.{arriving, arrivingFrom}
-use Rattle.step_collect.proofs.Laws.{rowsFrom, both-left, chain-more, chain-end, input-root, input-none, input-open, input-shut, coupled-shut}
+use Rattle.step_collect.proofs.Laws.{Turn, some-left, turn-first, turn-more, turn-end, input-root, input-none, input-open, input-shut, coupled-shut}
 use borrow.Fn.Kinds.{In}
 use borrow.Fn.PlainCycle.{Measures, is, falls, and}
 use Rattle.step_collect.proofs.inputs.collect_input.Reads as collect-input
@@ -54,9 +52,7 @@ collect-source-below t = and 5 collect-source-kinds.ps (falls 5 collect-source-k
 
 abbrev collect-input-Inv-loop : collect-input-lts.InvT-loop
 collect-input-Inv-loop phases tables flags given depth port target buf₀ end next₀ left₀ link₀ buf next left link =
-    (left ≤ 1024) × (link ≤ maxCouplings) × (length buf ≡ length buf₀) ×
-    (puts port (joined (arrivingFrom phases tables flags given (depth - 1)) (rowsFrom tables left link)) (buf, next) ≡
-    puts port (arriving phases tables flags given depth target) (buf₀, end))
+    Turn (arrivingFrom phases tables flags given (depth - 1)) tables port buf₀ (puts port (arriving phases tables flags given depth target) (buf₀, end)) buf next left link
 
 abbrev collect-input-μ-loop : collect-input-lts.MeasureT-loop
 collect-input-μ-loop phases tables flags given depth port target buf₀ end next₀ left₀ link₀ buf next left link = left
@@ -96,12 +92,8 @@ collect-input-loop-holds t c =
     let a = start .args in
     let p = start .pre .1 in
     let r : isRootNode (a .target) ≡ false = unfold isRootNode in le-ltb _ _ (p .not-root) in
-    let all = input-open (now (a .phases)) (now (a .tables)) (now (a .flags)) (now (a .given)) (a .depth) (a .target) r (omega arith) (p .enters) in (
-      omega arith,
-      rw (c .first-link .ensures) (p .in-range .firsts (a .target) (p .below)),
-      refl,
-      rw (c .first-link .ensures) (ap (λ l. puts (a .port) l (now (a .buf), a .end)) all),
-    )
+    let all = input-open (now (a .phases)) (now (a .tables)) (now (a .flags)) (now (a .given)) (a .depth) (a .target) r (omega arith) (p .enters) in
+    turn-first (a .target) (p .in-range) (p .below) all (c .first-link .ensures)
 
 collect-input-collect-source-requires : (t : ℕ)
     → collect-input-lts.Need-collect-source-requires (collect-input-calls t) (collect-input-at t) collect-input.Post collect-input-Inv-loop collect-input-μ-loop
@@ -110,19 +102,7 @@ collect-input-collect-source-requires t c κs =
     let at-loop : collect-input-lts.At-loop (collect-input-calls t) (collect-input-at t) collect-input.Post collect-input-Inv-loop collect-input-μ-loop = search in
     let r = start .pre .1 .in-range in
     let l = at-loop .loop in
-    (search needs, record { below = rw (c .before .source-of .ensures) (r .sources (l .link) (l .inv .1)); in-range = r })
-
-collect-input-sub-left : (t : ℕ) → collect-input-lts.Need-sub-left (collect-input-calls t) (collect-input-at t) collect-input.Post collect-input-Inv-loop collect-input-μ-loop
-collect-input-sub-left t c =
-    let in-loop : collect-input-lts.In-loop (collect-input-calls t) (collect-input-at t) collect-input.Post collect-input-Inv-loop collect-input-μ-loop = search in
-    let at-loop : collect-input-lts.At-loop (collect-input-calls t) (collect-input-at t) collect-input.Post collect-input-Inv-loop collect-input-μ-loop = search in
-    omega (arith, both-left (at-loop .loop .left) (at-loop .loop .link) (in-loop .loop-test .taken) .0)
-
-collect-input-loop-less : (t : ℕ) → collect-input-lts.Need-loop-less (collect-input-calls t) (collect-input-at t) collect-input.Post collect-input-Inv-loop collect-input-μ-loop
-collect-input-loop-less t c =
-    let in-loop : collect-input-lts.In-loop (collect-input-calls t) (collect-input-at t) collect-input.Post collect-input-Inv-loop collect-input-μ-loop = search in
-    let at-loop : collect-input-lts.At-loop (collect-input-calls t) (collect-input-at t) collect-input.Post collect-input-Inv-loop collect-input-μ-loop = search in
-    omega (arith, both-left (at-loop .loop .left) (at-loop .loop .link) (in-loop .loop-test .taken) .0)
+    (search needs, record { below = rw (c .before .source-of .ensures) (r .sources (l .link) (l .inv .link-most)); in-range = r })
 
 collect-input-loop-again : (t : ℕ) → collect-input-lts.Need-loop-again (collect-input-calls t) (collect-input-at t) collect-input.Post collect-input-Inv-loop collect-input-μ-loop
 collect-input-loop-again t c =
@@ -131,24 +111,8 @@ collect-input-loop-again t c =
     let after-source-of : collect-input-lts.After-source-of (collect-input-calls t) (collect-input-at t) collect-input.Post collect-input-Inv-loop collect-input-μ-loop = search in
     let in-loop : collect-input-lts.In-loop (collect-input-calls t) (collect-input-at t) collect-input.Post collect-input-Inv-loop collect-input-μ-loop = search in
     let at-loop : collect-input-lts.At-loop (collect-input-calls t) (collect-input-at t) collect-input.Post collect-input-Inv-loop collect-input-μ-loop = search in
-    let a = start .args in
-    let l = at-loop .loop in
-    let m = after-collect-source .collect-source in
-    let f = arrivingFrom (now (a .phases)) (now (a .tables)) (now (a .flags)) (now (a .given)) (a .depth - 1) in
-    let more = chain-more f (now (a .tables)) (a .port) (l .left) (l .link) (l .buf, l .next) (in-loop .loop-test .taken) in (
-      omega arith,
-      rw (c .next-link .ensures) (start .pre .1 .in-range .nexts (l .link) (l .inv .1)),
-      m .kept .1 .1 .1 .1 .1 .1 .1 .0 ∙ l .inv .2,
-      rw (m .ensures, after-source-of .source-of .ensures, c .next-link .ensures) (more ∙ l .inv .3),
-    )
-
-collect-input-returns-2 : (t : ℕ) → collect-input-lts.Need-returns-2 (collect-input-calls t) (collect-input-at t) collect-input.Post collect-input-Inv-loop collect-input-μ-loop
-collect-input-returns-2 t c =
-    let start : collect-input-lts.Start (collect-input-calls t) (collect-input-at t) collect-input.Post collect-input-Inv-loop collect-input-μ-loop = search in
-    let a = start .args in
-    let l = c .before .loop in
-    let f = arrivingFrom (now (a .phases)) (now (a .tables)) (now (a .flags)) (now (a .given)) (a .depth - 1) in
-    sym (chain-end f (now (a .tables)) (a .port) (l .left) (l .link) (l .buf, l .next) (c .loop-test .left)) ∙ l .inv .3
+    turn-more (at-loop .loop .inv) (start .pre .1 .in-range) (in-loop .loop-test .taken) (after-collect-source .collect-source .kept .1 .1 .1 .1 .1 .1 .1 .0)
+    (after-collect-source .collect-source .ensures) (after-source-of .source-of .ensures) (c .next-link .ensures)
 
 collect-source-returns : (t : ℕ) → collect-source-lts.Need-returns (collect-source-calls t) (collect-source-at t) collect-source.Post
 unfolding sourceIn isOutput
@@ -193,12 +157,10 @@ collect-source-returns-3 t c =
 collect-source-returns-4 : (t : ℕ) → collect-source-lts.Need-returns-4 (collect-source-calls t) (collect-source-at t) collect-source.Post
 unfolding sourceIn isOutput childOut
 collect-source-returns-4 t c =
-    let start : collect-source-lts.Start (collect-source-calls t) (collect-source-at t) collect-source.Post = search in
     let after-put-output : collect-source-lts.After-put-output (collect-source-calls t) (collect-source-at t) collect-source.Post = search in
     let then4 : collect-source-lts.Then4 (collect-source-calls t) (collect-source-at t) collect-source.Post = search in
     let after-is-atomic : collect-source-lts.After-is-atomic (collect-source-calls t) (collect-source-at t) collect-source.Post = search in
     let else1 : collect-source-lts.Else1 (collect-source-calls t) (collect-source-at t) collect-source.Post = search in
-    let a = start .args in
     rw (le-ltb _ _ (else1 .if1 .left), sym (after-is-atomic .is-atomic .ensures) ∙ then4 .if4 .taken) (after-put-output .put-output .ensures)
 
 collect-source-returns-5 : (t : ℕ) → collect-source-lts.Need-returns-5 (collect-source-calls t) (collect-source-at t) collect-source.Post
@@ -232,8 +194,8 @@ pub +collect-input+collect-source-spec : {M : Type 1} → statement M
 +collect-input+collect-source-spec =
     close μ-collect-input μ-collect-source (λ t. collect-input-lts.spec (collect-input-calls t) (collect-input-at t) collect-input.Post
     collect-input-Inv-loop collect-input-μ-loop (collect-input-returns t) (λ c κs. search needs) (collect-input-loop-holds t) (λ c κs. search needs)
-    (λ c. search needs) (collect-input-collect-source-requires t) (λ c κs. search needs) (collect-input-sub-left t) (collect-input-loop-less t)
-    (collect-input-loop-again t) (λ c. search needs) (collect-input-returns-2 t)) λ t. collect-source-lts.spec (collect-source-calls t)
+    (λ c. search needs) (collect-input-collect-source-requires t) (λ c κs. search needs) (λ c. omega (arith, some-left)) (λ c. omega (arith, some-left))
+    (collect-input-loop-again t) (λ c. search needs) (λ c. turn-end (c .before .loop .inv) (c .loop-test .left))) λ t. collect-source-lts.spec (collect-source-calls t)
     (collect-source-at t) collect-source.Post (λ c κs. search needs) (λ c κs. search needs) (λ c. search needs) (collect-source-returns t)
     (λ c κs. search needs) (collect-source-returns-2 t) (collect-source-collect-input-requires t) (λ c. search needs) (collect-source-returns-3 t)
     (λ c κs. search needs) (λ c κs. search needs) (λ c. search needs) (collect-source-returns-4 t) (λ c κs. search needs) (collect-source-returns-5 t)

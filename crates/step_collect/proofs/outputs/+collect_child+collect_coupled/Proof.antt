@@ -2,16 +2,14 @@
 -- child, one level further down. The measures are twice the depth, and one more for the child.
 use borrow.Author.Needs.{needs}
 use native.Mathlib.Omega.{arith}
-use Prim.Native.Nat.{_≤_, _+_, _-_, _*_, ℕ, _<_}
-use mathlib.Core.Path.{_≡_, _∙_, refl, sym, ap}
-use lib.ListN.{length}
+use Prim.Native.Nat.{_+_, _-_, _*_, ℕ, _<_}
+use mathlib.Core.Path.{_∙_, sym}
 use denote.Ref.{now}
 use borrow.Author.Tests.{not-true, not-false}
 use Rattle.spec_step.specs.Put.{puts}
-use Rattle.spec_step.specs.Pull.{joined, childOut, coupledOut}
-use Rattle.definition.specs.Limits.{maxCouplings}
+use Rattle.spec_step.specs.Pull.{childOut, coupledOut}
 use Rattle.step_collect.specs.Collected.{leaving, leavingChild}
-use Rattle.step_collect.proofs.Laws.{rowsFrom, both-left, chain-more, chain-end, coupled-open, coupled-shut}
+use Rattle.step_collect.proofs.Laws.{Turn, some-left, turn-first, turn-more, turn-end, coupled-open, coupled-shut}
 use borrow.Fn.Kinds.{In}
 use borrow.Fn.PlainCycle.{Measures, is, falls, and}
 use Rattle.step_collect.proofs.outputs.collect_child.Reads as collect-child
@@ -56,11 +54,9 @@ collect-coupled-calls t = (first-link.Asked, first-link.Learnt, source-of.Asked,
 collect-child-returns : (t : ℕ) → collect-child-lts.Need-returns (collect-child-calls t) (collect-child-at t) collect-child.Post
 unfolding childOut
 collect-child-returns t c =
-    let start : collect-child-lts.Start (collect-child-calls t) (collect-child-at t) collect-child.Post = search in
     let after-put-output : collect-child-lts.After-put-output (collect-child-calls t) (collect-child-at t) collect-child.Post = search in
     let then1 : collect-child-lts.Then1 (collect-child-calls t) (collect-child-at t) collect-child.Post = search in
     let after-is-atomic : collect-child-lts.After-is-atomic (collect-child-calls t) (collect-child-at t) collect-child.Post = search in
-    let a = start .args in
     rw (sym (after-is-atomic .is-atomic .ensures) ∙ then1 .if1 .taken) (after-put-output .put-output .ensures)
 
 collect-child-returns-2 : (t : ℕ) → collect-child-lts.Need-returns-2 (collect-child-calls t) (collect-child-at t) collect-child.Post
@@ -91,9 +87,7 @@ collect-child-returns-3 t c =
 
 abbrev collect-coupled-Inv-loop : collect-coupled-lts.InvT-loop
 collect-coupled-Inv-loop phases tables flags depth port target buf₀ end next₀ left₀ link₀ buf next left link =
-    (left ≤ 1024) × (link ≤ maxCouplings) × (length buf ≡ length buf₀) ×
-    (puts port (joined (leavingChild phases tables flags (depth - 1)) (rowsFrom tables left link)) (buf, next) ≡
-    puts port (leaving phases tables flags depth target) (buf₀, end))
+    Turn (leavingChild phases tables flags (depth - 1)) tables port buf₀ (puts port (leaving phases tables flags depth target) (buf₀, end)) buf next left link
 
 abbrev collect-coupled-μ-loop : collect-coupled-lts.MeasureT-loop
 collect-coupled-μ-loop phases tables flags depth port target buf₀ end next₀ left₀ link₀ buf next left link = left
@@ -107,12 +101,8 @@ collect-coupled-loop-holds t c =
     let start : collect-coupled-lts.Start (collect-coupled-calls t) (collect-coupled-at t) collect-coupled.Post collect-coupled-Inv-loop collect-coupled-μ-loop = search in
     let a = start .args in
     let p = start .pre .1 in
-    let all = coupled-open (now (a .phases)) (now (a .tables)) (now (a .flags)) (a .depth) (a .target) (omega arith) (p .enters) in (
-      omega arith,
-      rw (c .first-link .ensures) (p .in-range .firsts (a .target) (p .below)),
-      refl,
-      rw (c .first-link .ensures) (ap (λ l. puts (a .port) l (now (a .buf), a .end)) all),
-    )
+    let all = coupled-open (now (a .phases)) (now (a .tables)) (now (a .flags)) (a .depth) (a .target) (omega arith) (p .enters) in
+    turn-first (a .target) (p .in-range) (p .below) all (c .first-link .ensures)
 
 collect-coupled-collect-child-requires : (t : ℕ)
     → collect-coupled-lts.Need-collect-child-requires (collect-coupled-calls t) (collect-coupled-at t) collect-coupled.Post collect-coupled-Inv-loop collect-coupled-μ-loop
@@ -121,19 +111,7 @@ collect-coupled-collect-child-requires t c κs =
     let at-loop : collect-coupled-lts.At-loop (collect-coupled-calls t) (collect-coupled-at t) collect-coupled.Post collect-coupled-Inv-loop collect-coupled-μ-loop = search in
     let r = start .pre .1 .in-range in
     let l = at-loop .loop in
-    (search needs, record { below = rw (c .before .source-of .ensures) (r .sources (l .link) (l .inv .1)); in-range = r })
-
-collect-coupled-sub-left : (t : ℕ) → collect-coupled-lts.Need-sub-left (collect-coupled-calls t) (collect-coupled-at t) collect-coupled.Post collect-coupled-Inv-loop collect-coupled-μ-loop
-collect-coupled-sub-left t c =
-    let in-loop : collect-coupled-lts.In-loop (collect-coupled-calls t) (collect-coupled-at t) collect-coupled.Post collect-coupled-Inv-loop collect-coupled-μ-loop = search in
-    let at-loop : collect-coupled-lts.At-loop (collect-coupled-calls t) (collect-coupled-at t) collect-coupled.Post collect-coupled-Inv-loop collect-coupled-μ-loop = search in
-    omega (arith, both-left (at-loop .loop .left) (at-loop .loop .link) (in-loop .loop-test .taken) .0)
-
-collect-coupled-loop-less : (t : ℕ) → collect-coupled-lts.Need-loop-less (collect-coupled-calls t) (collect-coupled-at t) collect-coupled.Post collect-coupled-Inv-loop collect-coupled-μ-loop
-collect-coupled-loop-less t c =
-    let in-loop : collect-coupled-lts.In-loop (collect-coupled-calls t) (collect-coupled-at t) collect-coupled.Post collect-coupled-Inv-loop collect-coupled-μ-loop = search in
-    let at-loop : collect-coupled-lts.At-loop (collect-coupled-calls t) (collect-coupled-at t) collect-coupled.Post collect-coupled-Inv-loop collect-coupled-μ-loop = search in
-    omega (arith, both-left (at-loop .loop .left) (at-loop .loop .link) (in-loop .loop-test .taken) .0)
+    (search needs, record { below = rw (c .before .source-of .ensures) (r .sources (l .link) (l .inv .link-most)); in-range = r })
 
 collect-coupled-loop-again : (t : ℕ) → collect-coupled-lts.Need-loop-again (collect-coupled-calls t) (collect-coupled-at t) collect-coupled.Post collect-coupled-Inv-loop collect-coupled-μ-loop
 collect-coupled-loop-again t c =
@@ -142,24 +120,8 @@ collect-coupled-loop-again t c =
     let after-source-of : collect-coupled-lts.After-source-of (collect-coupled-calls t) (collect-coupled-at t) collect-coupled.Post collect-coupled-Inv-loop collect-coupled-μ-loop = search in
     let in-loop : collect-coupled-lts.In-loop (collect-coupled-calls t) (collect-coupled-at t) collect-coupled.Post collect-coupled-Inv-loop collect-coupled-μ-loop = search in
     let at-loop : collect-coupled-lts.At-loop (collect-coupled-calls t) (collect-coupled-at t) collect-coupled.Post collect-coupled-Inv-loop collect-coupled-μ-loop = search in
-    let a = start .args in
-    let l = at-loop .loop in
-    let m = after-collect-child .collect-child in
-    let f = leavingChild (now (a .phases)) (now (a .tables)) (now (a .flags)) (a .depth - 1) in
-    let more = chain-more f (now (a .tables)) (a .port) (l .left) (l .link) (l .buf, l .next) (in-loop .loop-test .taken) in (
-      omega arith,
-      rw (c .next-link .ensures) (start .pre .1 .in-range .nexts (l .link) (l .inv .1)),
-      m .kept .1 .1 .1 .1 .1 .1 .0 ∙ l .inv .2,
-      rw (m .ensures, after-source-of .source-of .ensures, c .next-link .ensures) (more ∙ l .inv .3),
-    )
-
-collect-coupled-returns-2 : (t : ℕ) → collect-coupled-lts.Need-returns-2 (collect-coupled-calls t) (collect-coupled-at t) collect-coupled.Post collect-coupled-Inv-loop collect-coupled-μ-loop
-collect-coupled-returns-2 t c =
-    let start : collect-coupled-lts.Start (collect-coupled-calls t) (collect-coupled-at t) collect-coupled.Post collect-coupled-Inv-loop collect-coupled-μ-loop = search in
-    let a = start .args in
-    let l = c .before .loop in
-    let f = leavingChild (now (a .phases)) (now (a .tables)) (now (a .flags)) (a .depth - 1) in
-    sym (chain-end f (now (a .tables)) (a .port) (l .left) (l .link) (l .buf, l .next) (c .loop-test .left)) ∙ l .inv .3
+    turn-more (at-loop .loop .inv) (start .pre .1 .in-range) (in-loop .loop-test .taken) (after-collect-child .collect-child .kept .1 .1 .1 .1 .1 .1 .0)
+    (after-collect-child .collect-child .ensures) (after-source-of .source-of .ensures) (c .next-link .ensures)
 
 pub +collect-child+collect-coupled-spec : {M : Type 1} → statement M
 +collect-child+collect-coupled-spec =
@@ -168,4 +130,4 @@ pub +collect-child+collect-coupled-spec : {M : Type 1} → statement M
     (collect-child-collect-coupled-requires t) (λ c. search needs) (collect-child-returns-3 t)) λ t. collect-coupled-lts.spec
     (collect-coupled-calls t) (collect-coupled-at t) collect-coupled.Post collect-coupled-Inv-loop collect-coupled-μ-loop (collect-coupled-returns t) (λ c κs. search needs)
     (collect-coupled-loop-holds t) (λ c κs. search needs) (λ c. search needs) (collect-coupled-collect-child-requires t) (λ c κs. search needs)
-    (collect-coupled-sub-left t) (collect-coupled-loop-less t) (collect-coupled-loop-again t) (λ c. search needs) (collect-coupled-returns-2 t)
+    (λ c. omega (arith, some-left)) (λ c. omega (arith, some-left)) (collect-coupled-loop-again t) (λ c. search needs) (λ c. turn-end (c .before .loop .inv) (c .loop-test .left))
