@@ -2,7 +2,7 @@
 use mathlib.Core.Path.{_≡_, refl, sym, _∙_}
 use mathlib.Core.List.{List, [], _∷_, _++_}
 use mathlib.Core.Bool.{Bool, true, false, cond}
-use Prim.Native.Nat.{ℕ, zero, suc, _+_, _-_, _*_, _/_, _≤_, _<_, min}
+use Prim.Native.Nat.{ℕ, zero, suc, _+_, _*_, _/_, _≤_, _<_, min}
 use native.Mathlib.Omega.{arith}
 use native.Mathlib.Nat.{add-zero}
 use native.Mathlib.Numerals.{add-one}
@@ -40,15 +40,33 @@ values-one q x xs = go (eqb q (x .port))
     go true = refl
     go false = refl
 
-module _ (xs : Bag) (q port i : ℕ) (st : List ℕ × ℕ) where
-  -- one message more
-  bag-more : (x : Message) → i < length xs → getD xs i noMessage ≡ x
-      → puts port (valuesOn q (drop (i + 1) xs)) (puts port (wantedValue (eqb q (x .port)) (x .value)) st) ≡ puts port (valuesOn q (drop i xs)) st
-  bag-more x h e = rw (add-one i, drop-cons xs i noMessage h, e, values-one, puts-append)
+-- A turn of the loop over a bag's messages, at most so many: what is put so far and those from i on are the whole.
+pub record Turn (top : ℕ) (xs : Bag) (q port : ℕ) (first : List ℕ) (at : ℕ) (buf : List ℕ) (next n i : ℕ) : Type 0 where
+  pub count : n ≡ length xs
+  pub few : n ≤ top
+  pub most : i ≤ n
+  pub same-size : length buf ≡ length first
+  pub rest : puts port (valuesOn q (drop i xs)) (buf, next) ≡ puts port (valuesOn q xs) (first, at)
 
-  pub bag-none : i ≡ length xs → puts port (valuesOn q (drop i xs)) st ≡ st
-  unfolding valuesOn puts
-  bag-none e = rw (e, drop-length)
+pub turn-first : {top : ℕ} {xs : Bag} {q port at n : ℕ} {buf : List ℕ} → n ≡ length xs → n ≤ top → Turn top xs q port buf at buf at n 0
+turn-first e h = record { count = e; few = h; most = omega arith; same-size = refl; rest = refl }
+
+module _ {top : ℕ} {xs : Bag} {q port at next n i : ℕ} {first buf : List ℕ} (turn : Turn top xs q port first at buf next n i) where
+  -- one message more
+  pub turn-more : {x : Message} {buf' : List ℕ} {next' p v : ℕ} → i < n → (i < length xs → getD xs i noMessage ≡ x)
+      → length buf' ≡ length buf → p ≡ x .port → v ≡ x .value → (buf', next') ≡ puts port (wantedValue (eqb q p) v) (buf, next)
+      → Turn top xs q port first at buf' next' n (i + 1)
+  turn-more {x} h e size own value put =
+      let there : i < length xs = omega (arith, turn .count) in
+      let more : puts port (valuesOn q (drop (i + 1) xs)) (puts port (wantedValue (eqb q (x .port)) (x .value)) (buf, next)) ≡ puts port (valuesOn q (drop i xs)) (buf, next) =
+      rw (add-one i, drop-cons xs i noMessage there, e there, values-one, puts-append) in
+      record { count = turn .count; few = turn .few; most = omega arith; same-size = size ∙ turn .same-size; rest = rw (put, own, value) (more ∙ turn .rest) }
+
+  pub turn-end : n ≤ i → (buf, next) ≡ puts port (valuesOn q xs) (first, at)
+  turn-end h = sym (none (omega (arith, turn .count, turn .most))) ∙ turn .rest
+    where
+      none : i ≡ length xs → puts port (valuesOn q (drop i xs)) (buf, next) ≡ (buf, next)
+      none e = unfold valuesOn puts in rw (e, drop-length)
 
 -- ---- the slots of a phase record
 
@@ -65,7 +83,7 @@ slot-at r (suc (suc zero)) h = refl
 slot-at r (suc (suc (suc zero))) h = refl
 slot-at r (suc (suc (suc (suc j)))) h = absurd (omega arith)
 
-output-at : (r : Bytes) (j : ℕ) → j < length (outputs (toPhase r))
+pub output-at : (r : Bytes) (j : ℕ) → j < length (outputs (toPhase r))
     → getD (outputs (toPhase r)) j noMessage ≡ record { port = numberAt 1 (6 + messageSize * j) r; value = numberAt 2 (6 + messageSize * j + 1) r }
 output-at r j h =
     let used : j < numberAt 1 5 r = omega (arith, length-outputs r) in
@@ -74,12 +92,6 @@ output-at r j h =
   where
     of-slots : j < numberAt 1 5 r → getD (outputs (toPhase r)) j noMessage ≡ getD (slots (toPhase r)) j noMessage
     of-slots used = unfold outputs toPhase in getD-take (numberAt 1 5 r) (slots (toPhase r)) j noMessage used
-
-pub slot-more : (r : Bytes) (q port j : ℕ) (st : List ℕ × ℕ) → j < length (outputs (toPhase r))
-    → puts port (valuesOn q (drop (j + 1) (outputs (toPhase r))))
-    (puts port (wantedValue (eqb q (numberAt 1 (6 + messageSize * j) r)) (numberAt 2 (6 + messageSize * j + 1) r)) st)
-    ≡ puts port (valuesOn q (drop j (outputs (toPhase r)))) st
-slot-more r q port j st h = bag-more (outputs (toPhase r)) q port j st _ h (output-at r j h)
 
 -- The bytes of a record are the phase of its number.
 pub sent-in : (s : Bytes) (i : ℕ) {bytes : Bytes} → i < length s / 18 → bytes ≡ row 18 i s → toPhase bytes ≡ getD (phasesIn s) i noPhase
@@ -92,17 +104,9 @@ sent-out s q i port st h = rw (record-out 18 toPhase s i noPhase h)
 
 -- ---- the given messages
 
-given-at : (s : Bytes) (i : ℕ) → i < length s / messageSize
+pub given-at : (s : Bytes) (i : ℕ) → i < length (toBag s)
     → getD (toBag s) i noMessage ≡ record { port = numberAt 1 (messageSize * i) s; value = numberAt 2 (messageSize * i + 1) s }
 unfolding toBag recordsIn messageAt
 given-at s i h =
-    record-in messageSize (messageAt 0) s i noMessage h
+    record-in messageSize (messageAt 0) s i noMessage (rw (bag-length s) at h)
     ∙ rw (number-row 1 0 messageSize i s (omega arith), number-row 2 1 messageSize i s (omega arith), add-zero)
-
-pub given-more : (s : Bytes) (q port i : ℕ) (st : List ℕ × ℕ) → i < length s / messageSize
-    → puts port (valuesOn q (drop (i + 1) (toBag s))) (puts port (wantedValue (eqb q (numberAt 1 (messageSize * i) s)) (numberAt 2 (messageSize * i + 1) s)) st)
-    ≡ puts port (valuesOn q (drop i (toBag s))) st
-given-more s q port i st h = bag-more (toBag s) q port i st _ (rw (bag-length s) h) (given-at s i h)
-
-pub given-none : (s : Bytes) (q port i : ℕ) (st : List ℕ × ℕ) → i ≡ length s / messageSize → puts port (valuesOn q (drop i (toBag s))) st ≡ st
-given-none s q port i st e = bag-none (toBag s) q port i st (e ∙ sym (bag-length s))

@@ -21,11 +21,6 @@ returns-2 c =
     let a = start .args in
     rw (ne-eqb _ _ (c .before .if1 .left)) (sym (sent-out (now (a .phases)) (a .q) (a .mark - 1) (a .own) _ (c .if2 .taken)))
 
-same-length : tie.Need-same-length
-same-length c =
-    let after-put-slots : tie.After-put-slots = search in
-    after-put-slots .put-slots .kept .1 .1 .1 .0
-
 returns-3 : tie.Need-returns-3
 unfolding sentOn
 returns-3 c =
@@ -36,4 +31,4 @@ returns-3 c =
 
 pub put-sent-spec : {M : Type 1} → statement M
 put-sent-spec =
-    tie.close (tie.spec returns (λ c. search needs) (λ c. search needs) returns-2 (search needs) (search needs) same-length returns-3)
+    tie.close (tie.spec returns (λ c. search needs) (λ c. search needs) returns-2 (search needs) (search needs) (λ c. search needs) returns-3)

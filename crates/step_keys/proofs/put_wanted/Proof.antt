@@ -6,11 +6,6 @@ use Rattle.spec_step.specs.Put.{puts}
 use Rattle.step_keys.proofs.put_wanted.Statement.{statement}
 use Rattle.step_keys.proofs.put_wanted.Tie as tie
 
-same-length : tie.Need-same-length
-same-length c =
-    let after-put-key : tie.After-put-key = search in
-    after-put-key .put-key .kept .1 .0
-
 returns : tie.Need-returns
 unfolding puts keyOf wantedValue
 returns c =
@@ -22,4 +17,4 @@ unfolding puts keyOf wantedValue
 returns-2 c = rw (c .if1 .left)
 
 pub put-wanted-spec : {M : Type 1} → statement M
-put-wanted-spec = tie.close (tie.spec (λ c. search needs) (λ c. search needs) (λ c κs. search needs) same-length returns returns-2)
+put-wanted-spec = tie.close (tie.spec (λ c. search needs) (λ c. search needs) (λ c κs. search needs) (λ c. search needs) returns returns-2)
