@@ -8,7 +8,7 @@ use Rattle.definition.specs.SavedRun.{runLength}
 use lib.Seq.{sets}
 use lib.ListN.{length}
 use Prim.Native.Nat.{_≤_, _-_}
-use mathlib.Core.Path.{_≡_, refl, _∙_, ap, sym}
+use mathlib.Core.Path.{_≡_, _∙_, ap, sym}
 use Rattle.run_saved.proofs.put_entries.Statement.{statement}
 use Rattle.run_saved.proofs.put_entries.Tie as tie
 
@@ -17,9 +17,6 @@ Inv-loop run₀ n state i₀ run i = (i ≤ n) × (length run ≡ length run₀)
 
 abbrev μ-loop : tie.MeasureT-loop
 μ-loop run₀ n state i₀ run i = n - i
-
-loop-holds : tie.Need-loop-holds Inv-loop μ-loop
-loop-holds c = (omega arith, refl, refl)
 
 put-entry-requires : tie.Need-put-entry-requires Inv-loop μ-loop
 unfolding runLength
@@ -33,9 +30,6 @@ loop-again c =
     let l = at-loop .loop in
     (omega arith, after-put-entry .put-entry .kept .0 ∙ l .inv .1, rw (after-put-entry .put-entry .ensures) (rows-put (heldIn (a .state .now)) (a .n) (l .i) (l .run) (omega arith)) ∙ l .inv .2)
 
-same-length : tie.Need-same-length Inv-loop μ-loop
-same-length c = c .before .loop .inv .1
-
 returns : tie.Need-returns Inv-loop μ-loop
 returns c =
     let start : tie.Start Inv-loop μ-loop = search in
@@ -46,4 +40,5 @@ returns c =
 
 pub put-entries-spec : {M : Type 1} → statement M
 put-entries-spec =
-    tie.close (tie.spec Inv-loop μ-loop loop-holds put-entry-requires (λ c. search needs) (λ c. search needs) loop-again same-length returns)
+    tie.close (tie.spec Inv-loop μ-loop (λ c. search needs) put-entry-requires (λ c. search needs) (λ c. search needs) loop-again (λ c. search needs)
+    returns)
