@@ -10,7 +10,7 @@ use Rattle.spec_step.specs.Tables.{sourceAt}
 use Rattle.spec_step.specs.TableStep.{anyOf}
 use Rattle.step_collect.specs.Collected.{comesFrom}
 use Rattle.step_marks.specs.Filled.{anySource}
-use Rattle.step_collect.proofs.Laws.{rowsFrom, rows-first, both-left}
+use Rattle.step_collect.proofs.Laws.{rowsFrom, rows-first, some-left}
 use Rattle.step_marks.proofs.Laws.{any-here, any-later, any-end}
 use Rattle.step_marks.proofs.any_source.Statement.{statement}
 use Rattle.step_marks.proofs.any_source.Tie as tie
@@ -27,9 +27,6 @@ loop-holds c =
     let q = c .before .pre in
     (omega arith, rw (c .first-link .ensures) (q .in-range .firsts (c .before .args .target) (q .below)), rw (c .first-link .ensures, rows-first))
 
-source-of-requires : tie.Need-source-of-requires Inv-loop μ-loop
-source-of-requires c κs = c .before .loop .inv .1
-
 may-come-requires : tie.Need-may-come-requires Inv-loop μ-loop
 may-come-requires c κs =
     let start : tie.Start Inv-loop μ-loop = search in let at-loop : tie.At-loop Inv-loop μ-loop = search in
@@ -44,21 +41,6 @@ returns c =
     let e : comesFrom (now (a .flags)) (getD (now (a .tables)) (sourceAt + l .link) 0) ≡ c .before .may-come .result =
     sym (rw (after-source-of .source-of .ensures) at (c .before .may-come .ensures)) in
     any-here (comesFrom (now (a .flags))) (now (a .tables)) (l .left) (l .link) (in-loop .loop-test .taken) (e ∙ c .if1 .taken) ∙ l .inv .2
-
-next-link-requires : tie.Need-next-link-requires Inv-loop μ-loop
-next-link-requires c κs =
-    let at-loop : tie.At-loop Inv-loop μ-loop = search in
-    at-loop .loop .inv .1
-
-sub-left : tie.Need-sub-left Inv-loop μ-loop
-sub-left c =
-    let in-loop : tie.In-loop Inv-loop μ-loop = search in let at-loop : tie.At-loop Inv-loop μ-loop = search in
-    omega (arith, both-left (at-loop .loop .left) (at-loop .loop .link) (in-loop .loop-test .taken) .0)
-
-loop-less : tie.Need-loop-less Inv-loop μ-loop
-loop-less c =
-    let in-loop : tie.In-loop Inv-loop μ-loop = search in let at-loop : tie.At-loop Inv-loop μ-loop = search in
-    omega (arith, both-left (at-loop .loop .left) (at-loop .loop .link) (in-loop .loop-test .taken) .0)
 
 loop-again : tie.Need-loop-again Inv-loop μ-loop
 loop-again c =
@@ -81,5 +63,5 @@ returns-2 c =
 
 pub any-source-spec : {M : Type 1} → statement M
 any-source-spec =
-    tie.close (tie.spec Inv-loop μ-loop (λ c κs. search needs) loop-holds source-of-requires may-come-requires returns next-link-requires sub-left
-    loop-less loop-again returns-2)
+    tie.close (tie.spec Inv-loop μ-loop (λ c κs. search needs) loop-holds (λ c κs. search needs) may-come-requires returns (λ c κs. search needs)
+    (λ c. omega (arith, some-left)) (λ c. omega (arith, some-left)) loop-again returns-2)

@@ -24,16 +24,6 @@ abbrev μ-loop : tie.MeasureT-loop
 loop-holds : tie.Need-loop-holds Inv-loop μ-loop
 loop-holds c = (c .word-in .ensures, refl, rw (c .word-in .ensures))
 
-may-reach-requires : tie.Need-may-reach-requires Inv-loop μ-loop
-may-reach-requires c κs =
-    let start : tie.Start Inv-loop μ-loop = search in let at-loop : tie.At-loop Inv-loop μ-loop = search in
-    record { below = omega (arith, at-loop .loop .inv .0, start .pre .count); in-range = start .pre }
-
-put-reach-requires : tie.Need-put-reach-requires Inv-loop μ-loop
-put-reach-requires c κs =
-    let start : tie.Start Inv-loop μ-loop = search in let at-loop : tie.At-loop Inv-loop μ-loop = search in
-    omega (arith, at-loop .loop .inv .0, start .pre .count)
-
 loop-again : tie.Need-loop-again Inv-loop μ-loop
 loop-again c =
     let start : tie.Start Inv-loop μ-loop = search in let after-bool-to-u32 : tie.After-bool-to-u32 Inv-loop μ-loop = search in
@@ -55,5 +45,5 @@ returns c =
 
 pub flag-components-spec : {M : Type 1} → statement M
 flag-components-spec =
-    tie.close (tie.spec Inv-loop μ-loop (λ c κs. search needs) loop-holds may-reach-requires (λ c κs. search needs) put-reach-requires
+    tie.close (tie.spec Inv-loop μ-loop (λ c κs. search needs) loop-holds (λ c κs. search needs) (λ c κs. search needs) (λ c κs. search needs)
     (λ c. search needs) (λ c. search needs) loop-again returns)

@@ -4,11 +4,6 @@ use mathlib.Core.Path.{_∙_}
 use Rattle.step_marks.proofs.mark.Statement.{statement}
 use Rattle.step_marks.proofs.mark.Tie as tie
 
-mark-parents-requires : tie.Need-mark-parents-requires
-mark-parents-requires c κs =
-    let start : tie.Start = search in
-    start .pre .in-range
-
 returns : tie.Need-returns
 returns c =
     let after-mark-atomics : tie.After-mark-atomics = search in
@@ -17,4 +12,4 @@ returns c =
     record { marks = rw (first .marks) at (then .marks); others = then .others ∙ first .others }
 
 pub mark-spec : {M : Type 1} → statement M
-mark-spec = tie.close (tie.spec (λ c κs. search needs) mark-parents-requires returns)
+mark-spec = tie.close (tie.spec (λ c κs. search needs) (λ c κs. search needs) returns)

@@ -29,11 +29,6 @@ loop-holds c =
     let e : c .if1 .c ≡ c .before .word-in .result - 1 = ⊎-elim (λ w. omega arith) (λ w. omega arith) (c .if1 .came) in
     (omega (arith, e, c .before .word-in .ensures, start .pre .count), rw (e, c .before .word-in .ensures), refl)
 
-mark-parent-requires : tie.Need-mark-parent-requires Inv-loop μ-loop
-mark-parent-requires c κs =
-    let start : tie.Start Inv-loop μ-loop = search in let at-loop : tie.At-loop Inv-loop μ-loop = search in
-    record { below = at-loop .loop .inv .0; in-range = start .pre }
-
 loop-again : tie.Need-loop-again Inv-loop μ-loop
 loop-again c =
     let start : tie.Start Inv-loop μ-loop = search in let at-loop : tie.At-loop Inv-loop μ-loop = search in
@@ -51,5 +46,5 @@ returns c =
 
 pub mark-parents-spec : {M : Type 1} → statement M
 mark-parents-spec =
-    tie.close (tie.spec Inv-loop μ-loop (λ c κs. search needs) (λ c. search needs) loop-holds mark-parent-requires (λ c. search needs)
+    tie.close (tie.spec Inv-loop μ-loop (λ c κs. search needs) (λ c. search needs) loop-holds (λ c κs. search needs) (λ c. search needs)
     (λ c. search needs) loop-again returns)

@@ -3,7 +3,7 @@ use borrow.Author.Needs.{needs}
 use Rattle.spec_step.specs.Ranges.{maxNodes}
 use native.Mathlib.Omega.{arith}
 use Prim.Native.Nat.{_≤_, _<_, _-_}
-use mathlib.Core.Path.{_≡_, _∙_, refl, sym}
+use mathlib.Core.Path.{_≡_, _∙_, sym}
 use denote.Ref.{now}
 use Rattle.spec_step.specs.TableStep.{mayReach}
 use Rattle.spec_step.specs.Flags.{marksIn, reachedIn}
@@ -19,9 +19,6 @@ Inv-loop tables flags c q₀ q =
 
 abbrev μ-loop : tie.MeasureT-loop
 μ-loop tables flags c q₀ q = 4 - q
-
-loop-holds : tie.Need-loop-holds Inv-loop μ-loop
-loop-holds c = (omega arith, refl)
 
 any-source-requires : tie.Need-any-source-requires Inv-loop μ-loop
 any-source-requires c κs =
@@ -59,5 +56,5 @@ returns-2 c =
 
 pub may-reach-spec : {M : Type 1} → statement M
 may-reach-spec =
-    tie.close (tie.spec Inv-loop μ-loop loop-holds (λ c κs. search needs) any-source-requires returns (λ c. search needs) (λ c. search needs)
+    tie.close (tie.spec Inv-loop μ-loop (λ c. search needs) (λ c κs. search needs) any-source-requires returns (λ c. search needs) (λ c. search needs)
     loop-again returns-2)
