@@ -5,7 +5,7 @@ use Rattle.flat_probe.proofs.Stored.{flagsFrom, flags-more, flags-none,
 use lib.Seq.{sets}
 use lib.ListN.{length, length-set}
 use Prim.Native.Nat.{_-_, _≤_}
-use mathlib.Core.Path.{_≡_, refl, sym, _∙_}
+use mathlib.Core.Path.{_≡_, sym, _∙_}
 use denote.Ref.{now}
 use Rattle.spec_step.specs.Flags.{flagsSize}
 use Rattle.flat_probe.proofs.put_flags.Statement.{statement}
@@ -17,17 +17,11 @@ Inv-loop flags₀ i₀ flags i = (i ≤ flagsSize) × (length flags ≡ length f
 abbrev μ-loop : tie.MeasureT-loop
 μ-loop flags₀ i₀ flags i = flagsSize - i
 
-loop-holds : tie.Need-loop-holds Inv-loop μ-loop
-loop-holds c = (omega arith, refl, refl)
-
 loop-again : tie.Need-loop-again Inv-loop μ-loop
 loop-again c =
     let at-loop : tie.At-loop Inv-loop μ-loop = search in
     let l = at-loop .loop in
     (omega arith, simp length-set (l .inv .1), rw (c .next-number .ensures) (flags-more (l .i) (l .flags) (c .before .loop-test .taken) ∙ l .inv .2))
-
-same-length : tie.Need-same-length Inv-loop μ-loop
-same-length c = c .before .loop .inv .1
 
 returns : tie.Need-returns Inv-loop μ-loop
 returns c =
@@ -37,5 +31,5 @@ returns c =
 
 pub put-flags-spec : {M : Type 1} → statement M
 put-flags-spec =
-    tie.close (tie.spec Inv-loop μ-loop loop-holds (λ c κs. search needs) (λ c. search needs) (λ c. search needs) (λ c. search needs)
-    (λ c. search needs) loop-again same-length returns)
+    tie.close (tie.spec Inv-loop μ-loop (λ c. search needs) (λ c κs. search needs) (λ c. search needs) (λ c. search needs) (λ c. search needs)
+    (λ c. search needs) loop-again (λ c. search needs) returns)

@@ -6,7 +6,7 @@ use Rattle.model_records.specs.Values.{phasesIn}
 use lib.Seq.{sets}
 use lib.ListN.{length}
 use Prim.Native.Nat.{_*_, _-_, _≤_}
-use mathlib.Core.Path.{_≡_, refl, sym, ap, _∙_}
+use mathlib.Core.Path.{_≡_, sym, ap, _∙_}
 use denote.Ref.{now}
 use Rattle.definition.specs.Limits.{maxComponents}
 use Rattle.flat_probe.proofs.put_probes.Statement.{statement}
@@ -18,17 +18,11 @@ Inv-loop out₀ c₀ out c = (c ≤ maxComponents) × (length out ≡ length out
 abbrev μ-loop : tie.MeasureT-loop
 μ-loop out₀ c₀ out c = maxComponents - c
 
-loop-holds : tie.Need-loop-holds Inv-loop μ-loop
-loop-holds c = (omega arith, refl, refl)
-
 loop-again : tie.Need-loop-again Inv-loop μ-loop
 loop-again c =
     let after-put-probe : tie.After-put-probe Inv-loop μ-loop = search in let in-loop : tie.In-loop Inv-loop μ-loop = search in
     let at-loop : tie.At-loop Inv-loop μ-loop = search in
     let l = at-loop .loop in (omega arith, after-put-probe .put-probe .kept .1 .0 ∙ l .inv .1, rw (after-put-probe .put-probe .ensures) (probes-more (l .c) (l .out) (in-loop .loop-test .taken) ∙ l .inv .2))
-
-same-length : tie.Need-same-length Inv-loop μ-loop
-same-length c = c .before .loop .inv .1
 
 returns : tie.Need-returns Inv-loop μ-loop
 returns c =
@@ -37,5 +31,5 @@ returns c =
 
 pub put-probes-spec : {M : Type 1} → statement M
 put-probes-spec =
-    tie.close (tie.spec Inv-loop μ-loop loop-holds (λ c. search needs) (λ c κs. search needs) (λ c. search needs) (λ c. search needs) loop-again
-    same-length returns)
+    tie.close (tie.spec Inv-loop μ-loop (λ c. search needs) (λ c. search needs) (λ c κs. search needs) (λ c. search needs) (λ c. search needs)
+    loop-again (λ c. search needs) returns)
