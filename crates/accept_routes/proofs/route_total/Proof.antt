@@ -38,11 +38,6 @@ loop-holds c =
     let e : sumOf f (upFrom 0 (c .before .component-count .result - 0)) ≡ sumOf f (upFrom 0 (length (componentsIn (now (a .components))))) = over-start f (c .before .component-count .result) ∙ ap (λ n. sumOf f (upFrom 0 n)) (c .before .component-count .ensures) in
     (omega arith, omega arith, omega (arith, e, c .four-ways .ensures))
 
-own-ways-requires : tie.Need-own-ways-requires Inv-loop μ-loop
-own-ways-requires c κs =
-    let start : tie.Start Inv-loop μ-loop = search in let after-component-count : tie.After-component-count Inv-loop μ-loop = search in
-    omega (arith, start .pre, after-component-count .component-count .ensures)
-
 loop-again : tie.Need-loop-again Inv-loop μ-loop
 loop-again c =
     let start : tie.Start Inv-loop μ-loop = search in let at-loop : tie.At-loop Inv-loop μ-loop = search in
@@ -60,5 +55,5 @@ returns c =
 
 pub route-total-spec : {M : Type 1} → statement M
 route-total-spec =
-    tie.close (tie.spec Inv-loop μ-loop (λ c κs. search needs) (λ c κs. search needs) loop-holds own-ways-requires (λ c κs. search needs)
+    tie.close (tie.spec Inv-loop μ-loop (λ c κs. search needs) (λ c κs. search needs) loop-holds (λ c κs. search needs) (λ c κs. search needs)
     (λ c. search needs) (λ c. search needs) loop-again returns)

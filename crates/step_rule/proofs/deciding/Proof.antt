@@ -12,7 +12,7 @@ use lib.ListN.{getD}
 use Prim.Native.Nat.{ℕ, _-_, _*_}
 use mathlib.Core.List.{map}
 use mathlib.Core.Bool.{Bool}
-use mathlib.Core.Path.{sym, _∙_, _≡_, refl}
+use mathlib.Core.Path.{sym, _∙_, _≡_}
 use Rattle.step_rule.proofs.deciding.Statement.{statement}
 use Rattle.step_rule.proofs.deciding.Tie as tie
 
@@ -21,9 +21,6 @@ Inv-loop rules first end component phase elapsed bag stop head i₀ at₀ i at =
 
 abbrev μ-loop : tie.MeasureT-loop
 μ-loop rules first end component phase elapsed bag stop head i₀ at₀ i at = end - i
-
-loop-holds : tie.Need-loop-holds Inv-loop μ-loop
-loop-holds c = (refl, refl)
 
 loop-again : tie.Need-loop-again Inv-loop μ-loop
 unfolding decidingIn
@@ -50,5 +47,5 @@ returns-2 c =
 
 pub deciding-spec : {M : Type 1} → statement M
 deciding-spec =
-    tie.close (tie.spec Inv-loop μ-loop (λ c κs. search needs) (λ c κs. search needs) (λ c. search needs) loop-holds (λ c κs. search needs)
+    tie.close (tie.spec Inv-loop μ-loop (λ c κs. search needs) (λ c κs. search needs) (λ c. search needs) (λ c. search needs) (λ c κs. search needs)
     (λ c κs. search needs) (λ c. search needs) (λ c. search needs) (λ c. search needs) loop-again returns returns-2)
