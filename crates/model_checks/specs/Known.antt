@@ -7,7 +7,7 @@ use Prim.Native.Nat.{ℕ, zero, suc, _+_, _≤_, _<_}
 use lib.Dec.{leb, ltb, eqb}
 use lib.ListN.{length, getD, set}
 use Rattle.definition.specs.Limits.{maxComponents, maxAncestors}
-use Rattle.definition.specs.Model.{Component, Coupling, componentAt, noCoupling}
+use Rattle.definition.specs.Model.{Component, Rule, Coupling, componentAt, noCoupling}
 use Rattle.definition.specs.Pinned.Decoder.{kindFields, rootFields, rootWithin, componentFits}
 use Rattle.law_base.specs.Keys as Keys
 
@@ -72,11 +72,13 @@ pub record Keeps (k : Component) (i : ℕ) (parents counts depths parents' count
 
 -- ---- all components
 
-abbrev pub Counted : List Component → List ℕ → Type 0
-Counted cs counts = Accepted cs (length cs) × PhaseCounts cs (length cs) counts
+pub record Counted (cs : List Component) (counts : List ℕ) : Type 0 where
+  pub accepted : Accepted cs (length cs)
+  pub counted : PhaseCounts cs (length cs) counts
 
-abbrev pub Placed : List Component → List ℕ → Type 0
-Placed cs parents = Accepted cs (length cs) × Parents cs (length cs) parents
+pub record Placed (cs : List Component) (parents : List ℕ) : Type 0 where
+  pub accepted : Accepted cs (length cs)
+  pub stand : Parents cs (length cs) parents
 
 -- Source and target are components, and it is known where all stand.
 pub record EndsThere (cs : List Component) (source target : ℕ) (parents : List ℕ) : Type 0 where
@@ -84,7 +86,12 @@ pub record EndsThere (cs : List Component) (source target : ℕ) (parents : List
   pub targetThere : target < length cs
   pub placed : Placed cs parents
 
--- ---- couplings
+-- ---- rules and couplings
+
+-- Rule i is the next to be read, and the phase counts of all components are known.
+pub record NextRule (cs : List Component) (counts : List ℕ) (rules : List Rule) (i : ℕ) : Type 0 where
+  pub there : i < length rules
+  pub known : Counted cs counts
 
 -- The key of the row before row i; the lowest key before the first.
 abbrev pub Behind : List Coupling → ℕ → ℕ → Type 0

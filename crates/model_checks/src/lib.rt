@@ -3,17 +3,18 @@ ghost use mathlib.Core.Path.{_≡_};
 ghost use mathlib.Core.Bool.{_&&_};
 ghost use Prim.Native.Nat.{_+_, _<_};
 ghost use lib.Dec.{ltb, leb};
-ghost use lib.ListN.{length, getD};
+ghost use lib.ListN.{length};
 ghost use Rattle.definition.specs.Bytes.{numberOf};
 ghost use Rattle.definition.specs.Limits.{maxOutputs};
-ghost use Rattle.definition.specs.Model.{noPhase, noRule, noCoupling, componentAt};
-ghost use Rattle.definition.specs.Pinned.Decoder.{kindFields, componentFits, advanceFits, phaseFields, ruleFields, related, couplingFields, couplingFits};
+ghost use Rattle.definition.specs.Pinned.Decoder.{kindFields, advanceFits, ruleFields, couplingFields};
 ghost use Rattle.model_records.specs.Values.{componentOf, ruleOf, couplingOf, componentsIn, phasesIn, rulesIn, couplingsIn};
-ghost use Rattle.model_checks.specs.Reads.{couplingOfKey, checked, componentRead, phaseRead, ruleRead, couplingRead};
-ghost use Rattle.model_checks.specs.Known.{Room, fitsBehind, Next, Keepable, Keeps, Counted, Placed, EndsThere, NextRow};
+ghost use Rattle.model_checks.specs.Reads.{couplingOfKey, componentRead, phaseRead, ruleRead, couplingRead, componentAsked, phaseAsked, ruleAsked, couplingAsked};
+ghost use Rattle.model_checks.specs.Known.{Room, fitsBehind, Next, Keepable, Keeps, Counted, Placed, NextRule, NextRow};
 
+mod kinship;
 mod phase_slots;
 
+use kinship::are_related;
 use limits::BAD_COMPONENT;
 use limits::BAD_COUPLING;
 use limits::BAD_PHASE;
@@ -144,7 +145,7 @@ pub fn read_component(
     depths: &[u8; MAX_COMPONENTS],
 ) -> ComponentRead
     requires { ⌜ Next (componentsIn (now components)) i (now «phase_counts») (now depths) ⌝ }
-    ensures { λ r. ⌜ componentRead r ≡ checked (componentFits (componentsIn (now (components .entry))) i) 4 (componentAt (componentsIn (now (components .entry))) i) ⌝ }
+    ensures { λ r. ⌜ componentRead r ≡ componentAsked (componentsIn (now (components .entry))) i ⌝ }
 {
     let component = model_records::component_in(components, i);
     if component_fits(component, i, phase_counts, depths) {
@@ -189,7 +190,7 @@ fn phase_numbers(bound: u8, phase: Phase) -> bool
 // Phase record i, whose atomic has `bound` phases.
 pub fn read_phase(phases: &[u8], i: usize, bound: u8) -> PhaseRead
     requires { ⌜ i < length (phasesIn (now phases)) ⌝ }
-    ensures { λ r. ⌜ phaseRead r ≡ checked (phaseFields bound (getD (phasesIn (now (phases .entry))) i noPhase)) 6 (getD (phasesIn (now (phases .entry))) i noPhase) ⌝ }
+    ensures { λ r. ⌜ phaseRead r ≡ phaseAsked bound (phasesIn (now (phases .entry))) i ⌝ }
 {
     let phase = model_records::phase_in(phases, i);
     if !phase_numbers(bound, phase) {
@@ -227,8 +228,8 @@ pub fn read_rule(
     rules: &[u8],
     i: usize,
 ) -> RuleRead
-    requires { ⌜ (i < length (rulesIn (now rules))) × Counted (componentsIn (now components)) (now «phase_counts») ⌝ }
-    ensures { λ r. ⌜ ruleRead r ≡ checked (ruleFields (componentsIn (now (components .entry))) (getD (rulesIn (now (rules .entry))) i noRule)) 7 (getD (rulesIn (now (rules .entry))) i noRule) ⌝ }
+    requires { ⌜ NextRule (componentsIn (now components)) (now «phase_counts») (rulesIn (now rules)) i ⌝ }
+    ensures { λ r. ⌜ ruleRead r ≡ ruleAsked (componentsIn (now (components .entry))) (rulesIn (now (rules .entry))) i ⌝ }
 {
     let rule = model_records::rule_in(rules, i);
     if rule_fields(components, phase_counts, rule) {
@@ -239,25 +240,6 @@ pub fn read_rule(
 }
 
 // ---- couplings
-
-// Source is the target's parent, its sibling, or its child. Parents alone decide it: the root stands as its own parent, so that it and
-// each of its children have the same parent too, and these are relatives anyway.
-fn are_related(
-    components: &[u8],
-    parents: &[u8; MAX_COMPONENTS],
-    source: usize,
-    target: usize,
-) -> bool
-    requires { ⌜ EndsThere (componentsIn (now components)) source target (now parents) ⌝ }
-    ensures { λ r. ⌜ r ≡ related (componentsIn (now (components .entry))) source target ⌝ }
-{
-    let over_source = u8_to_usize(parents[source]);
-    let over_target = u8_to_usize(parents[target]);
-    if source == target {
-        return false;
-    }
-    (over_target == source) | (over_source == target) | (over_source == over_target)
-}
 
 fn coupling_fields(components: &[u8], parents: &[u8; MAX_COMPONENTS], coupling: Coupling) -> bool
     requires { ⌜ Placed (componentsIn (now components)) (now parents) ⌝ }
@@ -294,7 +276,7 @@ pub fn read_coupling(
     before: usize,
 ) -> CouplingRead
     requires { ⌜ NextRow (componentsIn (now components)) (now parents) (couplingsIn (now couplings)) i before ⌝ }
-    ensures { λ r. ⌜ couplingRead r ≡ checked (couplingFits (componentsIn (now (components .entry))) (couplingsIn (now (couplings .entry))) i) 8 (getD (couplingsIn (now (couplings .entry))) i noCoupling) ⌝ }
+    ensures { λ r. ⌜ couplingRead r ≡ couplingAsked (componentsIn (now (components .entry))) (couplingsIn (now (couplings .entry))) i ⌝ }
 {
     let coupling = model_records::coupling_in(couplings, i);
     if !coupling_fields(components, parents, coupling) {

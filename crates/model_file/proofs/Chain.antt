@@ -4,19 +4,21 @@ use mathlib.Core.List.{List}
 use Prim.Native.Nat.{ℕ, _≤_, _<_}
 use native.Mathlib.Omega.{arith}
 use lib.ListN.{length}
+use borrow.Author.Tests.{le-ltb}
 use Rattle.definition.specs.Bytes.{Bytes, Result, ok, refused, _>>=_}
-use Rattle.definition.specs.Limits.{maxComponents, componentSize}
+use Rattle.definition.specs.Limits.{maxComponents, componentSize, phaseSize, ruleSize, couplingSize}
 use Rattle.definition.specs.Model.{Component, Phase, Rule, Coupling, Model}
 use Rattle.definition.specs.Pinned.Decoder.{toComponent, componentFits, Section, componentCountRefusal, componentSection, phaseSection, ruleSection, couplingSection, endOfFile, decode}
 use Rattle.law_bytes.specs.Parts.{recordsIn, partOf, restAfter}
 use Rattle.law_bytes.proofs.Sections.{section-gives}
 use Rattle.law_bytes.proofs.Refusals.{then-ok, then-refused}
-use Rattle.model_records.specs.Values.{componentsIn}
-use Rattle.model_checks.specs.Known.{Counted, Placed}
-use Rattle.model_sections.specs.Answers.{sectionRead, sectionNumber, Learnt}
+use Rattle.model_records.specs.Values.{componentsIn, phasesIn, rulesIn, couplingsIn, modelIn}
+use Rattle.model_sections.specs.Answers.{sectionRead, sectionNumber, AllKnown, Learnt}
 use Rattle.model_sections.specs.declared.SectionRead as S
 use Rattle.model_sections.proofs.Bounds.{component-count}
 use Rattle.model_sections.specs.declared.SectionRead.the-variants as SV
+use Rattle.model_file.specs.declared.Counts as N
+use Rattle.model_file.specs.Checked.{modelOf, componentsPart, phasesPart, rulesPart, couplingsPart, afterComponents, afterPhases, afterRules}
 
 unfoldable pub fromEnd : List Component → List Phase → List Rule → List Coupling → Bytes → Result Model
 fromEnd cs ps rs ks s = endOfFile s >>= λ _. ok (record { components = cs; phases = ps; rules = rs; couplings = ks })
@@ -44,15 +46,24 @@ component-limit s {x} e =
 
 -- What is known of all components, as the sections after them ask for it.
 pub known : (s : Bytes) (n : ℕ) {read : S.SectionRead} (parents counts : List ℕ) → Learnt s read parents counts → read ≡ SV.Are n
-    → {records : Bytes} → records ≡ partOf componentSize n s → Placed (componentsIn records) parents × Counted (componentsIn records) counts
+    → {records : Bytes} → records ≡ partOf componentSize n s → AllKnown (componentsIn records) parents counts
 known s n parents counts h e f = rw f (subst (λ r. Learnt s r parents counts) e h)
 
 -- ---- a section read: what follows its records, and what follows its refusal
 
 module _ {A B : Type 0} (size : ℕ) (to : Bytes → A) (s : Bytes) (f : Section A → Result B) {q : Result (Section A)} {read : S.SectionRead} {n : ℕ}
-    (e : sectionRead size to s read ≡ q) where
-  pub section-on : read ≡ SV.Are n → (q >>= f) ≡ f (record { records = recordsIn size to (partOf size n s); rest = restAfter size n s })
-  section-on h = then-ok f e (ap (sectionRead size to s) h)
+    (e : sectionRead size to s read ≡ q) {all : Result B} (before : all ≡ (q >>= f)) where
+  pub section-on : read ≡ SV.Are n → {rest : Bytes} → rest ≡ restAfter size n s → all ≡ f (record { records = recordsIn size to (partOf size n s); rest = rest })
+  section-on h g = before ∙ then-ok f e (ap (sectionRead size to s) h) ∙ sym (ap (λ r. f (record { records = recordsIn size to (partOf size n s); rest = r })) g)
 
-  pub section-off : read ≡ SV.Refused n → {m : ℕ} → m ≡ sectionNumber read → refused m ≡ (q >>= f)
-  section-off h g = sym (then-refused f e (ap (sectionRead size to s) h) ∙ ap refused (sym (g ∙ ap sectionNumber h)))
+  pub section-off : read ≡ SV.Refused n → {m : ℕ} → m ≡ sectionNumber read → refused m ≡ all
+  section-off h g = sym (before ∙ then-refused f e (ap (sectionRead size to s) h) ∙ ap refused (sym (g ∙ ap sectionNumber h)))
+
+-- With nothing left over, the records are those of the file's four parts.
+pub model-is : (file : Bytes) (n : N.Counts) (end : Bytes) {part phases rules couplings : Bytes} → part ≡ partOf componentSize (n .components) file
+    → phases ≡ restAfter componentSize (n .components) file → rules ≡ restAfter phaseSize (n .phases) phases
+    → couplings ≡ restAfter ruleSize (n .rules) rules → length end ≤ 0
+    → fromEnd (componentsIn part) (phasesIn (partOf phaseSize (n .phases) phases)) (rulesIn (partOf ruleSize (n .rules) rules))
+    (couplingsIn (partOf couplingSize (n .couplings) couplings)) end ≡ ok (modelOf file n)
+unfolding fromEnd endOfFile modelOf modelIn componentsPart phasesPart rulesPart couplingsPart afterComponents afterPhases afterRules
+model-is file n end e f g h l = rw (le-ltb _ _ l, e, h, g, f)

@@ -2,17 +2,16 @@
 // each taken apart at once. A reader gets the rest of the file from its section on.
 ghost use mathlib.Core.Path.{_≡_};
 ghost use Prim.Native.Nat.{_*_, _≤_};
-ghost use lib.ListN.{length};
 ghost use Rattle.definition.specs.Bytes.{numberOf};
-ghost use Rattle.definition.specs.Limits.{maxComponents, componentSize, phaseSize, ruleSize, couplingSize};
+ghost use Rattle.definition.specs.Limits.{phaseSize, ruleSize, couplingSize};
 ghost use Rattle.definition.specs.File.{phaseTotal};
-ghost use Rattle.definition.specs.Pinned.Decoder.{toComponent, toPhase, toRule, toCoupling, sectionCount};
+ghost use Rattle.definition.specs.Pinned.Decoder.{toPhase, toRule, toCoupling, sectionCount};
 ghost use Rattle.definition.specs.Pinned.Decoder.{componentCountRefusal, phaseCountRefusal, limitRefusal};
-ghost use Rattle.definition.specs.Pinned.Decoder.{componentSection, phaseSection, ruleSection, couplingSection};
+ghost use Rattle.definition.specs.Pinned.Decoder.{phaseSection, ruleSection, couplingSection};
 ghost use Rattle.law_bytes.specs.Parts.{partOf, restAfter};
 ghost use Rattle.model_records.specs.Values.{componentsIn};
 ghost use Rattle.model_checks.specs.Known.{Counted, Placed};
-ghost use Rattle.model_sections.specs.Answers.{sectionRead, sectionNumber, Learnt};
+ghost use Rattle.model_sections.specs.Answers.{sectionRead, sectionNumber, Room, ComponentsRead};
 use limits::COMPONENT_SIZE;
 use limits::COUNT_LIMIT;
 use limits::COUNT_SIZE;
@@ -136,9 +135,8 @@ pub fn read_components(
     parents: &mut [u8; MAX_COMPONENTS],
     phase_counts: &mut [u8; MAX_COMPONENTS],
 ) -> SectionRead
-    requires { ⌜ (length (now parents) ≡ maxComponents) × (length (now «phase_counts») ≡ maxComponents) ⌝ }
-    ensures { λ r. ⌜ (sectionRead componentSize toComponent (now (file .entry)) r ≡ componentSection (now (file .entry)))
-        × Learnt (now (file .entry)) r (now (parents .exit)) (now («phase_counts» .exit)) ⌝ }
+    requires { ⌜ Room (now parents) (now «phase_counts») ⌝ }
+    ensures { λ r. ⌜ ComponentsRead (now (file .entry)) r (now (parents .exit)) (now («phase_counts» .exit)) ⌝ }
 {
     let announced = u16_at(file, 0);
     let count = u16_to_usize(announced);
@@ -182,7 +180,8 @@ pub fn read_phases(
     rest_of_file: &[u8],
 ) -> SectionRead
     requires { ⌜ Counted (componentsIn (now components)) (now «phase_counts») ⌝ }
-    ensures { λ r. ⌜ sectionRead phaseSize toPhase (now («rest_of_file» .entry)) r ≡ phaseSection (componentsIn (now (components .entry))) (now («rest_of_file» .entry)) ⌝ }
+    ensures { λ r. ⌜ sectionRead phaseSize toPhase (now («rest_of_file» .entry)) r
+        ≡ phaseSection (componentsIn (now (components .entry))) (now («rest_of_file» .entry)) ⌝ }
 {
     let announced = u16_at(rest_of_file, 0);
     let count = u16_to_usize(announced);
@@ -217,7 +216,8 @@ pub fn read_rules(
     rest_of_file: &[u8],
 ) -> SectionRead
     requires { ⌜ Counted (componentsIn (now components)) (now «phase_counts») ⌝ }
-    ensures { λ r. ⌜ sectionRead ruleSize toRule (now («rest_of_file» .entry)) r ≡ ruleSection (componentsIn (now (components .entry))) (now («rest_of_file» .entry)) ⌝ }
+    ensures { λ r. ⌜ sectionRead ruleSize toRule (now («rest_of_file» .entry)) r
+        ≡ ruleSection (componentsIn (now (components .entry))) (now («rest_of_file» .entry)) ⌝ }
 {
     let announced = u16_at(rest_of_file, 0);
     let count = u16_to_usize(announced);
@@ -243,7 +243,8 @@ pub fn read_couplings(
     rest_of_file: &[u8],
 ) -> SectionRead
     requires { ⌜ Placed (componentsIn (now components)) (now parents) ⌝ }
-    ensures { λ r. ⌜ sectionRead couplingSize toCoupling (now («rest_of_file» .entry)) r ≡ couplingSection (componentsIn (now (components .entry))) (now («rest_of_file» .entry)) ⌝ }
+    ensures { λ r. ⌜ sectionRead couplingSize toCoupling (now («rest_of_file» .entry)) r
+        ≡ couplingSection (componentsIn (now (components .entry))) (now («rest_of_file» .entry)) ⌝ }
 {
     let announced = u16_at(rest_of_file, 0);
     let count = u16_to_usize(announced);

@@ -21,11 +21,11 @@ returns-2 c =
     let number = component .u8-to-usize .result in
     let e = component .u8-to-usize .ensures in
     let l : number < length cs = omega (arith, there .component-count .ensures) in
-    rule-by cs (ruleOf (start .args .rule)) (start .pre .0) (rw (← e) l) (start .pre .1 .holds number l ∙ ap (λ c. componentAt cs c .phases) e)
+    rule-by cs (ruleOf (start .args .rule)) (start .pre .accepted) (rw (← e) l) (start .pre .counted .holds number l ∙ ap (λ c. componentAt cs c .phases) e)
 
 pub rule-fields-spec : {M : Type 1} → statement M
 rule-fields-spec =
     tie.close (tie.spec (search needs) (search needs)
     (λ c. unfold ruleFields in let component : tie.After-u8-to-usize = search in
     rw (← c .before .component-count .ensures, ← component .u8-to-usize .ensures, le-ltb _ _ (c .if1 .taken)))
-    (λ c. let start : tie.Start = search in omega (arith, c .before .component-count .ensures, start .pre .0 .few)) returns-2)
+    (λ c. let start : tie.Start = search in omega (arith, c .before .component-count .ensures, start .pre .accepted .few)) returns-2)

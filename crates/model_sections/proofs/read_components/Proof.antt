@@ -25,16 +25,16 @@ abbrev μ-loop : tie.MeasureT-loop
 
 -- The record at hand is one of few.
 few : (c : tie.In-loop Inv-loop μ-loop) → c .before .loop .i < 64
-few c =
-    let right = component-count _ (reading-right (c .before .loop .inv .0)) in
-    omega (arith, c .loop-test .taken)
+few c = let right = component-count _ (reading-right (c .before .loop .inv .0)) in omega (arith, c .loop-test .taken)
 
 returns : tie.Need-returns Inv-loop μ-loop
 unfolding componentSection
 returns c =
     let announced : tie.After-u16-at Inv-loop μ-loop = search in let count : tie.After-u16-to-usize Inv-loop μ-loop = search in
     let judged : tie.After-component-count-refusal Inv-loop μ-loop = search in
-    (head-refused componentForm _ (announced .u16-at .ensures) (count .u16-to-usize .ensures) (judged .component-count-refusal .ensures) (c .before .head-number .ensures) (c .if1 .taken), tt)
+    let refused = head-refused componentForm _ (announced .u16-at .ensures) (count .u16-to-usize .ensures) (judged .component-count-refusal .ensures)
+    (c .before .head-number .ensures) (c .if1 .taken) in
+    record { answer = refused; learnt = tt }
 
 loop-holds : tie.Need-loop-holds Inv-loop μ-loop
 loop-holds c =
@@ -43,31 +43,24 @@ loop-holds c =
     let head : tie.After-head-number Inv-loop μ-loop = search in (
       reading-starts componentForm _ (announced .u16-at .ensures) (count .u16-to-usize .ensures) (judged .component-count-refusal .ensures) (head .head-number .ensures)
           (c .before .if1 .left) (c .section-part .ensures) (omega arith),
-      known-none (start .pre .0) (start .pre .1) (length-replicate {A = ℕ} 64 0),
+      known-none (start .pre .parentsRoom) (start .pre .countsRoom) (length-replicate {A = ℕ} 64 0),
     )
-
-read-component-requires : tie.Need-read-component-requires Inv-loop μ-loop
-unfolding componentsIn
-read-component-requires c κs =
-    let loop : tie.At-loop Inv-loop μ-loop = search in
-    let there = reading-count (loop .loop .inv .0) in
-    known-next (loop .loop .inv .1) (omega arith)
 
 returns-2 : tie.Need-returns-2 Inv-loop μ-loop
 unfolding componentsIn componentSection
 returns-2 c =
     let loop : tie.At-loop Inv-loop μ-loop = search in let turn : tie.In-loop Inv-loop μ-loop = search in
     let read : tie.After-read-component Inv-loop μ-loop = search in
-    (reading-refused (loop .loop .inv .0) (turn .loop-test .taken) _ (read .read-component .ensures) (ap componentRead (c .before .enum-told .given .1)) (c .refusal .ensures), tt)
+    let refused = reading-refused (loop .loop .inv .0) (turn .loop-test .taken) _ (read .read-component .ensures) (ap componentRead (c .before .enum-told .given .1))
+    (c .refusal .ensures) in
+    record { answer = refused; learnt = tt }
 
 keep-component-requires : tie.Need-keep-component-requires Inv-loop μ-loop
 unfolding componentsIn
 keep-component-requires c κs =
     let loop : tie.At-loop Inv-loop μ-loop = search in let turn : tie.In-loop Inv-loop μ-loop = search in
     let read : tie.After-read-component Inv-loop μ-loop = search in let told : tie.After-read Inv-loop μ-loop = search in
-    let at = loop .loop .inv .0 in
-    let e = read .read-component .ensures in
-    let f = ap componentRead (told .read .given .1) in
+    let at = loop .loop .inv .0 in let e = read .read-component .ensures in let f = ap componentRead (told .read .given .1) in
     known-keepable (loop .loop .inv .1) (few turn) (reading-is at (turn .loop-test .taken) _ e f) (reading-passes at (turn .loop-test .taken) _ e f)
 
 loop-again : tie.Need-loop-again Inv-loop μ-loop
@@ -75,22 +68,30 @@ unfolding componentsIn
 loop-again c =
     let loop : tie.At-loop Inv-loop μ-loop = search in let turn : tie.In-loop Inv-loop μ-loop = search in
     let read : tie.After-read-component Inv-loop μ-loop = search in let told : tie.After-read Inv-loop μ-loop = search in
-    let at = loop .loop .inv .0 in
-    let e = read .read-component .ensures in
-    let f = ap componentRead (told .read .given .1) in
-    (reading-more at (turn .loop-test .taken) _ e f, known-more (loop .loop .inv .1) (few turn) (reading-is at (turn .loop-test .taken) _ e f) (reading-passes at (turn .loop-test .taken) _ e f) (c .keep-component .ensures))
+    let at = loop .loop .inv .0 in let e = read .read-component .ensures in let f = ap componentRead (told .read .given .1) in (
+      reading-more at (turn .loop-test .taken) _ e f,
+      known-more (loop .loop .inv .1) (few turn) (reading-is at (turn .loop-test .taken) _ e f) (reading-passes at (turn .loop-test .taken) _ e f) (c .keep-component .ensures),
+    )
 
 returns-3 : tie.Need-returns-3 Inv-loop μ-loop
 unfolding componentsIn componentSection
 returns-3 c =
     let part : tie.After-section-part Inv-loop μ-loop = search in
     let at = c .before .loop .inv .0 in
-    let known = c .before .loop .inv .1 in
     let all : c .before .loop .i ≡ length (componentsIn (now (part .section-part .result))) = omega (arith, reading-count at, c .loop-test .left) in
-    (reading-ends at (c .loop-test .left), rw (← at .part, ← all) ((known .accepted, known .placed), (known .accepted, known .counted)))
+    let known = rw all at (c .before .loop .inv .1) in
+    record {
+      answer = reading-ends at (c .loop-test .left);
+      learnt = rw (← at .part) (record {
+        placed = record { accepted = known .accepted; stand = known .placed };
+        counted = record { accepted = known .accepted; counted = known .counted };
+      });
+    }
 
 pub read-components-spec : {M : Type 1} → statement M
 read-components-spec =
     tie.close (tie.spec Inv-loop μ-loop (search needs) (search needs) (search needs) (search needs) returns (search needs) loop-holds
-    read-component-requires (λ c. search needs) (λ c. search needs) (search needs) returns-2 keep-component-requires (λ c. search needs)
+    (λ c κs. unfold componentsIn in let loop : tie.At-loop Inv-loop μ-loop = search in let there = reading-count (loop .loop .inv .0) in
+    known-next (loop .loop .inv .1) (omega arith))
+    (λ c. search needs) (λ c. search needs) (search needs) returns-2 keep-component-requires (λ c. search needs)
     (λ c. search needs) loop-again returns-3)

@@ -37,13 +37,6 @@ loop-holds c =
       refl,
     )
 
-read-coupling-requires : tie.Need-read-coupling-requires Inv-loop μ-loop
-unfolding couplingsIn
-read-coupling-requires c κs =
-    let start : tie.Start Inv-loop μ-loop = search in
-    let there = reading-count (c .before .loop .inv .0) in
-    record { there = omega arith; behind = c .before .loop .inv .1; placed = start .pre }
-
 returns-2 : tie.Need-returns-2 Inv-loop μ-loop
 unfolding couplingsIn couplingSection
 returns-2 c =
@@ -58,15 +51,16 @@ loop-again c =
     let read : tie.After-read-coupling Inv-loop μ-loop = search in let told : tie.After-read Inv-loop μ-loop = search in
     let e = read .read-coupling .ensures in
     let f = ap couplingRead (told .read .given .1) in
-    let at = loop .loop .inv .0 in
-    (reading-more at (turn .loop-test .taken) _ e f, behind-next _ (loop .loop .i) (c .coupling-key .result) (c .coupling-key .ensures ∙ reading-is at (turn .loop-test .taken) _ e f))
-
-returns-3 : tie.Need-returns-3 Inv-loop μ-loop
-unfolding couplingSection
-returns-3 c = reading-ends (c .before .loop .inv .0) (c .loop-test .left)
+    let at = loop .loop .inv .0 in (
+      reading-more at (turn .loop-test .taken) _ e f,
+      behind-next _ (loop .loop .i) (c .coupling-key .result) (c .coupling-key .ensures ∙ reading-is at (turn .loop-test .taken) _ e f),
+    )
 
 pub read-couplings-spec : {M : Type 1} → statement M
 read-couplings-spec =
     tie.close (tie.spec Inv-loop μ-loop (search needs) (search needs) (search needs) (search needs) returns (search needs) loop-holds
-    read-coupling-requires (λ c. search needs) (λ c. search needs) (search needs) returns-2 (search needs) (λ c. search needs) (λ c. search needs)
-    loop-again returns-3)
+    (λ c κs. unfold couplingsIn in let start : tie.Start Inv-loop μ-loop = search in let there = reading-count (c .before .loop .inv .0) in
+    record { there = omega arith; behind = c .before .loop .inv .1; placed = start .pre })
+    (λ c. search needs) (λ c. search needs) (search needs) returns-2 (search needs) (λ c. search needs) (λ c. search needs)
+    loop-again
+    (λ c. unfold couplingSection in reading-ends (c .before .loop .inv .0) (c .loop-test .left)))

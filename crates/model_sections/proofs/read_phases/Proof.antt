@@ -31,6 +31,11 @@ Inv-loop components phase-counts rest-of-file announced count component-count to
 abbrev μ-loop : tie.MeasureT-loop
 μ-loop components phase-counts rest-of-file announced count component-count total head records i₀ c₀ i c = component-count - c
 
+-- The record at hand is one of those announced.
+below : (c : tie.In-loop2 Inv-loop2 μ-loop2 Inv-loop μ-loop) →
+    let count : tie.After-u16-to-usize Inv-loop2 μ-loop2 Inv-loop μ-loop = search in c .before .loop2 .i < count .u16-to-usize .result
+below c = standing-below (c .before .loop2 .inv .1) (c .loop2-test .taken) _ (reading-right (c .before .loop2 .inv .0))
+
 returns : tie.Need-returns Inv-loop2 μ-loop2 Inv-loop μ-loop
 unfolding phaseSection
 returns c =
@@ -54,27 +59,13 @@ loop-holds c =
       sym (before-none _),
     )
 
-element-copy-out-bound : tie.Need-element-copy-out-bound Inv-loop2 μ-loop2 Inv-loop μ-loop
-element-copy-out-bound c =
-    let start : tie.Start Inv-loop2 μ-loop2 Inv-loop μ-loop = search in
-    let there : tie.After-component-count Inv-loop2 μ-loop2 Inv-loop μ-loop = search in
-    omega (arith, there .component-count .ensures, start .pre .0 .few)
-
 loop2-holds : tie.Need-loop2-holds Inv-loop2 μ-loop2 Inv-loop μ-loop
 loop2-holds c =
     let start : tie.Start Inv-loop2 μ-loop2 Inv-loop μ-loop = search in
     let there : tie.After-component-count Inv-loop2 μ-loop2 Inv-loop μ-loop = search in
     let loop : tie.At-loop Inv-loop2 μ-loop2 Inv-loop μ-loop = search in let turn : tie.In-loop Inv-loop2 μ-loop2 Inv-loop μ-loop = search in
     let below : loop .loop .c < length (componentsIn (now (start .args .components))) = omega (arith, there .component-count .ensures, turn .loop-test .taken) in
-    (loop .loop .inv .0, standing-first (start .pre .1 .holds (loop .loop .c) below) (start .pre .0 .fit (loop .loop .c) below) (loop .loop .inv .2))
-
-read-phase-requires : tie.Need-read-phase-requires Inv-loop2 μ-loop2 Inv-loop μ-loop
-unfolding phasesIn
-read-phase-requires c κs =
-    let at = c .before .loop2 .inv .0 in
-    let there = reading-count at in
-    let below = standing-below (c .before .loop2 .inv .1) (c .loop2-test .taken) _ (reading-right at) in
-    omega arith
+    (loop .loop .inv .0, standing-first (start .pre .counted .holds (loop .loop .c) below) (start .pre .accepted .fit (loop .loop .c) below) (loop .loop .inv .2))
 
 returns-2 : tie.Need-returns-2 Inv-loop2 μ-loop2 Inv-loop μ-loop
 unfolding phasesIn phaseSection
@@ -84,19 +75,8 @@ returns-2 c =
     let read : tie.After-read-phase Inv-loop2 μ-loop2 Inv-loop μ-loop = search in
     let at = loop .loop2 .inv .0 in
     let phase = loop .loop2 .inv .1 in
-    reading-refused at (standing-below phase (turn .loop2-test .taken) _ (reading-right at)) _ (standing-checked phase (turn .loop2-test .taken) (phasesIn (now (part .section-part .result))) (read .read-phase .ensures)) (ap phaseRead (c .before .enum-told2 .given .1)) (c .refusal .ensures)
-
-add-i : tie.Need-add-i Inv-loop2 μ-loop2 Inv-loop μ-loop
-add-i c =
-    let count : tie.After-u16-to-usize Inv-loop2 μ-loop2 Inv-loop μ-loop = search in let loop : tie.At-loop2 Inv-loop2 μ-loop2 Inv-loop μ-loop = search in
-    let turn : tie.In-loop2 Inv-loop2 μ-loop2 Inv-loop μ-loop = search in
-    let below : loop .loop2 .i < count .u16-to-usize .result = standing-below (loop .loop2 .inv .1) (turn .loop2-test .taken) _ (reading-right (loop .loop2 .inv .0)) in
-    omega arith
-
-add-p : tie.Need-add-p Inv-loop2 μ-loop2 Inv-loop μ-loop
-add-p c =
-    let loop : tie.At-loop2 Inv-loop2 μ-loop2 Inv-loop μ-loop = search in let turn : tie.In-loop2 Inv-loop2 μ-loop2 Inv-loop μ-loop = search in
-    omega (arith, loop .loop2 .inv .1 .few, turn .loop2-test .taken)
+    reading-refused at (below turn) _ (standing-checked phase (turn .loop2-test .taken) (phasesIn (now (part .section-part .result))) (read .read-phase .ensures))
+    (ap phaseRead (c .before .enum-told2 .given .1)) (c .refusal .ensures)
 
 loop2-again : tie.Need-loop2-again Inv-loop2 μ-loop2 Inv-loop μ-loop
 unfolding phasesIn
@@ -105,11 +85,11 @@ loop2-again c =
     let loop : tie.At-loop2 Inv-loop2 μ-loop2 Inv-loop μ-loop = search in let turn : tie.In-loop2 Inv-loop2 μ-loop2 Inv-loop μ-loop = search in
     let read : tie.After-read-phase Inv-loop2 μ-loop2 Inv-loop μ-loop = search in
     let at = loop .loop2 .inv .0 in
-    let phase = loop .loop2 .inv .1 in
-    (reading-more at (standing-below phase (turn .loop2-test .taken) _ (reading-right at)) _ (standing-checked phase (turn .loop2-test .taken) (phasesIn (now (part .section-part .result))) (read .read-phase .ensures)) (ap phaseRead (c .enum-told .given .1)), standing-next phase (turn .loop2-test .taken))
-
-loop-again : tie.Need-loop-again Inv-loop2 μ-loop2 Inv-loop μ-loop
-loop-again c = (c .before .loop2 .inv .0, omega arith, standing-last (c .before .loop2 .inv .1) (c .loop2-test .left))
+    let phase = loop .loop2 .inv .1 in (
+      reading-more at (below turn) _ (standing-checked phase (turn .loop2-test .taken) (phasesIn (now (part .section-part .result))) (read .read-phase .ensures))
+          (ap phaseRead (c .enum-told .given .1)),
+      standing-next phase (turn .loop2-test .taken),
+    )
 
 returns-3 : tie.Need-returns-3 Inv-loop2 μ-loop2 Inv-loop μ-loop
 unfolding phaseSection
@@ -124,5 +104,14 @@ returns-3 c =
 pub read-phases-spec : {M : Type 1} → statement M
 read-phases-spec =
     tie.close (tie.spec Inv-loop2 μ-loop2 Inv-loop μ-loop (search needs) (search needs) (search needs) (λ c κs. search needs) (search needs)
-    (search needs) returns (search needs) loop-holds element-copy-out-bound loop2-holds read-phase-requires (λ c. search needs) (λ c. search needs)
-    (search needs) returns-2 add-i add-p (λ c. search needs) loop2-again (λ c. search needs) (λ c. search needs) loop-again returns-3)
+    (search needs) returns (search needs) loop-holds
+    (λ c. let start : tie.Start Inv-loop2 μ-loop2 Inv-loop μ-loop = search in let there : tie.After-component-count Inv-loop2 μ-loop2 Inv-loop μ-loop = search in
+    omega (arith, there .component-count .ensures, start .pre .accepted .few))
+    loop2-holds
+    (λ c κs. unfold phasesIn in let there = reading-count (c .before .loop2 .inv .0) in let one = below c in omega arith)
+    (λ c. search needs) (λ c. search needs) (search needs) returns-2
+    (λ c. let one = below search in omega arith)
+    (λ c. let loop : tie.At-loop2 Inv-loop2 μ-loop2 Inv-loop μ-loop = search in omega (arith, loop .loop2 .inv .1 .few))
+    (λ c. search needs) loop2-again (λ c. search needs) (λ c. search needs)
+    (λ c. (c .before .loop2 .inv .0, omega arith, standing-last (c .before .loop2 .inv .1) (c .loop2-test .left)))
+    returns-3)

@@ -32,13 +32,6 @@ loop-holds c =
     reading-starts (ruleForm _) _ (announced .u16-at .ensures) (count .u16-to-usize .ensures) (judged .limit-refusal .ensures) (head .head-number .ensures) (c .before .if1 .left)
     (c .section-part .ensures) (omega arith)
 
-read-rule-requires : tie.Need-read-rule-requires Inv-loop μ-loop
-unfolding rulesIn
-read-rule-requires c κs =
-    let start : tie.Start Inv-loop μ-loop = search in
-    let there = reading-count (c .before .loop .inv) in
-    (omega arith, start .pre)
-
 returns-2 : tie.Need-returns-2 Inv-loop μ-loop
 unfolding rulesIn ruleSection ruleFits
 returns-2 c =
@@ -53,11 +46,10 @@ loop-again c =
     let read : tie.After-read-rule Inv-loop μ-loop = search in
     reading-more (loop .loop .inv) (turn .loop-test .taken) _ (read .read-rule .ensures) (ap ruleRead (c .enum-told .given .1))
 
-returns-3 : tie.Need-returns-3 Inv-loop μ-loop
-unfolding ruleSection
-returns-3 c = reading-ends (c .before .loop .inv) (c .loop-test .left)
-
 pub read-rules-spec : {M : Type 1} → statement M
 read-rules-spec =
     tie.close (tie.spec Inv-loop μ-loop (search needs) (search needs) (search needs) (search needs) returns (search needs) loop-holds
-    read-rule-requires (λ c. search needs) (λ c. search needs) (search needs) returns-2 (λ c. search needs) (λ c. search needs) loop-again returns-3)
+    (λ c κs. unfold rulesIn in let start : tie.Start Inv-loop μ-loop = search in let there = reading-count (c .before .loop .inv) in
+    record { there = omega arith; known = start .pre })
+    (λ c. search needs) (λ c. search needs) (search needs) returns-2 (λ c. search needs) (λ c. search needs) loop-again
+    (λ c. unfold ruleSection in reading-ends (c .before .loop .inv) (c .loop-test .left)))
