@@ -6,7 +6,7 @@ ghost use Rattle.definition.specs.Limits.{maxComponents, maxRules};
 ghost use Rattle.definition.specs.Model.{atomics};
 ghost use Rattle.model_records.specs.Values.{componentOf, componentsIn, rulesIn};
 ghost use Rattle.spec_step.specs.Tables.{tableSize};
-ghost use Rattle.table_words.specs.Writes.{column};
+ghost use Rattle.table_words.specs.Writes.{column, putIn};
 ghost use Rattle.table_components.specs.Columns.{fieldOf, fieldAt, fieldsBefore, numberAt, numbered, ruleNames, ruleStarts, ruleEnds, byComponent, byRule, byParent};
 use limits::MAX_COMPONENTS;
 use limits::RULE_SIZE;
@@ -133,12 +133,13 @@ pub fn fill_components(components: &[u8], t: &mut [u16])
     put_fields(components, Field::Parent, PARENTS_AT, t);
 }
 
-// The component that rule i names.
-fn rule_name(rules: &[u8], i: u16) -> u8
-    requires { ⌜ i < length (rulesIn (now rules)) ⌝ }
-    ensures { λ r. ⌜ r ≡ ruleNames (rulesIn (now (rules .entry))) i ⌝ }
+// The row of the component that rule i names holds v, where the region has such a row.
+fn put_named(t: &mut [u16], at: usize, rules: &[u8], i: u16, v: u16)
+    requires { ⌜ (i < length (rulesIn (now rules))) × (at + maxComponents ≤ length (now t)) ⌝ }
+    ensures { λ _. ⌜ now (t .exit) ≡ putIn at maxComponents (ruleNames (rulesIn (now (rules .entry))) i) v (now (t .entry)) ⌝ }
 {
-    little_endian::byte_at(rules, RULE_SIZE * widen::u16_to_usize(i))
+    let c = little_endian::byte_at(rules, RULE_SIZE * widen::u16_to_usize(i));
+    table_words::put_in(t, at, MAX_COMPONENTS, widen::u8_to_usize(c), v);
 }
 
 fn rule_word(rules: &[u8]) -> u16
@@ -155,13 +156,7 @@ fn put_rule_starts(rules: &[u8], t: &mut [u16])
     let mut i = rule_word(rules);
     while 0 < i {
         i = i - 1;
-        table_words::put_in(
-            t,
-            RULES_FROM_AT,
-            MAX_COMPONENTS,
-            widen::u8_to_usize(rule_name(rules, i)),
-            i,
-        );
+        put_named(t, RULES_FROM_AT, rules, i, i);
     }
 }
 
@@ -172,13 +167,7 @@ fn put_rule_ends(rules: &[u8], t: &mut [u16])
     let n = rule_word(rules);
     let mut i: u16 = 0;
     while i < n {
-        table_words::put_in(
-            t,
-            RULES_TO_AT,
-            MAX_COMPONENTS,
-            widen::u8_to_usize(rule_name(rules, i)),
-            i + 1,
-        );
+        put_named(t, RULES_TO_AT, rules, i, i + 1);
         i = i + 1;
     }
 }
