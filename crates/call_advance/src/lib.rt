@@ -17,12 +17,14 @@ use limits::BAD_MOMENT;
 use limits::MAX_MOMENT;
 use limits::MESSAGES_IN;
 use limits::RUN_DOES_NOT_FIT;
-use little_endian::size;
 use model_file::Checked;
 use model_file::Counts;
 use run_state::STATE_SIZE;
 use table_words::TABLE_SIZE;
 use table_words::atomics_in;
+use widen::u8_to_usize;
+use widen::u16_to_u64;
+use widen::usize_to_u64;
 
 // A route carries at most 16 messages into an atomic. A model with few routes, as most have, gets a small buffer, so that a short call does
 // not pay for filling a large one with zeros.
@@ -31,12 +33,6 @@ const FEW_ROUTES: u16 = 64;
 const FEW_WORDS: usize = MESSAGES_IN * 64;
 
 const MOST_WORDS: usize = MESSAGES_IN * 1024;
-
-fn wide16(x: u16) -> u64
-    ensures { λ r. ⌜ r ≡ x ⌝ }
-{
-    x as u64
-}
 
 // A call refused before any instant: its number and zeros.
 fn refused(number: u64) -> Advanced
@@ -65,7 +61,7 @@ fn advance_let_in(
     ensures { λ r. ⌜ advancedOf (now (run .exit)) (now (trace .exit)) r ≡ advance (now (file .entry)) (now (run .entry)) (t .0) (now (bag .entry)) (now (trace .entry)) ⌝ }
 {
     let mut state = [0u64; STATE_SIZE];
-    run_saved::load(run, size(atomics_in(tables)), &mut state);
+    run_saved::load(run, u8_to_usize(atomics_in(tables)), &mut state);
     let phases = model_file::phases_of(file, n);
     let rules = model_file::rules_of(file, n);
     let r = advance_from(phases, rules, tables, run, &mut state, t, bag, work, trace);
@@ -73,7 +69,7 @@ fn advance_let_in(
         number: r.number,
         instants: r.instants,
         steps: r.steps,
-        trace_bytes: r.used as u64,
+        trace_bytes: usize_to_u64(r.used),
     }
 }
 
@@ -161,7 +157,7 @@ pub fn advance(file: &[u8], run: &mut [u8], t: u64, bag: &[u8], trace: &mut [u8]
     let counted = accept_tables::open_model(file, &mut tables);
     let checked = counted.checked;
     let Checked::Accepted(n) = checked else {
-        return refused(wide16(checked.refusal()));
+        return refused(u16_to_u64(checked.refusal()));
     };
     advance_accepted(file, n, counted.routes, &tables, run, t, bag, trace)
 }

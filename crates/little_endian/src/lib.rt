@@ -5,13 +5,6 @@ ghost use lib.ListN.{length, drop, take};
 ghost use lib.Seq.{sets};
 ghost use Rattle.definition.specs.Bytes.{numberAt, bytesOf};
 
-// A byte as a position.
-pub fn size(x: u8) -> usize
-    ensures { λ r. ⌜ r ≡ x ⌝ }
-{
-    x as usize
-}
-
 // The rest of a slice from a position on; nothing past the end.
 pub fn rest<'a>(s: &'a [u8], at: usize) -> &'a [u8]
     ensures { λ r. ⌜ now r ≡ drop at (now (s .entry)) ⌝ }

@@ -21,7 +21,7 @@ known-bag f = search
 abbrev counted : tie.After-load → tie.After-atomics-in
 counted f = search
 
-abbrev sized : tie.After-load → tie.After-size
+abbrev sized : tie.After-load → tie.After-u8-to-usize
 sized f = search
 
 bytes : (f : tie.After-load) (i : ℕ) → getD (start-of f .args .file .now) i 0 < 256
@@ -36,8 +36,8 @@ atomics-in-requires c κs =
 
 load-requires : tie.Need-load-requires
 load-requires c κs =
-    let start : tie.Start = search in let size : tie.After-size = search in let count : tie.After-atomics-in = search in
-    rw (size .size .ensures, count .atomics-in .ensures) (start .pre .0 .tabled .in-range .atomics)
+    let start : tie.Start = search in let size : tie.After-u8-to-usize = search in let count : tie.After-atomics-in = search in
+    rw (size .u8-to-usize .ensures, count .atomics-in .ensures) (start .pre .0 .tabled .in-range .atomics)
 
 advance-from-requires : tie.Need-advance-from-requires
 advance-from-requires c κs =
@@ -52,7 +52,7 @@ returns c =
     let f : tie.After-load = search in
     let a = start-of f .args in
     let q = start-of f .pre .0 in
-    let count = sized f .size .ensures ∙ counted f .atomics-in .ensures in
+    let count = sized f .u8-to-usize .ensures ∙ counted f .atomics-in .ensures in
     let loaded = rw count at (f .load .ensures) in
     done .advance-from .ensures
     ∙ call-parts (a .file .now) (a .n) (bytes f) (q .model) (a .run .now) (a .t .0) (a .bag .now) (q .checks) (a .tables .now) (q .tabled) (a .trace .now)
