@@ -25,7 +25,7 @@ use Rattle.table_couplings.specs.declared.End.the-variants.{Target}
 use Rattle.table_couplings.specs.Links.{linkEnd, Held, begun, zeros}
 use Rattle.table_couplings.proofs.Nodes.{on-nodes}
 use Rattle.accept_routes.specs.Routed.{Linked}
-use Rattle.law_routes.specs.Ways.{waysCap, Counted, Placed, tableRoutes}
+use Rattle.law_routes.specs.Ways.{waysCap, WaysCounted, Placed, tableRoutes}
 use Rattle.law_routes.proofs.Placed.{rising, coupled-parents}
 use Rattle.law_routes.proofs.Total.{routes-counted, over-limit}
 
@@ -69,7 +69,7 @@ decode-placed s m e =
     )
 
 -- The table tells whether there are too many routes.
-pub routes-told : (m : Model) (table : List ℕ) (total : ℕ) → Placed (m .components) (m .couplings) → Counted (m .components) (m .couplings) table
+pub routes-told : (m : Model) (table : List ℕ) (total : ℕ) → Placed (m .components) (m .couplings) → WaysCounted (m .components) (m .couplings) table
     → total ≡ min waysCap (tableRoutes (m .components) table) → ltb maxRoutes total ≡ ltb maxRoutes (length (routes m))
 routes-told m table total p h e =
     ap (ltb maxRoutes) e
@@ -92,14 +92,14 @@ module _ (file : Bytes) (n : N.Counts) (e : decode file ≡ ok (modelOf file n))
       record { ends = k .0; begins = k .1 ∙ ap (begun (componentsIn (componentsPart file n)) (couplingsIn (couplingsPart file n))) z; nodes = on-nodes (componentsIn (componentsPart file n)) (couplingsIn (couplingsPart file n)) (w .0 .couplings) (w .1) }
 
   -- The check's last line, by the table.
-  pub parts-told : (table : List ℕ) (total : ℕ) (b : Bool) → Counted (componentsIn (componentsPart file n)) (couplingsIn (couplingsPart file n)) table
+  pub parts-told : (table : List ℕ) (total : ℕ) (b : Bool) → WaysCounted (componentsIn (componentsPart file n)) (couplingsIn (couplingsPart file n)) table
       → total ≡ min waysCap (tableRoutes (componentsIn (componentsPart file n)) table) → ltb maxRoutes total ≡ b
       → accepted file ≡ (refuseIf b 9 >>= λ _. ok (modelOf file n))
   unfolding accepted modelOf modelIn
   parts-told table total b h t f = rw (e, ← routes-told (modelOf file n) table total (parts-placed .0) h t, f)
 
   -- The number of routes of an accepted model.
-  pub parts-routes : (table : List ℕ) (total : ℕ) → Counted (componentsIn (componentsPart file n)) (couplingsIn (couplingsPart file n)) table
+  pub parts-routes : (table : List ℕ) (total : ℕ) → WaysCounted (componentsIn (componentsPart file n)) (couplingsIn (couplingsPart file n)) table
       → total ≡ min waysCap (tableRoutes (componentsIn (componentsPart file n)) table) → total ≤ maxRoutes → length (routes (modelOf file n)) ≡ total
   unfolding modelOf modelIn
   parts-routes table total h t l =

@@ -61,7 +61,7 @@ fn route_total(components: &[u8], ways: &[u16; MAX_NODES]) -> u16
 }
 
 // The whole check of a model file, and the number of routes where it is accepted.
-pub struct Counted {
+pub struct RoutesCounted {
     pub checked: Checked,
     pub routes: u16,
 }
@@ -71,14 +71,14 @@ pub fn check_routes(
     file: &[u8],
     tables: &mut [u16; TABLE_SIZE],
     targets: &mut [u16; LINKS],
-) -> Counted
+) -> RoutesCounted
     requires { ⌜ (now tables ≡ zeros) × (length (now targets) ≡ maxCouplings + 1) ⌝ }
     ensures { λ r. ⌜ (checkedAs (now (file .entry)) (r .checked) ≡ accepted (now (file .entry))) × Routed (now (file .entry)) (r .checked) (r .routes)
         × LinkedBy (now (file .entry)) (r .checked) (now (targets .exit)) (now (tables .exit)) ⌝ }
 {
     let read = model_file::decode_model(file);
     let Checked::Accepted(n) = read else {
-        return Counted {
+        return RoutesCounted {
             checked: Checked::Refused(read.refusal()),
             routes: 0,
         };
@@ -90,12 +90,12 @@ pub fn check_routes(
     accept_ways::count_ways(components, couplings, tables, targets, &mut ways);
     let routes = route_total(components, &ways);
     if MAX_ROUTES < routes {
-        return Counted {
+        return RoutesCounted {
             checked: Checked::Refused(TOO_MANY_ROUTES),
             routes: 0,
         };
     }
-    Counted {
+    RoutesCounted {
         checked: Checked::Accepted(n),
         routes,
     }

@@ -7,7 +7,7 @@ ghost use Rattle.table_couplings.specs.Links.{zeros};
 ghost use Rattle.accept_routes.specs.Routed.{Routed, Linked};
 ghost use Rattle.spec_step.specs.TablesOf.{TablesOf};
 ghost use Rattle.accept_tables.specs.Opened.{Opened};
-use accept_routes::Counted;
+use accept_routes::RoutesCounted;
 use model_file::Checked;
 use model_file::Counts;
 use table_words::LINKS;
@@ -28,7 +28,7 @@ fn fill(file: &[u8], n: Counts, targets: &[u16; LINKS], tables: &mut [u16; TABLE
 }
 
 // The tables are lent as zeros.
-pub fn open_model(file: &[u8], tables: &mut [u16; TABLE_SIZE]) -> Counted
+pub fn open_model(file: &[u8], tables: &mut [u16; TABLE_SIZE]) -> RoutesCounted
     requires { ⌜ now tables ≡ zeros ⌝ }
     ensures { λ r. ⌜ (checkedAs (now (file .entry)) (r .checked) ≡ accepted (now (file .entry))) × Routed (now (file .entry)) (r .checked) (r .routes)
         × Opened (now (file .entry)) (r .checked) (now (tables .exit)) ⌝ }

@@ -10,7 +10,7 @@ use lib.ListN.{length, getD}
 use Rattle.definition.specs.Limits.{maxComponents}
 use Rattle.definition.specs.Model.{Component, Coupling, noCoupling, isChild}
 use Rattle.law_routes.specs.Nodes.{portNodes, sourceNumber, targetNumber}
-use Rattle.law_routes.specs.Ways.{endAt, Counted, Placed}
+use Rattle.law_routes.specs.Ways.{endAt, WaysCounted, Placed}
 use Rattle.law_routes.specs.Taken.{taken, takenDown, takenUp, Filled, downFrom, upTo}
 use Rattle.law_routes.proofs.Placed.{kept-at}
 use Rattle.law_model.proofs.WellFormed.{Kept}
@@ -80,7 +80,7 @@ module _ (cs : List Component) (ks : List Coupling) (p : Placed cs ks) (targets 
       (down-turn cs ks (p .components) (p .couplings) ways j (omega arith) room (subst (λ i. Filled cs ks (downFrom cs ks i) ways) (sym e) f)))
 
   ups : (m i : ℕ) (ways : List ℕ) → i + m ≡ length ks → portNodes * length cs ≤ length ways → Filled cs ks (upTo cs ks i) ways
-      → Counted cs ks (waysUp src tgt m (i + 1) ways)
+      → WaysCounted cs ks (waysUp src tgt m (i + 1) ways)
   unfolding waysUp
   ups zero i ways e room f = up-end cs ks (p .components) (p .couplings) ways i (omega arith) f
   ups (suc m) i ways e room f =
@@ -90,7 +90,7 @@ module _ (cs : List Component) (ks : List Coupling) (p : Placed cs ks) (targets 
 
   -- both passes, from the ends alone
   pub ways-counted : length cs ≤ maxComponents → (ways : List ℕ) → length ways ≡ portNodes * maxComponents
-      → Counted cs ks (waysUp src tgt (length ks) 1 (waysDown src tgt (length ks) (column 0 (endAt cs) (portNodes * length cs) 0 ways)))
+      → WaysCounted cs ks (waysUp src tgt (length ks) 1 (waysDown src tgt (length ks) (column 0 (endAt cs) (portNodes * length cs) 0 ways)))
   ways-counted few ways long =
       let m = portNodes * length cs in
       let begin = column 0 (endAt cs) m 0 ways in

@@ -5,7 +5,7 @@ ghost use Prim.Native.Nat.{_+_, _*_, _<_, _≤_, min};
 ghost use lib.ListN.{length, getD};
 ghost use Rattle.definition.specs.Limits.{maxComponents, maxCouplings};
 ghost use Rattle.model_records.specs.Values.{componentsIn, couplingsIn};
-ghost use Rattle.law_routes.specs.Ways.{waysCap, Counted, Placed};
+ghost use Rattle.law_routes.specs.Ways.{waysCap, WaysCounted, Placed};
 ghost use Rattle.spec_step.specs.Tables.{portNodes, isOutput};
 ghost use Rattle.table_couplings.specs.Links.{sourceIn, OnNodes, Joined};
 ghost use Rattle.accept_ways.specs.Words.{linkTaken, linkOn, waysDown, waysUp};
@@ -111,7 +111,7 @@ pub fn count_ways(
 )
     requires { ⌜ (length (componentsIn (now components)) ≤ maxComponents) × (length (couplingsIn (now couplings)) ≤ maxCouplings) × (length (now ways) ≡ portNodes * maxComponents)
         × Placed (componentsIn (now components)) (couplingsIn (now couplings)) × Joined (componentsIn (now components)) (couplingsIn (now couplings)) (now targets) (now tables) ⌝ }
-    ensures { λ _. ⌜ Counted (componentsIn (now (components .entry))) (couplingsIn (now (couplings .entry))) (now (ways .exit)) ⌝ }
+    ensures { λ _. ⌜ WaysCounted (componentsIn (now (components .entry))) (couplingsIn (now (couplings .entry))) (now (ways .exit)) ⌝ }
 {
     table_couplings::mark_ports(components, false, 0, ways);
     let n = model_records::coupling_count(couplings);

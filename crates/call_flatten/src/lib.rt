@@ -4,7 +4,7 @@ ghost use lib.ListN.{length};
 ghost use Rattle.definition.specs.Flatten.{flatten};
 ghost use Rattle.call_answers.specs.Answers.{wroteOf};
 ghost use Rattle.call_flatten.specs.Found.{CanFlatten, FlatFound};
-use accept_routes::Counted;
+use accept_routes::RoutesCounted;
 use call_answers::Written;
 use limits::BUFFER_TOO_SHORT;
 use model_file::Checked;
@@ -83,7 +83,7 @@ pub fn flatten(file: &[u8], out: &mut [u8]) -> Written
     ensures { λ r. ⌜ wroteOf (now (out .exit)) r ≡ flatten (now (file .entry)) (now (out .entry)) ⌝ }
 {
     let mut tables = [0u16; TABLE_SIZE];
-    let counted: Counted = accept_tables::open_model(file, &mut tables);
+    let counted: RoutesCounted = accept_tables::open_model(file, &mut tables);
     let checked = counted.checked;
     let Checked::Accepted(n) = checked else {
         return Written {

@@ -5,7 +5,7 @@ ghost use Rattle.definition.specs.Engine.{dueNumber, reading};
 ghost use Rattle.model_file.specs.Checked.{modelOf};
 ghost use Rattle.call_answers.specs.Answers.{readOf};
 ghost use Rattle.call_read.specs.Opened.{ModelOpened, RunOpened};
-use accept_routes::Counted;
+use accept_routes::RoutesCounted;
 use call_answers::Reading;
 use clock::Moment;
 use limits::BAD_POSITION;
@@ -73,7 +73,7 @@ pub fn read(file: &[u8], run: &[u8], position: u64) -> Reading
     ensures { λ r. ⌜ readOf r ≡ reading (now (file .entry)) (now (run .entry)) position ⌝ }
 {
     let mut tables = [0u16; TABLE_SIZE];
-    let counted: Counted = accept_tables::open_model(file, &mut tables);
+    let counted: RoutesCounted = accept_tables::open_model(file, &mut tables);
     let checked = counted.checked;
     let Checked::Accepted(n) = checked else {
         return refused(widen::u16_to_u64(checked.refusal()));

@@ -38,7 +38,7 @@ pub record Room (p : Progress) (trace : ℕ) : Type 0 where
   pub steps : p .steps + maxSteps ≤ latest
 
 -- An instant of so many steps, its records of so many bytes, can be counted.
-pub record Counted (now : ℕ) (p : Progress) (more size : ℕ) : Type 0 where
+pub record Countable (now : ℕ) (p : Progress) (more size : ℕ) : Type 0 where
   pub moment : now < latest
   pub instants : p .instants < latest
   pub steps : p .steps + more ≤ latest

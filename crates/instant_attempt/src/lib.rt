@@ -4,7 +4,7 @@ ghost use Prim.Native.Nat.{_+_, _≤_};
 ghost use lib.ListN.{length, take};
 ghost use lib.Seq.{sets};
 ghost use Rattle.instant_steps.specs.Sim.{instantOf};
-ghost use Rattle.instant_attempt.specs.Progress.{Counted, CanTry, Tried};
+ghost use Rattle.instant_attempt.specs.Progress.{Countable, CanTry, Tried};
 ghost use Rattle.instant_attempt.specs.Pass.{hindranceOf, afterOf, endedBy, Passed};
 use clock::Moment;
 use instant_steps::Ran;
@@ -51,7 +51,7 @@ fn hindrance(room: usize, ran: Ran) -> u64
 // The progress with an instant of so many steps, its records of so many bytes. "A moment without a step is no instant and is not
 // counted."
 fn after(at: Moment, p: Progress, steps: u64, size: usize) -> Progress
-    requires { ⌜ Counted (at .0) p steps size ⌝ }
+    requires { ⌜ Countable (at .0) p steps size ⌝ }
     ensures { λ r. ⌜ r ≡ afterOf (at .0) p steps size ⌝ }
 {
     if steps == 0 {
@@ -68,7 +68,7 @@ fn after(at: Moment, p: Progress, steps: u64, size: usize) -> Progress
 
 // Where an instant ends, by its first pass and the bytes that the trace has left.
 fn ended_by(room: usize, turn: Turn, ran: Ran) -> Ended
-    requires { ⌜ Counted (turn .at .0) (turn .progress) (ran .steps) room ⌝ }
+    requires { ⌜ Countable (turn .at .0) (turn .progress) (ran .steps) room ⌝ }
     ensures { λ r. ⌜ r ≡ endedBy room (turn .at .0) (turn .progress) ran ⌝ }
 {
     let p = turn.progress;

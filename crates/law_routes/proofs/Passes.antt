@@ -16,7 +16,7 @@ use Rattle.definition.specs.Model.{Component, Coupling, noCoupling, isChild}
 use Rattle.definition.specs.Pinned.Decoder.{componentFits, couplingFits}
 use Rattle.law_base.proofs.Sums.{sumOf, sum-add, sum-zero, sum-cong, if-zero}
 use Rattle.law_routes.specs.Nodes.{portNodes, inputNode, outputNode, sourceNumber, targetNumber}
-use Rattle.law_routes.specs.Ways.{waysOn, endAt, waysCap, Counted, Rising}
+use Rattle.law_routes.specs.Ways.{waysOn, endAt, waysCap, WaysCounted, Rising}
 use Rattle.law_routes.specs.Taken.{taken, takenDown, takenUp, gain, Filled, leadsDown, downFrom, upTo}
 use Rattle.law_routes.proofs.Counts.{sum-pick}
 use Rattle.law_routes.proofs.Routed.{up-cong}
@@ -89,7 +89,7 @@ module _ (cs : List Component) (ks : List Coupling) (fit : (i : ℕ) → i < len
       each j l true e = rw (h j l e)
       each j l false e = if-zero (done j)
 
-  filled-all : (done : ℕ → Bool) (table : List ℕ) → ((j : ℕ) → j < length ks → done j ≡ true) → Filled cs ks done table → Counted cs ks table
+  filled-all : (done : ℕ → Bool) (table : List ℕ) → ((j : ℕ) → j < length ks → done j ≡ true) → Filled cs ks done table → WaysCounted cs ks table
   filled-all done table h p x l = p x l ∙ ap (min waysCap) (settled done x l (λ j b e. h j b))
 
   -- one coupling taken
@@ -217,7 +217,7 @@ module _ (cs : List Component) (ks : List Coupling) (fit : (i : ℕ) → i < len
       each j true u = let v = eqb-true j i u in let w : leadsDown cs ks j ≡ true = ap (leadsDown cs ks) v ∙ e in rw w
       each j false u = ap (λ b. leadsDown cs ks j || b) (sym (ltb-step i j (eqb-false j i u)))
 
-  pub up-end : (table : List ℕ) (i : ℕ) → length ks ≤ i → Filled cs ks (upTo cs ks i) table → Counted cs ks table
+  pub up-end : (table : List ℕ) (i : ℕ) → length ks ≤ i → Filled cs ks (upTo cs ks i) table → WaysCounted cs ks table
   up-end table i h p = filled-all (upTo cs ks i) table (λ j l. rw (lt-ltb j i (omega arith)) (or-true (leadsDown cs ks j))) p
 
   -- ---- the couplings in their turns

@@ -15,7 +15,7 @@ use Rattle.definition.specs.Model.{Component, Coupling, Model, isAtomic, isChil
 use Rattle.definition.specs.Routes.{routes}
 use Rattle.law_base.proofs.Sums.{sumOf}
 use Rattle.law_routes.specs.Nodes.{inputNode, outputNode}
-use Rattle.law_routes.specs.Ways.{down, up, waysCap, Counted, Rising, four, tableRoutes}
+use Rattle.law_routes.specs.Ways.{down, up, waysCap, WaysCounted, Rising, four, tableRoutes}
 use Rattle.law_routes.proofs.Routed.{ports, count-routes}
 use Rattle.law_routes.proofs.PortNodes.{ways-input, ways-output}
 
@@ -42,7 +42,7 @@ unfolding sumOf upFrom
 min-over f g k zero h = refl
 min-over f g k (suc n) h = omega (arith, h k (omega arith), min-over f g (suc k) n (λ c l. h c (omega arith)))
 
-module _ (cs : List Component) (ks : List Coupling) (table : List ℕ) (counted : Counted cs ks table) where
+module _ (cs : List Component) (ks : List Coupling) (table : List ℕ) (counted : WaysCounted cs ks table) where
   at-input : (c q : ℕ) → c < length cs → q < 4 → getD table (8 * c + q) 0 ≡ min waysCap (down cs ks c q)
   unfolding inputNode
   at-input c q l h = counted (8 * c + q) (omega arith) ∙ ap (min waysCap) (ways-input cs ks c q h)
@@ -67,7 +67,7 @@ module _ (cs : List Component) (ks : List Coupling) (table : List ℕ) (counted 
 -- The table's number of routes is the model's, up to the cap.
 pub routes-counted : (m : Model) (table : List ℕ) → 0 < length (m .components) → Rising (m .components)
     → ((c d : ℕ) → isChild (m .components) c d ≡ true → d < length (m .components) → isAtomic (m .components) c ≡ false)
-    → Counted (m .components) (m .couplings) table
+    → WaysCounted (m .components) (m .couplings) table
     → min waysCap (tableRoutes (m .components) table) ≡ min waysCap (length (routes m))
 unfolding tableRoutes
 routes-counted m table l r p h = rw (count-routes m r p l) (omega (arith, roots, atoms))

@@ -49,8 +49,8 @@ abbrev pub waysCap : ℕ
 waysCap = suc maxRoutes
 
 -- The table has the count of every port.
-abbrev pub Counted : List Component → List Coupling → List ℕ → Type 0
-Counted cs ks table = (x : ℕ) → x < portNodes * length cs → getD table x 0 ≡ min waysCap (waysOn cs ks x)
+abbrev pub WaysCounted : List Component → List Coupling → List ℕ → Type 0
+WaysCounted cs ks table = (x : ℕ) → x < portNodes * length cs → getD table x 0 ≡ min waysCap (waysOn cs ks x)
 
 -- The four entries from a place on.
 unfoldable pub four : List ℕ → ℕ → ℕ

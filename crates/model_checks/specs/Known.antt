@@ -72,7 +72,7 @@ pub record Keeps (k : Component) (i : ℕ) (parents counts depths parents' count
 
 -- ---- all components
 
-pub record Counted (cs : List Component) (counts : List ℕ) : Type 0 where
+pub record CountsKnown (cs : List Component) (counts : List ℕ) : Type 0 where
   pub accepted : Accepted cs (length cs)
   pub counted : PhaseCounts cs (length cs) counts
 
@@ -91,7 +91,7 @@ pub record EndsThere (cs : List Component) (source target : ℕ) (parents : List
 -- Rule i is the next to be read, and the phase counts of all components are known.
 pub record NextRule (cs : List Component) (counts : List ℕ) (rules : List Rule) (i : ℕ) : Type 0 where
   pub there : i < length rules
-  pub known : Counted cs counts
+  pub known : CountsKnown cs counts
 
 -- The key of the row before row i; the lowest key before the first.
 abbrev pub Behind : List Coupling → ℕ → ℕ → Type 0

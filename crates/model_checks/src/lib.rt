@@ -9,7 +9,7 @@ ghost use Rattle.definition.specs.Limits.{maxOutputs};
 ghost use Rattle.definition.specs.Pinned.Decoder.{kindFields, advanceFits, ruleFields, couplingFields};
 ghost use Rattle.model_records.specs.Values.{componentOf, ruleOf, couplingOf, componentsIn, phasesIn, rulesIn, couplingsIn};
 ghost use Rattle.model_checks.specs.Reads.{couplingOfKey, componentRead, phaseRead, ruleRead, couplingRead, componentAsked, phaseAsked, ruleAsked, couplingAsked};
-ghost use Rattle.model_checks.specs.Known.{Room, fitsBehind, Next, Keepable, Keeps, Counted, Placed, NextRule, NextRow};
+ghost use Rattle.model_checks.specs.Known.{Room, fitsBehind, Next, Keepable, Keeps, CountsKnown, Placed, NextRule, NextRow};
 
 mod kinship;
 mod phase_slots;
@@ -207,7 +207,7 @@ pub fn read_phase(phases: &[u8], i: usize, bound: u8) -> PhaseRead
 // Whether the component is atomic needs no test of its own: all components are accepted, so that a coupled one has no phase, and the
 // rule's phase lies below the component's phase count.
 fn rule_fields(components: &[u8], phase_counts: &[u8; MAX_COMPONENTS], rule: Rule) -> bool
-    requires { ⌜ Counted (componentsIn (now components)) (now «phase_counts») ⌝ }
+    requires { ⌜ CountsKnown (componentsIn (now components)) (now «phase_counts») ⌝ }
     ensures { λ r. ⌜ r ≡ ruleFields (componentsIn (now (components .entry))) (ruleOf rule) ⌝ }
 {
     let component = u8_to_usize(rule.component);

@@ -10,7 +10,7 @@ use Rattle.definition.specs.Model.{Component}
 use Rattle.definition.specs.Pinned.Decoder.{Section, toComponent, componentSection}
 use Rattle.law_bytes.specs.Parts.{recordsIn, partOf, restAfter}
 use Rattle.model_records.specs.Values.{componentsIn}
-use Rattle.model_checks.specs.Known.{Counted, Placed}
+use Rattle.model_checks.specs.Known.{CountsKnown, Placed}
 use Rattle.model_sections.specs.declared.SectionRead as S
 use Rattle.model_sections.specs.declared.SectionRead.the-variants as SV
 
@@ -31,7 +31,7 @@ pub record Room (parents counts : List ℕ) : Type 0 where
 -- What the arrays hold of all components of an accepted section,
 pub record AllKnown (cs : List Component) (parents counts : List ℕ) : Type 0 where
   pub placed : Placed cs parents
-  pub counted : Counted cs counts
+  pub counted : CountsKnown cs counts
 
 -- and so after an answer.
 abbrev pub Learnt : Bytes → S.SectionRead → List ℕ → List ℕ → Type 0

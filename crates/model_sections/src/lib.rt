@@ -10,7 +10,7 @@ ghost use Rattle.definition.specs.Pinned.Decoder.{componentCountRefusal, phaseC
 ghost use Rattle.definition.specs.Pinned.Decoder.{phaseSection, ruleSection, couplingSection};
 ghost use Rattle.law_bytes.specs.Parts.{partOf, restAfter};
 ghost use Rattle.model_records.specs.Values.{componentsIn};
-ghost use Rattle.model_checks.specs.Known.{Counted, Placed};
+ghost use Rattle.model_checks.specs.Known.{CountsKnown, Placed};
 ghost use Rattle.model_sections.specs.Answers.{sectionRead, sectionNumber, Room, ComponentsRead};
 use limits::COMPONENT_SIZE;
 use limits::COUNT_LIMIT;
@@ -160,7 +160,7 @@ pub fn read_components(
 
 // The sum of the phase counts.
 fn phase_total(components: &[u8], phase_counts: &[u8; MAX_COMPONENTS]) -> usize
-    requires { ⌜ Counted (componentsIn (now components)) (now «phase_counts») ⌝ }
+    requires { ⌜ CountsKnown (componentsIn (now components)) (now «phase_counts») ⌝ }
     ensures { λ r. ⌜ r ≡ phaseTotal (componentsIn (now (components .entry))) ⌝ }
 {
     let component_count = model_records::component_count(components);
@@ -179,7 +179,7 @@ pub fn read_phases(
     phase_counts: &[u8; MAX_COMPONENTS],
     rest_of_file: &[u8],
 ) -> SectionRead
-    requires { ⌜ Counted (componentsIn (now components)) (now «phase_counts») ⌝ }
+    requires { ⌜ CountsKnown (componentsIn (now components)) (now «phase_counts») ⌝ }
     ensures { λ r. ⌜ sectionRead phaseSize toPhase (now («rest_of_file» .entry)) r
         ≡ phaseSection (componentsIn (now (components .entry))) (now («rest_of_file» .entry)) ⌝ }
 {
@@ -215,7 +215,7 @@ pub fn read_rules(
     phase_counts: &[u8; MAX_COMPONENTS],
     rest_of_file: &[u8],
 ) -> SectionRead
-    requires { ⌜ Counted (componentsIn (now components)) (now «phase_counts») ⌝ }
+    requires { ⌜ CountsKnown (componentsIn (now components)) (now «phase_counts») ⌝ }
     ensures { λ r. ⌜ sectionRead ruleSize toRule (now («rest_of_file» .entry)) r
         ≡ ruleSection (componentsIn (now (components .entry))) (now («rest_of_file» .entry)) ⌝ }
 {

@@ -7,7 +7,7 @@ use denote.Ref.{now}
 use lib.ListN.{length, getD}
 use Rattle.model_records.specs.Values.{componentsIn, couplingsIn}
 use Rattle.law_routes.specs.Nodes.{portNodes}
-use Rattle.law_routes.specs.Ways.{endAt, Counted}
+use Rattle.law_routes.specs.Ways.{endAt, WaysCounted}
 use Rattle.table_words.specs.Writes.{column}
 use Rattle.table_couplings.specs.Links.{sourceIn}
 use Rattle.accept_ways.specs.Words.{waysDown, waysUp}
@@ -43,7 +43,7 @@ returns c =
     let both : ℕ → List ℕ → List ℕ = λ n ways. waysUp src tgt n 1 (waysDown src tgt n ways) in
     let e = c .ways-up .ensures ∙ ap (waysUp src tgt n 1) (after-ways-down .ways-down .ensures ∙ ap (waysDown src tgt n) (after-mark-ports .mark-ports .ensures))
     ∙ ap (λ n. both n (column 0 (endAt cs) (portNodes * length cs) 0 (now (a .ways)))) (after-coupling-count .coupling-count .ensures) in
-    subst (Counted cs ks) (sym e) (ways-counted cs ks (p .3) (now (a .targets)) (now (a .tables)) (p .4) (p .0) (now (a .ways)) (p .2))
+    subst (WaysCounted cs ks) (sym e) (ways-counted cs ks (p .3) (now (a .targets)) (now (a .tables)) (p .4) (p .0) (now (a .ways)) (p .2))
 
 pub count-ways-spec : {M : Type 1} → statement M
 count-ways-spec = tie.close (tie.spec (λ c κs. search needs) (λ c κs. search needs) ways-down-requires ways-up-requires returns)
