@@ -19,6 +19,11 @@ use Rattle.flat_writer.specs.Written.{ruleBy}
 
 -- ---- records one after the other, each of `size` bytes
 
+-- The first i stand: those left, stored behind them, give the whole.
+pub record Standing {A : Type 0} (size : ℕ) (bytes : A → Bytes) (xs : List A) (at : ℕ) (b : Bytes) (i : ℕ) (out : Bytes) : Type 0 where
+  pub long : length out ≡ length b
+  pub left : sets out (at + size * i) (concat (map bytes (drop i xs))) ≡ sets b at (concat (map bytes xs))
+
 module _ {A : Type 0} (size : ℕ) (bytes : A → Bytes) (sized : (x : A) → length (bytes x) ≡ size) where
   -- one more
   pub records-more : (xs : List A) (i at : ℕ) (d : A) (b : Bytes) → i < length xs
@@ -40,6 +45,18 @@ module _ {A : Type 0} (size : ℕ) (bytes : A → Bytes) (sized : (x : A) → le
   -- none left
   pub records-none : (xs : List A) (i at : ℕ) (b : Bytes) → length xs ≤ i → sets b at (concat (map bytes (drop i xs))) ≡ b
   records-none xs i at b l = rw (drop-of-length-le xs l) (unfold concat in refl)
+
+  module _ (xs : List A) (at : ℕ) (b : Bytes) where
+    pub none-stands : Standing size bytes xs at b 0 b
+    none-stands = let e : at + size * 0 ≡ at = omega arith in record { long = refl; left = rw e }
+
+    pub one-more : (i : ℕ) (out next : Bytes) (d : A) → i < length xs → next ≡ sets out (at + size * i) (bytes (getD xs i d)) → length next ≡ length out
+        → Standing size bytes xs at b i out → Standing size bytes xs at b (i + 1) next
+    one-more i out next d h e l s =
+        record { long = l ∙ s .long; left = ap (λ o. sets o (at + size * (i + 1)) (concat (map bytes (drop (i + 1) xs)))) e ∙ records-more xs i at d out h ∙ s .left }
+
+    pub all-stand : (i : ℕ) (out : Bytes) → length xs ≤ i → Standing size bytes xs at b i out → out ≡ sets b at (concat (map bytes xs))
+    all-stand i out l s = sym (records-none xs i (at + size * i) out l) ∙ s .left
 
 -- ---- records that are copied
 

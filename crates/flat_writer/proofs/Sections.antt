@@ -24,7 +24,7 @@ use Rattle.law_stores.proofs.Stores.{sets-append, sets-front}
 use Rattle.flat_ranks.specs.Ranks.{rankOf}
 use Rattle.law_base.specs.Keys.{couplingOf}
 use Rattle.flat_writer.specs.Written.{numbersIn, underRoot, atomicsBy, componentsBy, ruleBy, flatBy}
-use Rattle.flat_writer.proofs.Pieces.{records-more, records-none, phases-copied, rule-copied}
+use Rattle.flat_writer.proofs.Pieces.{phases-copied, rule-copied}
 use Rattle.law_model.proofs.Writing.{component-size, phase-size, rule-size, coupling-size, section-length}
 
 -- a whole slice, copied
@@ -69,22 +69,12 @@ module _ (cs : List Component) (t : List ℕ) (n : ℕ) where
   unfolding atomicsBy
   length-atomics = length-map (numbersIn t n) _ ∙ length-numbers
 
-  atomic-at : (i : ℕ) → i < n → getD (atomicsBy cs t n) i noComponent ≡ underRoot (componentAt cs (getD t (numbersAt + i) 0))
+  pub atomic-at : (i : ℕ) → i < n → getD (atomicsBy cs t n) i noComponent ≡ underRoot (componentAt cs (getD t (numbersAt + i) 0))
   unfolding atomicsBy numbersIn
   atomic-at i l =
       getD-map (λ c. underRoot (componentAt cs c)) (numbersIn t n) i 0 noComponent (omega (arith, length-numbers))
       ∙ ap (λ c. underRoot (componentAt cs c))
       (getD-map (λ i. getD t (numbersAt + i) 0) (upFrom 0 n) i 0 0 (omega (arith, length-up 0 n)) ∙ ap (λ i. getD t (numbersAt + i) 0) (getD-up 0 n i l ∙ omega arith))
-
-  pub atomics-more : (i : ℕ) (b : Bytes) → i < n
-      → sets (sets b (7 + 5 * i) (componentBytes (underRoot (componentAt cs (getD t (numbersAt + i) 0))))) (7 + 5 * (i + 1)) (concat (map componentBytes (drop (i + 1) (atomicsBy cs t n))))
-      ≡ sets b (7 + 5 * i) (concat (map componentBytes (drop i (atomicsBy cs t n))))
-  atomics-more i b l =
-      ap (λ k. sets (sets b (7 + 5 * i) (componentBytes k)) (7 + 5 * (i + 1)) (concat (map componentBytes (drop (i + 1) (atomicsBy cs t n))))) (sym (atomic-at i l))
-      ∙ records-more 5 componentBytes component-size (atomicsBy cs t n) i 7 noComponent b (omega (arith, length-atomics))
-
-  pub atomics-none : (i : ℕ) (b : Bytes) → n ≤ i → sets b (7 + 5 * i) (concat (map componentBytes (drop i (atomicsBy cs t n)))) ≡ b
-  atomics-none i b l = records-none 5 componentBytes component-size (atomicsBy cs t n) i (7 + 5 * i) b (omega (arith, length-atomics))
 
   -- count, root and atomics
   pub components-puts : (b : Bytes) → sets (sets (sets b 0 (bytesOf 2 (n + 1))) 2 (bytesOf 5 0)) 7 (concat (map componentBytes (atomicsBy cs t n))) ≡ sets b 0 (sectionBytes componentBytes (componentsBy cs t n))
@@ -132,41 +122,22 @@ module _ (s : Bytes) (t : List ℕ) where
   unfolding rulesIn
   length-rules = length-records ruleSize toRule s
 
-  pub rules-more : (i at : ℕ) (b : Bytes) → i < length (rulesIn s)
-      → sets (sets b (at + 18 * i) (ruleBytes (ruleBy t (toRule (take 18 (drop (18 * i) s)))))) (at + 18 * (i + 1)) (concat (map ruleBytes (drop (i + 1) (map (ruleBy t) (rulesIn s)))))
-      ≡ sets b (at + 18 * i) (concat (map ruleBytes (drop i (map (ruleBy t) (rulesIn s)))))
-  rules-more i at b l =
-      let xs = map (ruleBy t) (rulesIn s) in
-      let m : i < length xs = omega (arith, length-map (rulesIn s) (ruleBy t)) in
-      ap (λ k. sets (sets b (at + 18 * i) (ruleBytes k)) (at + 18 * (i + 1)) (concat (map ruleBytes (drop (i + 1) xs)))) (sym (here ∙ ap (ruleBy t) there))
-      ∙ records-more 18 ruleBytes rule-size xs i at (ruleBy t noRule) b m
-    where
-      here : getD (map (ruleBy t) (rulesIn s)) i (ruleBy t noRule) ≡ ruleBy t (getD (rulesIn s) i noRule)
-      here = getD-map (ruleBy t) (rulesIn s) i noRule (ruleBy t noRule) l
+  pub length-renumbered : length (map (ruleBy t) (rulesIn s)) ≡ length (rulesIn s)
+  length-renumbered = length-map (rulesIn s) (ruleBy t)
 
+  pub rule-at : (i : ℕ) → i < length (rulesIn s) → getD (map (ruleBy t) (rulesIn s)) i (ruleBy t noRule) ≡ ruleBy t (toRule (take 18 (drop (18 * i) s)))
+  rule-at i l = getD-map (ruleBy t) (rulesIn s) i noRule (ruleBy t noRule) l ∙ ap (ruleBy t) there
+    where
       there : getD (rulesIn s) i noRule ≡ toRule (take 18 (drop (18 * i) s))
       there = unfold rulesIn row in (record-in ruleSize toRule s i noRule (omega (arith, length-rules)))
-
-  pub rules-none : (i at : ℕ) (b : Bytes) → length (rulesIn s) ≤ i → sets b at (concat (map ruleBytes (drop i (map (ruleBy t) (rulesIn s))))) ≡ b
-  rules-none i at b l = records-none 18 ruleBytes rule-size (map (ruleBy t) (rulesIn s)) i at b (omega (arith, length-map (rulesIn s) (ruleBy t)))
 
 -- rows
 module _ (rows : List ℕ) (n : ℕ) (few : n ≤ length rows) where
   pub length-rows : length (map couplingOf (take n rows)) ≡ n
   length-rows = length-map (take n rows) couplingOf ∙ length-take-le n rows few
 
-  pub rows-more : (i at : ℕ) (b : Bytes) → i < n
-      → sets (sets b (at + 4 * i) (couplingBytes (couplingOf (getD rows i 0)))) (at + 4 * (i + 1)) (concat (map couplingBytes (drop (i + 1) (map couplingOf (take n rows)))))
-      ≡ sets b (at + 4 * i) (concat (map couplingBytes (drop i (map couplingOf (take n rows)))))
-  rows-more i at b l =
-      let xs = map couplingOf (take n rows) in
-      let e : getD xs i (couplingOf 0) ≡ couplingOf (getD rows i 0)
-      = getD-map couplingOf (take n rows) i 0 (couplingOf 0) (omega (arith, length-take-le n rows few)) ∙ ap couplingOf (getD-take n rows i 0 l) in
-      ap (λ k. sets (sets b (at + 4 * i) (couplingBytes k)) (at + 4 * (i + 1)) (concat (map couplingBytes (drop (i + 1) xs)))) (sym e)
-      ∙ records-more 4 couplingBytes coupling-size xs i at (couplingOf 0) b (omega (arith, length-rows))
-
-  pub rows-none : (i at : ℕ) (b : Bytes) → n ≤ i → sets b at (concat (map couplingBytes (drop i (map couplingOf (take n rows))))) ≡ b
-  rows-none i at b l = records-none 4 couplingBytes coupling-size (map couplingOf (take n rows)) i at b (omega (arith, length-rows))
+  pub row-at : (i : ℕ) → i < n → getD (map couplingOf (take n rows)) i (couplingOf 0) ≡ couplingOf (getD rows i 0)
+  row-at i l = getD-map couplingOf (take n rows) i 0 (couplingOf 0) (omega (arith, length-take-le n rows few)) ∙ ap couplingOf (getD-take n rows i 0 l)
 
 -- a rule from its row
 pub rule-row : (s : Bytes) (i : ℕ) → i < length (rulesIn s) → length (take 18 (drop (18 * i) s)) ≡ ruleSize

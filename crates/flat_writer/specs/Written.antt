@@ -1,10 +1,13 @@
 -- The flat form as the code has it: the atomics' numbers and ranks from the tables of a call, the couplings from the sorted rows. The laws in
 -- proofs/ say that it is the definition's flat form, where tables and rows are a model's. Assumes nothing.
-use Prim.Native.Nat.{ℕ, _+_}
+use Prim.Native.Nat.{ℕ, _+_, _*_}
 use mathlib.Core.List.{List, _∷_, map}
-use lib.ListN.{getD}
+use lib.ListN.{length, getD}
 use Rattle.definition.specs.Lists.{upFrom}
+use Rattle.definition.specs.Bytes.{Bytes, stored}
+use Rattle.definition.specs.File.{modelBytes}
 use Rattle.definition.specs.Model.{Component, Phase, Rule, Model, noComponent, componentAt}
+use Rattle.model_records.specs.Values.{componentsIn, phasesIn, rulesIn}
 use Rattle.spec_step.specs.Tables.{numbersAt}
 use Rattle.law_base.specs.Keys.{couplingOf}
 use Rattle.flat_ranks.specs.Ranks.{rankOf}
@@ -38,3 +41,10 @@ ruleBy t k = record {
 
 unfoldable pub flatBy : List Component → List Phase → List Rule → List ℕ → ℕ → List ℕ → Model
 flatBy cs ps rs t n rows = record { components = componentsBy cs t n; phases = ps; rules = map (ruleBy t) rs; couplings = map couplingOf rows }
+
+-- Its bytes at the front of a buffer, and how many they are.
+abbrev pub flatWritten : Bytes → Bytes → Bytes → List ℕ → ℕ → List ℕ → Bytes → Bytes
+flatWritten components phases rules t n rows out = stored (modelBytes (flatBy (componentsIn components) (phasesIn phases) (rulesIn rules) t n rows)) out
+
+abbrev pub flatSize : Bytes → Bytes → ℕ → ℕ → ℕ
+flatSize phases rules n count = 13 + 5 * n + 18 * length (phasesIn phases) + 18 * length (rulesIn rules) + 4 * count

@@ -5,14 +5,13 @@ ghost use Prim.Native.Nat.{_+_, _*_, _≤_};
 ghost use lib.ListN.{length, take};
 ghost use lib.Seq.{sets};
 ghost use Rattle.definition.specs.Lists.{concat};
-ghost use Rattle.definition.specs.Bytes.{stored};
 ghost use Rattle.definition.specs.Limits.{maxPhases, maxRules, maxRoutes, ruleSize};
 ghost use Rattle.definition.specs.Records.{componentBytes, phaseBytes, ruleBytes, couplingBytes};
-ghost use Rattle.definition.specs.File.{sectionBytes, modelBytes};
+ghost use Rattle.definition.specs.File.{sectionBytes};
 ghost use Rattle.definition.specs.Pinned.Decoder.{toRule};
 ghost use Rattle.model_records.specs.Values.{componentOf, componentsIn, phasesIn, rulesIn};
 ghost use Rattle.law_base.specs.Keys.{couplingOf};
-ghost use Rattle.flat_writer.specs.Written.{underRoot, atomicsBy, componentsBy, ruleBy, flatBy};
+ghost use Rattle.flat_writer.specs.Written.{underRoot, atomicsBy, componentsBy, ruleBy, flatWritten, flatSize};
 use flat_ranks::rank_of;
 use limits::COMPONENT_SIZE;
 use limits::COUNT_SIZE;
@@ -165,7 +164,7 @@ fn put_rows(rows: &[u32], n: usize, out: &mut [u8], at: usize)
 // How many bytes the flat form has.
 pub fn flat_size(phases: &[u8], rules: &[u8], n: u8, count: usize) -> usize
     requires { ⌜ (length (phasesIn (now phases)) ≤ maxPhases) × (length (rulesIn (now rules)) ≤ maxRules) × (count ≤ maxRoutes) ⌝ }
-    ensures { λ r. ⌜ r ≡ 13 + 5 * n + 18 * length (phasesIn (now (phases .entry))) + 18 * length (rulesIn (now (rules .entry))) + 4 * count ⌝ }
+    ensures { λ r. ⌜ r ≡ flatSize (now (phases .entry)) (now (rules .entry)) n count ⌝ }
 {
     13
         + COMPONENT_SIZE * u8_to_usize(n)
@@ -184,8 +183,9 @@ pub fn put_flat(
     count: usize,
     out: &mut [u8],
 )
-    requires { ⌜ (count ≤ length (now rows)) × (13 + 5 * n + 18 * length (phasesIn (now phases)) + 18 * length (rulesIn (now rules)) + 4 * count ≤ length (now out)) ⌝ }
-    ensures { λ _. ⌜ now (out .exit) ≡ stored (modelBytes (flatBy (componentsIn (now (components .entry))) (phasesIn (now (phases .entry))) (rulesIn (now (rules .entry))) (now (tables .entry)) n (take count (now (rows .entry))))) (now (out .entry)) ⌝ }
+    requires { ⌜ (count ≤ length (now rows)) × (flatSize (now phases) (now rules) n count ≤ length (now out)) ⌝ }
+    ensures { λ _. ⌜ now (out .exit) ≡ flatWritten (now (components .entry)) (now (phases .entry)) (now (rules .entry)) (now (tables .entry)) n
+        (take count (now (rows .entry))) (now (out .entry)) ⌝ }
 {
     put_components(components, tables, n, out);
     let second = 7 + COMPONENT_SIZE * u8_to_usize(n);
