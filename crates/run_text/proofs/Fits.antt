@@ -57,32 +57,16 @@ any-field n after = omega (arith, length-append (decimalIn maxDigits n) (after �
 message-fits : (moment step : ℕ) (row : Bytes) → step < 65536 → AllBytes row → length (messageLine moment step row) ≤ longestLine
 unfolding messageLine
 message-fits moment step row h b =
-    let m = field moment space in
-    let s = field step space in
-    let p = field (numberAt 1 0 row) space in
-    let v = field (numberAt 2 1 row) newline in
-    omega (
-      arith,
-      length-append ((m ++ s) ++ p) v,
-      length-append (m ++ s) p,
-      length-append m s,
-      any-field moment space,
-      field-fits 4 step space (omega arith),
-      field-fits 2 (numberAt 1 0 row) space (omega (arith, number-small 1 0 row b)),
-      field-fits 4 (numberAt 2 1 row) newline (omega (arith, number-small 2 1 row b)),
-    )
+    let port = field-fits 2 (numberAt 1 0 row) space (omega (arith, number-small 1 0 row b)) in
+    let value = field-fits 4 (numberAt 2 1 row) newline (omega (arith, number-small 2 1 row b)) in
+    simp length-append (omega (arith, any-field moment space, field-fits 4 step space (omega arith)))
 
 messages-fit : (n moment step : ℕ) (rows : Bytes) → step < 65536 → AllBytes rows → length (messageLines n moment step rows) ≤ longestLine * n
 unfolding messageLines
 messages-fit zero moment step rows h b = omega arith
 messages-fit (suc n) moment step rows h b =
-    let rest = messageLines n moment step (drop messageSize rows) in
-    omega (
-      arith,
-      length-append (messageLine moment step rows) rest,
-      message-fits moment step rows h b,
-      messages-fit n moment step (drop messageSize rows) h (drop-bytes messageSize b),
-    )
+    let rest = messages-fit n moment step (drop messageSize rows) h (drop-bytes messageSize b) in
+    simp length-append (omega (arith, message-fits moment step rows h b))
 
 record-fits : (trace : Bytes) → AllBytes trace → length (recordLines trace) ≤ longestLine * messageCount trace
 unfolding recordLines
@@ -113,13 +97,8 @@ lines-fit (suc n) (r ∷ rs) h = go (eqb (length trace) 0) (lines-fit n rs (all-
         → length (cond b [] (recordLines trace ++ lines n (behindRecord trace))) ≤ longestLine * (length (r .messages) + messagesIn rs)
     go true ih = omega arith
     go false ih =
-        rw (behind r (traceBytes rs) small)
-        (omega (
-          arith,
-          length-append (recordLines trace) (lines n (traceBytes rs)),
-          record-fits trace (trace-bytes (r ∷ rs)),
-          record-count r (traceBytes rs) (leb-true _ _ small),
-        ))
+        let count = record-count r (traceBytes rs) (leb-true _ _ small) in
+        rw (behind r (traceBytes rs) small, length-append) (omega (arith, record-fits trace (trace-bytes (r ∷ rs))))
 
 trace-fits : (room : ℕ) (trace : Bytes) → Traced room trace → length (traceLines trace) ≤ longestLine * (room / messageSize)
 unfolding traceLines
@@ -129,15 +108,7 @@ trace-fits room trace h =
 
 end-fits : (opening steps : ℕ) → length (endLine opening steps) ≤ longestLast
 unfolding endLine
-end-fits opening steps =
-    let words : Bytes = 115 ∷ 116 ∷ 101 ∷ 112 ∷ 115 ∷ 32 ∷ [] in
-    omega (
-      arith,
-      length-append (field opening space ++ words) (field steps newline),
-      length-append (field opening space) words,
-      any-field opening space,
-      any-field steps newline,
-    )
+end-fits opening steps = simp length-append (omega (arith, any-field opening space, any-field steps newline))
 
 refused-fits : (n : ℕ) → length (refusedLine n) ≤ longestLast
 unfolding refusedLine
@@ -157,12 +128,8 @@ advanced-fits : (file run : Bytes) (t : ℕ) (bag trace : Bytes) → length (adv
 unfolding advancedText
 advanced-fits file run t bag trace =
     let a = advance file run t bag trace in
-    omega (
-      arith,
-      length-append (traceLines (written a)) (lastLine (a .number) (a .run) (a .steps)),
-      trace-fits (length trace) (written a) (advance-traced file run t bag trace),
-      last-fits (a .number) (a .run) (a .steps),
-    )
+    let body = trace-fits (length trace) (written a) (advance-traced file run t bag trace) in
+    rw length-append (omega (arith, last-fits (a .number) (a .run) (a .steps)))
 
 started-fits : (model : Bytes) (end : ℕ) (trace : Bytes) (w : Wrote) → length (startedText model end trace w) ≤ longestLine * (length trace / messageSize) + longestLast
 unfolding startedText

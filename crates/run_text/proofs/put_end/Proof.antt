@@ -2,15 +2,9 @@
 use borrow.Author.Needs.{needs}
 use Rattle.run_text.proofs.Laws.{end-line}
 use denote.Ref.{now}
-use mathlib.Core.Path.{sym, _∙_}
+use mathlib.Core.Path.{sym}
 use Rattle.run_text.proofs.put_end.Statement.{statement}
 use Rattle.run_text.proofs.put_end.Tie as tie
-
-same-length : tie.Need-same-length
-same-length c =
-    let after-put-field2 : tie.After-put-field2 = search in let after-put-text2 : tie.After-put-text2 = search in
-    let after-put-field : tie.After-put-field = search in let after-put-text : tie.After-put-text = search in
-    after-put-field2 .put-field2 .kept .0 ∙ after-put-text2 .put-text2 .kept .0 ∙ after-put-field .put-field .kept .0 ∙ after-put-text .put-text .kept .0
 
 returns : tie.Need-returns
 returns c =
@@ -23,4 +17,4 @@ returns c =
 pub put-end-spec : {M : Type 1} → statement M
 put-end-spec =
     tie.close (tie.spec (λ c. search needs) (λ c κs. search needs) (λ c κs. search needs) (λ c. search needs) (λ c κs. search needs)
-    (λ c κs. search needs) same-length returns)
+    (λ c κs. search needs) (λ c. search needs) returns)

@@ -5,11 +5,6 @@ use borrow.Author.Tests.{eq-eqb, ne-eqb}
 use Rattle.run_text.proofs.put_last.Statement.{statement}
 use Rattle.run_text.proofs.put_last.Tie as tie
 
-same-length : tie.Need-same-length
-same-length c =
-    let after-put-end : tie.After-put-end = search in
-    after-put-end .put-end .kept .0
-
 returns : tie.Need-returns
 unfolding lastLine
 returns c =
@@ -17,11 +12,6 @@ returns c =
     let then1 : tie.Then1 = search in
     let a = start .args in
     rw (after-put-end .put-end .ensures, after-u64-at .u64-at .ensures, eq-eqb (a .refusal) 0 (then1 .if1 .taken))
-
-same-length-2 : tie.Need-same-length-2
-same-length-2 c =
-    let after-put-refused : tie.After-put-refused = search in
-    after-put-refused .put-refused .kept .0
 
 returns-2 : tie.Need-returns-2
 unfolding lastLine
@@ -32,4 +22,5 @@ returns-2 c =
 
 pub put-last-spec : {M : Type 1} → statement M
 put-last-spec =
-    tie.close (tie.spec (λ c κs. search needs) (λ c κs. search needs) (λ c κs. search needs) same-length returns same-length-2 returns-2)
+    tie.close (tie.spec (λ c κs. search needs) (λ c κs. search needs) (λ c κs. search needs) (λ c. search needs) returns (λ c. search needs)
+    returns-2)

@@ -2,15 +2,9 @@
 use borrow.Author.Needs.{needs}
 use Rattle.run_text.proofs.Laws.{message-line}
 use denote.Ref.{now}
-use mathlib.Core.Path.{sym, _∙_}
+use mathlib.Core.Path.{sym}
 use Rattle.run_text.proofs.put_message.Statement.{statement}
 use Rattle.run_text.proofs.put_message.Tie as tie
-
-same-length : tie.Need-same-length
-same-length c =
-    let after-put-field4 : tie.After-put-field4 = search in let after-put-field3 : tie.After-put-field3 = search in
-    let after-put-field2 : tie.After-put-field2 = search in let after-put-field : tie.After-put-field = search in
-    after-put-field4 .put-field4 .kept .0 ∙ after-put-field3 .put-field3 .kept .0 ∙ after-put-field2 .put-field2 .kept .0 ∙ after-put-field .put-field .kept .0
 
 returns : tie.Need-returns
 returns c =
@@ -36,4 +30,4 @@ returns c =
 pub put-message-spec : {M : Type 1} → statement M
 put-message-spec =
     tie.close (tie.spec (λ c κs. search needs) (λ c κs. search needs) (λ c κs. search needs) (λ c κs. search needs) (λ c κs. search needs)
-    (λ c κs. search needs) (λ c κs. search needs) (λ c κs. search needs) (λ c κs. search needs) same-length returns)
+    (λ c κs. search needs) (λ c κs. search needs) (λ c κs. search needs) (λ c κs. search needs) (λ c. search needs) returns)

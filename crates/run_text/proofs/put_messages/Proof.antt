@@ -34,9 +34,6 @@ loop-again c =
           (messages-more (after-u16-to-usize .u16-to-usize .result) (l .k) (a .moment) (a .step) (now (a .rows)) (l .out, l .to) (omega arith) ∙ l .inv .2),
     )
 
-same-length : tie.Need-same-length Inv-loop μ-loop
-same-length c = c .before .loop .inv .0
-
 returns : tie.Need-returns Inv-loop μ-loop
 returns c =
     let start : tie.Start Inv-loop μ-loop = search in let after-u16-to-usize : tie.After-u16-to-usize Inv-loop μ-loop = search in
@@ -47,4 +44,4 @@ returns c =
 pub put-messages-spec : {M : Type 1} → statement M
 put-messages-spec =
     tie.close (tie.spec Inv-loop μ-loop (λ c κs. search needs) loop-holds (λ c. search needs) (λ c κs. search needs) (λ c κs. search needs)
-    (λ c. search needs) (λ c. search needs) loop-again same-length returns)
+    (λ c. search needs) (λ c. search needs) loop-again (λ c. search needs) returns)

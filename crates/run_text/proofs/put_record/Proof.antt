@@ -4,11 +4,6 @@ use Rattle.run_text.specs.Text.{recordLines}
 use Rattle.run_text.proofs.put_record.Statement.{statement}
 use Rattle.run_text.proofs.put_record.Tie as tie
 
-same-length : tie.Need-same-length
-same-length c =
-    let after-put-messages : tie.After-put-messages = search in
-    after-put-messages .put-messages .kept .0
-
 returns : tie.Need-returns
 unfolding recordLines
 returns c =
@@ -19,4 +14,4 @@ returns c =
 pub put-record-spec : {M : Type 1} → statement M
 put-record-spec =
     tie.close (tie.spec (λ c κs. search needs) (λ c κs. search needs) (λ c κs. search needs) (λ c κs. search needs) (λ c κs. search needs)
-    same-length returns)
+    (λ c. search needs) returns)

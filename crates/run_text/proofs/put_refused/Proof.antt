@@ -2,14 +2,9 @@
 use borrow.Author.Needs.{needs}
 use Rattle.run_text.proofs.Laws.{refused-line}
 use denote.Ref.{now}
-use mathlib.Core.Path.{sym, _∙_}
+use mathlib.Core.Path.{sym}
 use Rattle.run_text.proofs.put_refused.Statement.{statement}
 use Rattle.run_text.proofs.put_refused.Tie as tie
-
-same-length : tie.Need-same-length
-same-length c =
-    let after-put-field : tie.After-put-field = search in let after-put-text : tie.After-put-text = search in
-    after-put-field .put-field .kept .0 ∙ after-put-text .put-text .kept .0
 
 returns : tie.Need-returns
 returns c =
@@ -18,4 +13,4 @@ returns c =
     rw (after-put-field .put-field .ensures, after-put-text .put-text .ensures) (sym (refused-line (a .refusal) (now (a .out), a .at)))
 
 pub put-refused-spec : {M : Type 1} → statement M
-put-refused-spec = tie.close (tie.spec (λ c. search needs) (λ c κs. search needs) (λ c κs. search needs) same-length returns)
+put-refused-spec = tie.close (tie.spec (λ c. search needs) (λ c κs. search needs) (λ c κs. search needs) (λ c. search needs) returns)

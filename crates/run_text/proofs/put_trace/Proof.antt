@@ -7,7 +7,6 @@ use Rattle.run_text.specs.Put.{put}
 use denote.Ref.{now}
 use lib.ListN.{length, drop}
 use mathlib.Core.Path.{_≡_, refl, sym, _∙_}
-use Prim.Native.Nat.{_-_}
 use Rattle.run_text.proofs.put_trace.Statement.{statement}
 use Rattle.run_text.proofs.put_trace.Tie as tie
 
@@ -20,11 +19,6 @@ abbrev μ-loop : tie.MeasureT-loop
 loop-holds : tie.Need-loop-holds Inv-loop μ-loop
 unfolding traceLines
 loop-holds c = (refl, refl)
-
-same-length : tie.Need-same-length Inv-loop μ-loop
-same-length c =
-    let at-loop : tie.At-loop Inv-loop μ-loop = search in
-    at-loop .loop .inv .0
 
 returns : tie.Need-returns Inv-loop μ-loop
 returns c =
@@ -42,9 +36,6 @@ loop-again c =
           (lines-more (l .turns) (l .from) (now (a .trace)) (l .out, l .to) (omega arith) (omega arith) ∙ l .inv .1),
     )
 
-same-length-2 : tie.Need-same-length-2 Inv-loop μ-loop
-same-length-2 c = c .before .loop .inv .0
-
 returns-2 : tie.Need-returns-2 Inv-loop μ-loop
 returns-2 c =
     let start : tie.Start Inv-loop μ-loop = search in
@@ -54,6 +45,6 @@ returns-2 c =
 
 pub put-trace-spec : {M : Type 1} → statement M
 put-trace-spec =
-    tie.close (tie.spec Inv-loop μ-loop loop-holds same-length returns (λ c κs. search needs) (λ c κs. search needs) (λ c κs. search needs)
+    tie.close (tie.spec Inv-loop μ-loop loop-holds (λ c. search needs) returns (λ c κs. search needs) (λ c κs. search needs) (λ c κs. search needs)
     (λ c κs. search needs) (λ c. search needs) (λ c. search needs) (λ c. search needs) (λ c. search needs) (λ c. search needs) loop-again
-    same-length-2 returns-2)
+    (λ c. search needs) returns-2)
