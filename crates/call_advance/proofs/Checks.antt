@@ -1,5 +1,5 @@
 -- The checks of an advance, in the order of the table, and what each leaves of the definition. Assumes nothing.
-use mathlib.Core.Path.{_≡_, sym, _∙_}
+use mathlib.Core.Path.{_≡_, sym}
 use Prim.Native.Nat.{ℕ}
 use mathlib.Core.Bool.{true, false, _||_}
 use lib.Dec.{ltb}

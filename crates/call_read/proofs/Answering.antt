@@ -37,10 +37,6 @@ pub fits-file : (file s : Bytes) (n : Counts) → runFits (bare (componentsPart 
 unfolding modelOf
 fits-file file s n = fits-alone (componentsPart file n) (phasesPart file n) _ _ s
 
-pub count-file : (file : Bytes) (n : Counts) → length (atomics (componentsIn (componentsPart file n))) ≡ length (atomics (modelOf file n .components))
-unfolding modelOf modelIn
-count-file file n = refl
-
 -- ---- refusals
 
 pub read-refused : (file run : Bytes) (position k : ℕ) → refused k ≡ accepted file → record { number = k; phase = 0; last = 0; due = 0 } ≡ reading file run position

@@ -7,7 +7,6 @@ use Prim.Native.Nat.{ℕ, _<_}
 use native.Mathlib.Omega.{arith}
 use lib.ListN.{length, getD}
 use Rattle.definition.specs.Bytes.{Bytes, ok}
-use Rattle.definition.specs.Limits.{maxComponents}
 use Rattle.definition.specs.Model.{atomics}
 use Rattle.definition.specs.Pinned.Decoder.{accepted}
 use Rattle.run_saved.specs.Runs.{Loaded}

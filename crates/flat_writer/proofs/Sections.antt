@@ -3,9 +3,8 @@ use mathlib.Core.Path.{_≡_, refl, sym, ap, ap₂, _∙_}
 use Prim.Native.Nat.{ℕ, suc, _+_, _*_, _/_, _%_, _≤_, _<_}
 use mathlib.Core.List.{List, [], _∷_, _++_, map, append-assoc}
 use native.Mathlib.Omega.{arith}
-use native.Mathlib.Nat.{add-zero, le-refl}
 use lib.ListN.{length, getD, take, drop, set, length-map, length-append, length-take, length-drop}
-use lib.Seq.{sets, slice, take-all, getD-take, length-take-le}
+use lib.Seq.{sets, getD-take, length-take-le}
 use Rattle.definition.specs.Lists.{concat, upFrom}
 use Rattle.definition.specs.Bytes.{Bytes, AllBytes, numberAt, bytesOf, stored, laidOut}
 use Rattle.definition.specs.Limits.{ruleSize, phaseSize}
@@ -26,10 +25,6 @@ use Rattle.law_base.specs.Keys.{couplingOf}
 use Rattle.flat_writer.specs.Written.{numbersIn, underRoot, atomicsBy, componentsBy, ruleBy, flatBy}
 use Rattle.flat_writer.proofs.Pieces.{phases-copied, rule-copied}
 use Rattle.law_model.proofs.Writing.{component-size, phase-size, rule-size, coupling-size, section-length}
-
--- a whole slice, copied
-pub copy-start : (s d : Bytes) (at : ℕ) → sets d (at + 0) (slice 0 (length s) s) ≡ sets d at s
-copy-start s d at = ap₂ (sets d) (add-zero at) (take-all (length s) s (le-refl (length s)))
 
 -- ---- single records
 

@@ -20,6 +20,7 @@ use limits::PHASE_SIZE;
 use limits::RULE_SIZE;
 use little_endian::byte_at;
 use little_endian::front;
+use little_endian::put_bytes;
 use little_endian::put_number;
 use little_endian::rest;
 use model_records::Component;
@@ -33,18 +34,6 @@ use widen::u8_to_usize;
 use widen::u16_to_usize;
 use widen::u32_to_u64;
 use widen::usize_to_u64;
-
-// A part of another slice.
-fn put_bytes(part: &[u8], out: &mut [u8], at: usize)
-    requires { ⌜ at + length (now part) ≤ length (now out) ⌝ }
-    ensures { λ _. ⌜ now (out .exit) ≡ sets (now (out .entry)) at (now (part .entry)) ⌝ }
-{
-    let mut i: usize = 0;
-    while i < part.len() {
-        out[at + i] = part[i];
-        i = i + 1;
-    }
-}
 
 // ---- components
 

@@ -1,8 +1,7 @@
 // One instant of a call, tried: it stands with its records in the trace, or a number leaves it undone and nothing has changed.
 ghost use mathlib.Core.Path.{_≡_};
-ghost use Prim.Native.Nat.{_+_, _≤_};
-ghost use lib.ListN.{length, take};
-ghost use lib.Seq.{sets};
+ghost use Prim.Native.Nat.{_+_};
+ghost use lib.ListN.{length};
 ghost use Rattle.instant_steps.specs.Sim.{instantOf};
 ghost use Rattle.instant_attempt.specs.Progress.{Countable, CanTry, Tried};
 ghost use Rattle.instant_attempt.specs.Pass.{hindranceOf, afterOf, endedBy, Passed};
@@ -13,6 +12,8 @@ use instant_steps::instant;
 use limits::BUFFER_TOO_SHORT;
 use limits::ROOT_BAG_LIMIT;
 use limits::STILL_DUE;
+use little_endian::front;
+use little_endian::put_bytes;
 use run_state::STATE_SIZE;
 use table_words::TABLE_SIZE;
 
@@ -82,18 +83,6 @@ fn ended_by(room: usize, turn: Turn, ran: Ran) -> Ended
     Ended {
         number: 0,
         progress: after(turn.at, p, ran.steps, ran.used),
-    }
-}
-
-// The first n bytes of a slice, put at a position of another.
-fn copy(from: &[u8], n: usize, to: &mut [u8], at: usize)
-    requires { ⌜ (n ≤ length (now from)) × (at + n ≤ length (now to)) ⌝ }
-    ensures { λ _. ⌜ now (to .exit) ≡ sets (now (to .entry)) at (take n (now (from .entry))) ⌝ }
-{
-    let mut i: usize = 0;
-    while i < n {
-        to[at + i] = from[i];
-        i = i + 1;
     }
 }
 
@@ -169,7 +158,7 @@ pub fn attempt(
     }
     let size = e.progress.used - p.used;
     if size <= scratch.len() {
-        copy(scratch, size, trace, p.used);
+        put_bytes(front(scratch, size), trace, p.used);
         return e;
     }
     let _second = instant(

@@ -79,3 +79,15 @@ pub fn put_number(out: &mut [u8], at: usize, n: usize, v: u64)
         k = k + 1;
     }
 }
+
+// Bytes of one slice, put at a position of another.
+pub fn put_bytes(part: &[u8], out: &mut [u8], at: usize)
+    requires { ⌜ at + length (now part) ≤ length (now out) ⌝ }
+    ensures { λ _. ⌜ now (out .exit) ≡ sets (now (out .entry)) at (now (part .entry)) ⌝ }
+{
+    let mut i: usize = 0;
+    while i < part.len() {
+        out[at + i] = part[i];
+        i = i + 1;
+    }
+}

@@ -7,6 +7,7 @@ use lib.ListN.{length, take, drop, replicate}
 use Rattle.definition.specs.Bytes.{Bytes, numberAt}
 use Rattle.definition.specs.Limits.{messageSize, longestModel}
 use Rattle.definition.specs.Engine.{Wrote, Advanced, start, advance}
+pub use Rattle.instant_records.specs.Written.{recordHead}
 
 -- ---- numbers
 
@@ -46,10 +47,6 @@ messageLine moment step row = field moment space ++ field step space ++ field (n
 unfoldable pub messageLines : ℕ → ℕ → ℕ → Bytes → Bytes
 messageLines zero moment step rows = []
 messageLines (suc n) moment step rows = messageLine moment step rows ++ messageLines n moment step (drop messageSize rows)
-
--- The head of a trace record: moment (8), step (2), message count (2).
-abbrev pub recordHead : ℕ
-recordHead = 12
 
 abbrev pub messageCount : Bytes → ℕ
 messageCount trace = numberAt 2 10 trace

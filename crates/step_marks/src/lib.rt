@@ -1,7 +1,6 @@
 // What a step reads before any transition: the mark of each component, which is 0 where nothing below it is due, and an atomic's phase
 // record's number and 1 where it is due; and for each component whether something may reach its inputs.
 ghost use mathlib.Core.Path.{_≡_};
-ghost use mathlib.Core.Bool.{cond};
 ghost use Prim.Native.Nat.{_-_, _<_, suc};
 ghost use lib.ListN.{getD, set};
 ghost use Rattle.definition.specs.Limits.{maxComponents, portCount};

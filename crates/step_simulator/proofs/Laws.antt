@@ -10,7 +10,7 @@ use mathlib.Core.Bool.{Bool, true, _&&_, not}
 use Rattle.definition.specs.Lists.{sortBy}
 use Rattle.definition.specs.Bytes.{Bytes}
 use Rattle.definition.specs.Limits.{maxComponents, maxAncestors, portCount}
-use Rattle.definition.specs.Model.{Bag, Phase, Rule, messageLe}
+use Rattle.definition.specs.Model.{Bag, Phase, Rule}
 use Rattle.definition.specs.Engine.{dueNumber}
 use Rattle.clock.specs.Times.{latest}
 use Rattle.run_state.specs.declared.State.{State}

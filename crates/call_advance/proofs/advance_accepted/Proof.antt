@@ -1,11 +1,9 @@
 -- A check that fails gives its number (`check-refused`); what passes them all is let in.
 use borrow.Author.Needs.{needs}
 use native.Mathlib.Omega.{arith}
-use mathlib.Core.Path.{_≡_, _∙_, sym}
+use mathlib.Core.Path.{sym}
 use denote.Ref.{now}
 use borrow.Author.Tests.{eq-eqb}
-use Rattle.definition.specs.Bytes.{ok}
-use Rattle.definition.specs.Engine.{advanceChecks}
 use Rattle.model_file.specs.Checked.{modelOf}
 use Rattle.call_advance.specs.LetIn.{LetIn}
 use Rattle.call_advance.proofs.Checks.{check-refused}

@@ -8,7 +8,7 @@ use mathlib.Core.List.{List}
 use mathlib.Core.Bool.{true, false}
 use Prim.Native.Nat.{ℕ, _+_, _-_}
 use lib.ListN.{length, take}
-use lib.Seq.{sets}
+use lib.Seq.{sets, length-take-le}
 use borrow.Author.Tests.{eq-eqb, ne-eqb, le-leb, lt-leb}
 use Rattle.definition.specs.Bytes.{Bytes}
 use Rattle.definition.specs.Engine.{toBag}
@@ -84,14 +84,14 @@ sub-size c =
     let here : tie.Else1 = search in
     omega (arith, size-as here)
 
-copy-requires : tie.Need-copy-requires
-copy-requires c κs =
-    let test : tie.Then2 = search in let here : tie.Else1 = search in
-    (test .if2 .taken, omega (arith, size-as here, stands here .within))
+put-bytes-requires : tie.Need-put-bytes-requires
+put-bytes-requires c κs =
+    let part : tie.After-front = search in let test : tie.Then2 = search in let here : tie.Else1 = search in
+    rw (part .front .ensures) (omega (arith, length-take-le _ _ (test .if2 .taken), size-as here, stands here .within))
 
 returns-2 : tie.Need-returns-2
 returns-2 c =
-    let copied : tie.After-copy = search in let test : tie.Then2 = search in let here : tie.Else1 = search in
+    let copied : tie.After-put-bytes = search in let part : tie.After-front = search in let test : tie.Then2 = search in let here : tie.Else1 = search in
     let pass = pass-of here in
     let a = start-of pass .args in
     let p = a .turn .progress in
@@ -103,8 +103,8 @@ returns-2 c =
     = rw (eq-eqb (e .number) 0 (here .if1 .left), le-leb (e .progress .used - p .used) (length (scratch pass)) (test .if2 .taken)) in
     let k = r .ensures .kept in-scratch in
     let front = from-scratch st (now (a .scratch)) (scratch pass) (r .kept .1 .1 .1 .1 .1 .1 .1 .0) (omega (arith, size, test .if2 .taken)) (k .recorded) in
-    let put = copied .copy .ensures ∙ ap (sets (now (a .trace)) (p .used)) (ap (λ (m : ℕ). take m (scratch pass)) size ∙ front) in
-    stands-tried (now (a .state)) (new pass) (now (a .trace)) (copied .copy .last .1 .1 .0) e st (here .if1 .left) (idle here)
+    let put = copied .put-bytes .ensures ∙ ap (sets (now (a .trace)) (p .used)) (part .front .ensures ∙ ap (λ (m : ℕ). take m (scratch pass)) size ∙ front) in
+    stands-tried (now (a .state)) (new pass) (now (a .trace)) (copied .put-bytes .last .1 .0) e st (here .if1 .left) (idle here)
     (end-of st (heldIn (new pass)) (k .left)) put (now (a .phases)) (now (a .tables)) (k .ready)
 
 -- ---- the second pass
@@ -159,5 +159,5 @@ returns-3 c =
 pub attempt-spec : {M : Type 1} → statement M
 attempt-spec =
     tie.close
-    (tie.spec first-pass-requires (search needs) (search needs) (search needs) returns sub-size copy-requires
+    (tie.spec first-pass-requires (search needs) (search needs) (search needs) returns sub-size (search needs) put-bytes-requires
     (search needs) (search needs) (search needs) returns-2 instant-requires same-work (search needs) (search needs) returns-3)

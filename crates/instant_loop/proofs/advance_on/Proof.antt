@@ -6,7 +6,7 @@ use native.Mathlib.Omega.{arith}
 use denote.Ref.{now}
 use mathlib.Core.Path.{_≡_, _∙_, refl, sym, subst}
 use mathlib.Core.List.{List}
-use Prim.Native.Nat.{ℕ, suc, _≤_, _+_, _-_}
+use Prim.Native.Nat.{ℕ, suc, _≤_, _+_}
 use lib.ListN.{length}
 use Rattle.definition.specs.Bytes.{Bytes}
 use Rattle.definition.specs.Step.{Simulator}

@@ -4,7 +4,7 @@
 use borrow.Author.Needs.{needs}
 use native.Mathlib.Omega.{arith}
 use denote.Ref.{now}
-use mathlib.Core.Path.{_≡_, _∙_, refl, sym, ap, ap₂, subst}
+use mathlib.Core.Path.{_≡_, _∙_, refl, sym, ap₂, subst}
 use mathlib.Core.List.{List}
 use mathlib.Core.Bool.{true, false, not, _||_}
 use Prim.Native.Nat.{ℕ, _≤_, _<_, _+_, _-_}
@@ -18,7 +18,7 @@ use Rattle.definition.specs.Step.{Simulator}
 use Rattle.definition.specs.Instant.{Instant, goesOn, stepsAt}
 use Rattle.definition.specs.Limits.{maxSteps}
 use Rattle.run_state.specs.declared.State.{State}
-use Rattle.run_state.specs.Held.{heldIn, nextIn}
+use Rattle.run_state.specs.Held.{heldIn}
 use Rattle.model_records.specs.Values.{phasesIn, rulesIn}
 use Rattle.spec_step.specs.Tables.{atomicsIn}
 use Rattle.step_simulator.proofs.Laws.{out-few}

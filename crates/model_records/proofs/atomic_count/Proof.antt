@@ -8,7 +8,7 @@ use Rattle.model_records.specs.Values.{componentsIn}
 use Rattle.definition.specs.Model.{isAtomic, atomics}
 use Rattle.definition.specs.Lists.{keep, upFrom}
 use lib.ListN.{length}
-use Prim.Native.Nat.{_+_, _≤_, _-_}
+use Prim.Native.Nat.{_≤_, _-_, _+_}
 use mathlib.Core.Path.{_≡_, refl, ap, ap₂, _∙_}
 use Rattle.model_records.proofs.atomic_count.Statement.{statement}
 use Rattle.model_records.proofs.atomic_count.Tie as tie

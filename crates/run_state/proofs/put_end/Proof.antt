@@ -1,8 +1,6 @@
 -- One region is written, the others stay.
 use borrow.Author.Needs.{needs}
-use native.Mathlib.Omega.{arith}
 use denote.Ref.{now}
-use Rattle.run_state.specs.Held.{EndPut}
 use Rattle.run_state.proofs.Laws.{end-put}
 use Rattle.run_state.proofs.put_end.Statement.{statement}
 use Rattle.run_state.proofs.put_end.Tie as tie

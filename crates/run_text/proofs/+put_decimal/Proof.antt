@@ -1,13 +1,13 @@
 -- The digits before the last one are put by the call itself with one digit less to go, then the last one: the law `decimal-more`.
 use borrow.Author.Needs.{needs}
 use native.Mathlib.Omega.{arith}
-use Prim.Native.Nat.{_%_}
+use Prim.Native.Nat.{_%_, _<_}
 use mathlib.Core.Path.{sym, _∙_, ap}
 use denote.Ref.{now}
 use Rattle.run_text.specs.Put.{Page, put1}
 use Rattle.run_text.specs.Text.{digit}
 use Rattle.run_text.proofs.Laws.{decimal-none, decimal-one, decimal-more}
-use Prim.Native.Nat.{ℕ, _<_}
+use Prim.Native.Nat.{ℕ}
 use borrow.Fn.Kinds.{In}
 use borrow.Fn.PlainCycle.{Measures, is, falls, and}
 use Rattle.run_text.proofs.put_decimal.Reads as put-decimal

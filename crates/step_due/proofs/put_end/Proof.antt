@@ -3,8 +3,7 @@ use borrow.Author.Needs.{needs}
 use mathlib.Core.Path.{_≡_, _∙_, ap}
 use lib.ListN.{getD}
 use denote.Ref.{now}
-use Rattle.run_state.specs.Held.{heldIn, EndPut}
-use Rattle.step_due.specs.Due.{endFor}
+use Rattle.run_state.specs.Held.{heldIn}
 use Rattle.step_due.proofs.put_end.Statement.{statement}
 use Rattle.step_due.proofs.put_end.Tie as tie
 

@@ -1,16 +1,15 @@
 -- What is left of the part, stored from byte i on, gives the whole on the buffer as lent (`copy-more`); at the end nothing is left (`copy-none`).
 use borrow.Author.Needs.{needs}
 use native.Mathlib.Omega.{arith}
-use Rattle.flat_writer.proofs.Sections.{copy-start}
 use Rattle.law_stores.proofs.Stores.{copy-more, copy-none}
-use lib.Seq.{sets, slice}
+use lib.Seq.{sets, slice, take-length}
 use lib.ListN.{length, length-set}
-use native.Mathlib.Nat.{le-refl}
+use native.Mathlib.Nat.{le-refl, add-zero}
 use Prim.Native.Nat.{_+_, _-_, _≤_}
-use mathlib.Core.Path.{_≡_, refl, sym, ap, _∙_}
+use mathlib.Core.Path.{_≡_, refl, sym, ap, ap₂, _∙_}
 use denote.Ref.{now}
-use Rattle.flat_writer.proofs.put_bytes.Statement.{statement}
-use Rattle.flat_writer.proofs.put_bytes.Tie as tie
+use Rattle.little_endian.proofs.put_bytes.Statement.{statement}
+use Rattle.little_endian.proofs.put_bytes.Tie as tie
 
 abbrev Inv-loop : tie.InvT-loop
 Inv-loop part out₀ at i₀ out i = (i ≤ length part) × (length out ≡ length out₀) × (sets out (at + i) (slice i (length part) part) ≡ sets out₀ at part)
@@ -30,5 +29,5 @@ returns c =
 
 pub put-bytes-spec : {M : Type 1} → statement M
 put-bytes-spec =
-    tie.close (tie.spec Inv-loop μ-loop (λ c. let a = c .args in (omega arith, refl, copy-start (now (a .part)) (now (a .out)) (a .at)))
+    tie.close (tie.spec Inv-loop μ-loop (λ c. let a = c .args in (omega arith, refl, ap₂ (sets (now (a .out))) (add-zero (a .at)) (take-length (now (a .part)))))
     (λ c. search needs) (λ c. search needs) (λ c. search needs) (λ c. search needs) (λ c. search needs) loop-again (λ c. search needs) returns)
