@@ -18,24 +18,27 @@ use Rattle.model_checks.proofs.Laws.{root-here, root-none, root-up}
 
 -- ---- arrays
 
+-- What holds below n, and of n, holds below n + 1.
+up-to : (P : ℕ → Type 0) (n : ℕ) → ((c : ℕ) → c < n → P c) → P n → (c : ℕ) → c < n + 1 → P c
+up-to P n h e c b = go (eqb c n) refl
+  where
+    go : (t : Bool) → eqb c n ≡ t → P c
+    go true f = subst P (sym (eqb-true c n f)) e
+    go false f = h c (omega (arith, eqb-false c n f))
+
 -- None are known at first.
 pub each-none : (is : ℕ → ℕ → Type 0) (array : List ℕ) → length array ≡ maxComponents → Each is 0 array
 each-none is array e = record { room = e; holds = λ c l. absurd (omega arith) }
 
 -- One more is known.
 pub each-more : (is : ℕ → ℕ → Type 0) (n : ℕ) (array : List ℕ) (x : ℕ) → n < maxComponents → Each is n array → is n x → Each is (n + 1) (set array n x)
-each-more is n array x l h e = record { room = length-set array n x ∙ h .room; holds = λ c b. at-one c b (eqb c n) refl }
+each-more is n array x l h e = record { room = length-set array n x ∙ h .room; holds = up-to (λ c. is c (getD (set array n x) c 0)) n earlier last }
   where
-    at-one : (c : ℕ) → c < n + 1 → (t : Bool) → eqb c n ≡ t → is c (getD (set array n x) c 0)
-    at-one c b true f =
-        let z = eqb-true c n f in
-        let r : n < length array = omega (arith, h .room) in
-        let y : getD (set array n x) c 0 ≡ x = ap (λ c. getD (set array n x) c 0) z ∙ getD-set-same array n x 0 r in
-        subst (λ v. is c v) (sym y) (subst (λ c. is c x) (sym z) e)
-    at-one c b false f =
-        let z = eqb-false c n f in
-        let y = getD-set-other array n c x 0 z in
-        subst (λ v. is c v) (sym y) (h .holds c (omega arith))
+    earlier : (c : ℕ) → c < n → is c (getD (set array n x) c 0)
+    earlier c b = subst (λ v. is c v) (sym (getD-set-other array n c x 0 (λ q. absurd (omega arith)))) (h .holds c b)
+
+    last : is n (getD (set array n x) n 0)
+    last = subst (λ v. is n v) (sym (getD-set-same array n x 0 (omega (arith, h .room)))) e
 
 -- ---- accepted components
 
@@ -43,11 +46,7 @@ pub accepted-none : (cs : List Component) → Accepted cs 0
 accepted-none cs = record { few = omega arith; fit = λ c l. absurd (omega arith) }
 
 pub accepted-more : (cs : List Component) (n : ℕ) → Accepted cs n → n < maxComponents → componentFits cs n ≡ true → Accepted cs (n + 1)
-accepted-more cs n a l e = record { few = omega arith; fit = λ c b. at-one c b (eqb c n) refl }
-  where
-    at-one : (c : ℕ) → c < n + 1 → (t : Bool) → eqb c n ≡ t → componentFits cs c ≡ true
-    at-one c b true f = rw (eqb-true c n f) e
-    at-one c b false f = a .fit c (omega (arith, eqb-false c n f))
+accepted-more cs n a l e = record { few = omega arith; fit = up-to (λ c. componentFits cs c ≡ true) n (a .fit) e }
 
 kind-kept : (cs : List Component) (c : ℕ) → componentFits cs c ≡ true → kindFields (componentAt cs c) ≡ true
 unfolding componentFits
@@ -210,7 +209,8 @@ pub related-self : (cs : List Component) (n c : ℕ) → Accepted cs n → c < n
 unfolding related isChild isSibling
 related-self cs n c a l = go (eqb c 0) refl
   where
-    go : (t : Bool) → eqb c 0 ≡ t → ((not t && eqb (componentAt cs c .parent) c) || ((not (eqb c c) && not t) && (not t && eqb (componentAt cs c .parent) (componentAt cs c .parent))) || (not t && eqb (componentAt cs c .parent) c)) ≡ false
+    go : (t : Bool) → eqb c 0 ≡ t
+        → ((not t && eqb (componentAt cs c .parent) c) || ((not (eqb c c) && not t) && (not t && eqb (componentAt cs c .parent) (componentAt cs c .parent))) || (not t && eqb (componentAt cs c .parent) c)) ≡ false
     go true f = simp (and-false)
     go false f =
         let p = parent-below cs c (a .fit c l) (eqb-false c 0 f) in

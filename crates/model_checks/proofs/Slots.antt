@@ -56,7 +56,8 @@ pub slots-keys : (p : Phase) (a b c d : ℕ) → messageOf a ≡ p .slot0 → me
     → (usedFit p && unusedFit p) ≡ byKeys (p .outputCount) a b c d
 unfolding usedFit unusedFit outputs slots byKeys havePorts neverFall areZero
 slots-keys p a b c d e f g h =
-    rw (all-take, rises-take, all-drop, ← e, ← f, ← g, ← h, key-port a, key-port b, key-port c, key-port d, key-zero a, key-zero b, key-zero c, key-zero d, message-key-order a b, message-key-order b c, message-key-order c d)
+    rw (all-take, rises-take, all-drop, ← e, ← f, ← g, ← h, key-port a, key-port b, key-port c, key-port d)
+    (rw (key-zero a, key-zero b, key-zero c, key-zero d, message-key-order a b, message-key-order b c, message-key-order c d))
 
 -- ---- keys that rise have ports if the last one has
 
@@ -103,8 +104,8 @@ module _ (n a b c d : ℕ) where
   pub all-used : 3 < n → byKeys n a b c d ≡ (leb a b && leb b c && leb c d && ltb d keysEnd)
   unfolding byKeys havePorts neverFall areZero
   all-used l =
-      rw (lt-leb n 0 (omega arith), lt-leb n 1 (omega arith), lt-leb n 2 (omega arith), lt-leb n 3 (omega arith), lt-ltb 0 n (omega arith), lt-ltb 1 n (omega arith), lt-ltb 2 n (omega arith), lt-ltb 3 n l)
-      (simp and-true (rise4 a b c d))
+      rw (lt-leb n 0 (omega arith), lt-leb n 1 (omega arith), lt-leb n 2 (omega arith), lt-leb n 3 (omega arith))
+      (rw (lt-ltb 0 n (omega arith), lt-ltb 1 n (omega arith), lt-ltb 2 n (omega arith), lt-ltb 3 n l) (simp and-true (rise4 a b c d)))
 
   module _ (l : n ≤ 3) where
     pub fourth-set : 0 < d → byKeys n a b c d ≡ false

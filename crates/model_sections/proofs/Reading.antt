@@ -95,7 +95,8 @@ module _ {A : Type 0} {form : Form A} {s : Bytes} {found count : ℕ} {records :
     reading-refused {m} f g =
         let b = failed (form .fits (recordsOf form records) i) (form .bad) x {m = m} (sym f ∙ e) in
         ap refused (g ∙ ap numberOf f ∙ b .1)
-        ∙ sym (section-bad (form .size) (form .wrong) (form .to) (form .fits) (form .bad) s (at .sized) (at .right) i (rw (← count-is) l) (rw (← part-is, ← count-is) (at .left)) (rw (← part-is) (b .0)))
+        ∙ sym (section-bad (form .size) (form .wrong) (form .to) (form .fits) (form .bad) s (at .sized) (at .right) i (rw (← count-is) l)
+        (rw (← part-is, ← count-is) (at .left)) (rw (← part-is) (b .0)))
 
     module _ {a : A} (f : q ≡ ok a) where
       pub reading-passes : form .fits (recordsOf form records) i ≡ true

@@ -15,7 +15,8 @@ returns c =
     let start : tie.Start = search in let bytes : tie.After-record-bytes = search in let field0 : tie.After-byte-at = search in
     let field1 : tie.After-byte-at2 = search in let field2 : tie.After-byte-at3 = search in let field3 : tie.After-byte-at4 = search in
     let field4 : tie.After-byte-at5 = search in
-    rw (← record-is componentSize toComponent (now (start .args .components)) (start .args .i) noComponent (start .pre) (bytes .record-bytes .ensures), field0 .byte-at .ensures, field1 .byte-at2 .ensures, field2 .byte-at3 .ensures, field3 .byte-at4 .ensures, field4 .byte-at5 .ensures)
+    rw (← record-is componentSize toComponent (now (start .args .components)) (start .args .i) noComponent (start .pre) (bytes .record-bytes .ensures))
+    (rw (field0 .byte-at .ensures, field1 .byte-at2 .ensures, field2 .byte-at3 .ensures, field3 .byte-at4 .ensures, field4 .byte-at5 .ensures))
 
 pub component-in-spec : {M : Type 1} → statement M
 component-in-spec =

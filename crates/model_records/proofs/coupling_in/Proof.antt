@@ -14,7 +14,8 @@ unfolding couplingsIn toCoupling
 returns c =
     let start : tie.Start = search in let bytes : tie.After-record-bytes = search in let field0 : tie.After-byte-at = search in
     let field1 : tie.After-byte-at2 = search in let field2 : tie.After-byte-at3 = search in let field3 : tie.After-byte-at4 = search in
-    rw (← record-is couplingSize toCoupling (now (start .args .couplings)) (start .args .i) noCoupling (start .pre) (bytes .record-bytes .ensures), field0 .byte-at .ensures, field1 .byte-at2 .ensures, field2 .byte-at3 .ensures, field3 .byte-at4 .ensures)
+    rw (← record-is couplingSize toCoupling (now (start .args .couplings)) (start .args .i) noCoupling (start .pre) (bytes .record-bytes .ensures))
+    (rw (field0 .byte-at .ensures, field1 .byte-at2 .ensures, field2 .byte-at3 .ensures, field3 .byte-at4 .ensures))
 
 pub coupling-in-spec : {M : Type 1} → statement M
 coupling-in-spec =

@@ -16,7 +16,9 @@ returns c =
     let field1 : tie.After-byte-at2 = search in let field2 : tie.After-byte-at3 = search in let field3 : tie.After-byte-at4 = search in
     let field4 : tie.After-u16-at = search in let field5 : tie.After-u16-at2 = search in let field6 : tie.After-u16-at3 = search in
     let field7 : tie.After-u32-at = search in let field8 : tie.After-u32-at2 = search in
-    rw (← record-is ruleSize toRule (now (start .args .rules)) (start .args .i) noRule (start .pre) (bytes .record-bytes .ensures), field0 .byte-at .ensures, field1 .byte-at2 .ensures, field2 .byte-at3 .ensures, field3 .byte-at4 .ensures, field4 .u16-at .ensures, field5 .u16-at2 .ensures, field6 .u16-at3 .ensures, field7 .u32-at .ensures, field8 .u32-at2 .ensures)
+    rw (← record-is ruleSize toRule (now (start .args .rules)) (start .args .i) noRule (start .pre) (bytes .record-bytes .ensures))
+    (rw (field0 .byte-at .ensures, field1 .byte-at2 .ensures, field2 .byte-at3 .ensures, field3 .byte-at4 .ensures, field4 .u16-at .ensures)
+    (rw (field5 .u16-at2 .ensures, field6 .u16-at3 .ensures, field7 .u32-at .ensures, field8 .u32-at2 .ensures)))
 
 pub rule-in-spec : {M : Type 1} → statement M
 rule-in-spec =

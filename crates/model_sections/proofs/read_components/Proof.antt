@@ -18,7 +18,8 @@ use Rattle.model_sections.proofs.read_components.Statement.{statement}
 use Rattle.model_sections.proofs.read_components.Tie as tie
 
 abbrev Inv-loop : tie.InvT-loop
-Inv-loop file parents₀ phase-counts₀ announced count head records depths₀ i₀ parents phase-counts depths i = Reading componentForm file announced count records i × FirstKnown (componentsIn records) i parents phase-counts depths
+Inv-loop file parents₀ phase-counts₀ announced count head records depths₀ i₀ parents phase-counts depths i =
+    Reading componentForm file announced count records i × FirstKnown (componentsIn records) i parents phase-counts depths
 
 abbrev μ-loop : tie.MeasureT-loop
 μ-loop file parents₀ phase-counts₀ announced count head records depths₀ i₀ parents phase-counts depths i = count - i

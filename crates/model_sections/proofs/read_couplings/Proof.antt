@@ -16,7 +16,8 @@ use Rattle.model_sections.proofs.read_couplings.Statement.{statement}
 use Rattle.model_sections.proofs.read_couplings.Tie as tie
 
 abbrev Inv-loop : tie.InvT-loop
-Inv-loop components parents rest-of-file announced count head records i₀ before₀ i before = Reading (couplingForm (componentsIn components)) rest-of-file announced count records i × Behind (couplingsIn records) i before
+Inv-loop components parents rest-of-file announced count head records i₀ before₀ i before =
+    Reading (couplingForm (componentsIn components)) rest-of-file announced count records i × Behind (couplingsIn records) i before
 
 abbrev μ-loop : tie.MeasureT-loop
 μ-loop components parents rest-of-file announced count head records i₀ before₀ i before = count - i

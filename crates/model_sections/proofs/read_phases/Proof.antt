@@ -20,13 +20,15 @@ use Rattle.model_sections.proofs.read_phases.Statement.{statement}
 use Rattle.model_sections.proofs.read_phases.Tie as tie
 
 abbrev Inv-loop2 : tie.InvT-loop2
-Inv-loop2 components phase-counts rest-of-file announced count component-count total head records i₀ c bound p₀ i p = Reading (phaseForm (componentsIn components)) rest-of-file announced count records i × Standing (componentsIn components) c bound p i
+Inv-loop2 components phase-counts rest-of-file announced count component-count total head records i₀ c bound p₀ i p =
+    Reading (phaseForm (componentsIn components)) rest-of-file announced count records i × Standing (componentsIn components) c bound p i
 
 abbrev μ-loop2 : tie.MeasureT-loop2
 μ-loop2 components phase-counts rest-of-file announced count component-count total head records i₀ c bound p₀ i p = bound - p
 
 abbrev Inv-loop : tie.InvT-loop
-Inv-loop components phase-counts rest-of-file announced count component-count total head records i₀ c₀ i c = Reading (phaseForm (componentsIn components)) rest-of-file announced count records i × (c ≤ component-count) × (i ≡ phasesBefore (componentsIn components) c)
+Inv-loop components phase-counts rest-of-file announced count component-count total head records i₀ c₀ i c =
+    Reading (phaseForm (componentsIn components)) rest-of-file announced count records i × (c ≤ component-count) × (i ≡ phasesBefore (componentsIn components) c)
 
 abbrev μ-loop : tie.MeasureT-loop
 μ-loop components phase-counts rest-of-file announced count component-count total head records i₀ c₀ i c = component-count - c
