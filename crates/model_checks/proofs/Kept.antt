@@ -210,7 +210,8 @@ unfolding related isChild isSibling
 related-self cs n c a l = go (eqb c 0) refl
   where
     go : (t : Bool) → eqb c 0 ≡ t
-        → ((not t && eqb (componentAt cs c .parent) c) || ((not (eqb c c) && not t) && (not t && eqb (componentAt cs c .parent) (componentAt cs c .parent))) || (not t && eqb (componentAt cs c .parent) c)) ≡ false
+        → ((not t && eqb (componentAt cs c .parent) c) || ((not (eqb c c) && not t) && (not t && eqb (componentAt cs c .parent) (componentAt cs c .parent)))
+        || (not t && eqb (componentAt cs c .parent) c)) ≡ false
     go true f = simp (and-false)
     go false f =
         let p = parent-below cs c (a .fit c l) (eqb-false c 0 f) in

@@ -16,7 +16,8 @@ returns c =
     let field1 : tie.After-byte-at = search in let field2 : tie.After-byte-at2 = search in let field3 : tie.After-message-at = search in
     let field4 : tie.After-message-at2 = search in let field5 : tie.After-message-at3 = search in let field6 : tie.After-message-at4 = search in
     rw (← record-is phaseSize toPhase (now (start .args .phases)) (start .args .i) noPhase (start .pre) (bytes .record-bytes .ensures))
-    (rw (field0 .u32-at .ensures, field1 .byte-at .ensures, field2 .byte-at2 .ensures, field3 .message-at .ensures, field4 .message-at2 .ensures, field5 .message-at3 .ensures, field6 .message-at4 .ensures))
+    (rw (field0 .u32-at .ensures, field1 .byte-at .ensures, field2 .byte-at2 .ensures, field3 .message-at .ensures)
+    (rw (field4 .message-at2 .ensures, field5 .message-at3 .ensures, field6 .message-at4 .ensures)))
 
 pub phase-in-spec : {M : Type 1} → statement M
 phase-in-spec =
