@@ -87,7 +87,9 @@ sub-size c =
 put-bytes-requires : tie.Need-put-bytes-requires
 put-bytes-requires c κs =
     let part : tie.After-front = search in let test : tie.Then2 = search in let here : tie.Else1 = search in
-    rw (part .front .ensures) (omega (arith, length-take-le _ _ (test .if2 .taken), size-as here, stands here .within))
+    let pass = pass-of here in
+    let size = pass .first-pass .result .progress .used - start-of pass .args .turn .progress .used in
+    rw (part .front .ensures) (omega (arith, length-take-le size (scratch pass) (test .if2 .taken), size-as here, stands here .within))
 
 returns-2 : tie.Need-returns-2
 returns-2 c =
