@@ -54,12 +54,14 @@ returns c =
     let q = start-of f .pre .0 in
     let count = sized f .u8-to-usize .ensures ∙ counted f .atomics-in .ensures in
     let loaded = rw count at (f .load .ensures) in
-    done .advance-from .ensures
+    let cast : tie.After-usize-to-u64 = search in
+    rw (cast .usize-to-u64 .ensures)
+    (done .advance-from .ensures
     ∙ call-parts (a .file .now) (a .n) (bytes f) (q .model) (a .run .now) (a .t .0) (a .bag .now) (q .checks) (a .tables .now) (q .tabled) (a .trace .now)
-    (λ i. known-bag f .shared-slice-known2 .given i .fits) _ loaded (length (now (a .work))) (start-of f .pre .1 .room) _ _ (phases .phases-of .ensures) (rules .rules-of .ensures)
+    (λ i. known-bag f .shared-slice-known2 .given i .fits) _ loaded (length (now (a .work))) (start-of f .pre .1 .room) _ _ (phases .phases-of .ensures) (rules .rules-of .ensures))
 
 pub advance-let-in-spec : {M : Type 1} → statement M
 advance-let-in-spec =
     tie.close
     (tie.spec atomics-in-requires (search needs) load-requires (search needs) (search needs) advance-from-requires
-    (search needs) (search needs) (search needs) returns)
+    (search needs) (search needs) (search needs) (search needs) returns)
