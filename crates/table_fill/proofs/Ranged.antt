@@ -17,7 +17,8 @@ use Rattle.law_nest.proofs.Places.{place-below}
 use Rattle.law_nest.proofs.Components.{atomic-once}
 use Rattle.law_routes.specs.Nodes.{portNodes}
 use Rattle.law_routes.proofs.Placed.{parents}
-use Rattle.spec_step.specs.Tables.{numbersAt, positionsAt, kindsAt, ordersAt, phasesAt, parentsAt, rulesFromAt, rulesToAt, childAt, siblingAt, firstAt, liveAt, nextAt, sourceAt, countAt, atomicsAt, atomicAt}
+use Rattle.spec_step.specs.Tables.{numbersAt, positionsAt, kindsAt, ordersAt, phasesAt, parentsAt, rulesFromAt, rulesToAt, childAt, siblingAt}
+use Rattle.spec_step.specs.Tables.{firstAt, liveAt, nextAt, sourceAt, countAt, atomicsAt, atomicAt}
 use Rattle.spec_step.specs.Ranges.{maxNodes, InRange, Seated}
 use Rattle.spec_step.specs.Tabled.{Tabled, isLive}
 use Rattle.spec_step.specs.TablesOf.{TablesOf}

@@ -19,7 +19,8 @@ returns c =
     let after-open-model : tie.After-open-model = search in
     let a = start .args in
     let told = sym (ap (checkedAs (a .file .now)) (after-enum-told .enum-told .given .1)) ∙ after-open-model .open-model .ensures .0 in
-    rw (c .refused .ensures, c .before .u16-to-u64 .ensures, after-refusal .refusal .ensures, after-enum-told .enum-told .given .1) (model-refused (a .file .now) (a .run .now) (a .t) (a .bag .now) (a .trace .now) _ told)
+    rw (c .refused .ensures, c .before .u16-to-u64 .ensures, after-refusal .refusal .ensures, after-enum-told .enum-told .given .1)
+    (model-refused (a .file .now) (a .run .now) (a .t) (a .bag .now) (a .trace .now) _ told)
 
 advance-accepted-requires : tie.Need-advance-accepted-requires
 advance-accepted-requires c κs =

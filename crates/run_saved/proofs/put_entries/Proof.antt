@@ -36,7 +36,8 @@ returns c =
     let a = start .args in
     let l = c .before .loop in
     let z : a .n - 0 ≡ a .n = omega arith in
-    sym (rows-none (heldIn (a .state .now)) (l .i) (a .n - l .i) (runLength (l .i)) (l .run) (omega arith)) ∙ l .inv .2 ∙ ap (λ k. sets (a .run .now) (runLength 0) (entryRows (heldIn (a .state .now)) 0 k)) z
+    sym (rows-none (heldIn (a .state .now)) (l .i) (a .n - l .i) (runLength (l .i)) (l .run) (omega arith)) ∙ l .inv .2
+    ∙ ap (λ k. sets (a .run .now) (runLength 0) (entryRows (heldIn (a .state .now)) 0 k)) z
 
 pub put-entries-spec : {M : Type 1} → statement M
 put-entries-spec =

@@ -20,7 +20,8 @@ use Rattle.run_saved.proofs.start_state.Statement.{statement}
 use Rattle.run_saved.proofs.start_state.Tie as tie
 
 abbrev Inv-loop : tie.InvT-loop
-Inv-loop components state₀ n k₀ c₀ state k c = (c ≤ n) × (k ≤ c) × (k ≡ length (keep (isAtomic (componentsIn components)) (upFrom 0 c))) × Wide (heldIn state) × (entriesOf k (heldIn state) ≡ startedTo (componentsIn components) c)
+Inv-loop components state₀ n k₀ c₀ state k c =
+    (c ≤ n) × (k ≤ c) × (k ≡ length (keep (isAtomic (componentsIn components)) (upFrom 0 c))) × Wide (heldIn state) × (entriesOf k (heldIn state) ≡ startedTo (componentsIn components) c)
 
 abbrev μ-loop : tie.MeasureT-loop
 μ-loop components state₀ n k₀ c₀ state k c = n - c

@@ -76,7 +76,8 @@ end-below-loop-holds t c =
     let a = start .args in
     let q = start .pre .1 in
     let child = c .row-in .ensures in
-    (omega arith, rw child (q .1 .children (a .c) (q .0)), rw child (q .1 .children-rise (a .c) (q .0)), omega arith, rw child (end-coupled (now (a .tables)) (endsIn (now (a .state))) (a .c) (sym (after-is-atomic .is-atomic .ensures) ∙ c .before .if1 .left)))
+    let coupled = end-coupled (now (a .tables)) (endsIn (now (a .state))) (a .c) (sym (after-is-atomic .is-atomic .ensures) ∙ c .before .if1 .left) in
+    (omega arith, rw child (q .1 .children (a .c) (q .0)), rw child (q .1 .children-rise (a .c) (q .0)), omega arith, rw child coupled)
 
 end-below-is-atomic-requires-2 : (t : ℕ) → end-below-lts.Need-is-atomic-requires-2 (end-below-calls t) (end-below-at t) end-below.Post end-below-Inv-loop end-below-μ-loop
 end-below-is-atomic-requires-2 t c κs = c .before .loop .inv .1

@@ -36,7 +36,9 @@ returns c =
     let cs = componentsIn (now (a .components)) in
     let rs = rulesIn (now (a .rules)) in
     let ks = couplingsIn (now (a .couplings)) in
-    let e = after-fill-linked .fill-linked .ensures ∙ ap (byCoupling cs ks) (after-fill-children .fill-children .ensures ∙ ap (byParent cs) (after-fill-rules .fill-rules .ensures ∙ ap (byRule rs) (after-fill-components .fill-components .ensures ∙ ap (byComponent cs) (start .pre .3 .begins)))) in
+    let components = after-fill-components .fill-components .ensures ∙ ap (byComponent cs) (start .pre .3 .begins) in
+    let children = after-fill-children .fill-children .ensures ∙ ap (byParent cs) (after-fill-rules .fill-rules .ensures ∙ ap (byRule rs) components) in
+    let e = after-fill-linked .fill-linked .ensures ∙ ap (byCoupling cs ks) children in
     rw (← e, ← after-count-word .count-word .ensures, ← c .atomics-word .ensures)
 
 pub fill-tables-spec : {M : Type 1} → statement M
