@@ -21,18 +21,40 @@ unfoldable pub computing : Type 0
 unfolding
     Lists.concat Lists.sum Lists.all Lists.keep Lists.isEmpty Lists.upFrom Lists.count Lists.lexLe Lists.rises Lists.insertBy Lists.sortBy
     Bytes.littleEndian Bytes.numberAt Bytes.bytesOf Bytes.chunks Bytes.laidOut Bytes.stored
-    Model.noMessage Model.noComponent Model.noPhase Model.noRule Model.noCoupling Model.componentAt Model.isAtomic Model.atomics Model.phasesBefore Model.phaseAt Model.slots Model.outputs Model.isChild Model.isSibling Model.children Model.messageLe Model.couplingRow Model.couplingLe Model.forest Model.treeAt Model.tree
-    Records.messageAt Records.messageBytes Records.portFits Decoder.toComponent Records.componentBytes Decoder.coupledFields Decoder.atomicFields Decoder.kindFields Decoder.rootFields Decoder.rootWithin Decoder.placeFits Decoder.componentFits Decoder.toPhase Records.phaseBytes Decoder.advanceFits Decoder.usedFit Decoder.unusedFit Decoder.phaseFields Decoder.bounds Decoder.phaseFits Decoder.toRule Records.ruleBytes Decoder.ruleFields Decoder.ruleFits Decoder.toCoupling Records.couplingBytes Decoder.related Decoder.couplingFields Decoder.notFalling Decoder.couplingFits
-    Decoder.sectionCount Decoder.section File.sectionBytes Decoder.componentCountRefusal Decoder.phaseCountRefusal Decoder.limitRefusal File.phaseTotal Decoder.componentSection Decoder.phaseSection Decoder.ruleSection Decoder.couplingSection Decoder.endOfFile Decoder.decode File.modelBytes
-    Routes.portsTo Routes.joined Routes.joinedAll Routes.rootEnds Routes.routes Decoder.accepted Decoder.checkModel Routes.endsIn Routes.waysFrom
-    Devs.earlier Devs.remaining Devs.later Devs.sameTime Devs.ticks Devs.translateOne Devs.translate Devs.sigma Devs.leastSigma Devs.outputsTo Devs.changed Devs.changedAll Devs.resultantOut Devs.resultantInt Devs.resultantExt Devs.resultantCon Devs.transition Devs.devsStep Devs.devsDue
-    Atomic.meets Atomic.withinElapsed Atomic.holds Atomic.deciding Atomic.ledTo Atomic.advanceOf Atomic.internal Atomic.external Atomic.confluent
-    SavedRun.noEntry SavedRun.atomicCount SavedRun.runLength SavedRun.toEntry SavedRun.toRun SavedRun.runOf SavedRun.entryBytes SavedRun.runBytes SavedRun.dueOf SavedRun.lookUp SavedRun.entryOf SavedRun.nextDue SavedRun.notBefore SavedRun.entryFits SavedRun.entriesFit SavedRun.runFits SavedRun.dueAt
+    Model.noMessage Model.noComponent Model.noPhase Model.noRule Model.noCoupling Model.componentAt Model.isAtomic Model.atomics
+    Model.phasesBefore Model.phaseAt Model.slots Model.outputs Model.isChild Model.isSibling Model.children Model.messageLe
+    Model.couplingRow Model.couplingLe Model.forest Model.treeAt Model.tree
+    Records.messageAt Records.messageBytes Records.portFits Decoder.toComponent Records.componentBytes Decoder.coupledFields
+    Decoder.atomicFields Decoder.kindFields Decoder.rootFields Decoder.rootWithin Decoder.placeFits Decoder.componentFits Decoder.toPhase
+    Records.phaseBytes Decoder.advanceFits Decoder.usedFit Decoder.unusedFit Decoder.phaseFields Decoder.bounds Decoder.phaseFits
+    Decoder.toRule Records.ruleBytes Decoder.ruleFields Decoder.ruleFits Decoder.toCoupling Records.couplingBytes Decoder.related
+    Decoder.couplingFields Decoder.notFalling Decoder.couplingFits
+    Decoder.sectionCount Decoder.section File.sectionBytes Decoder.componentCountRefusal Decoder.phaseCountRefusal Decoder.limitRefusal
+    File.phaseTotal Decoder.componentSection Decoder.phaseSection Decoder.ruleSection Decoder.couplingSection Decoder.endOfFile
+    Decoder.decode File.modelBytes
+    Routes.portsTo Routes.joined Routes.joinedAll Routes.rootEnds Routes.routes Decoder.accepted Decoder.checkModel Routes.endsIn
+    Routes.waysFrom
+    Devs.earlier Devs.remaining Devs.later Devs.sameTime Devs.ticks Devs.translateOne Devs.translate Devs.sigma Devs.leastSigma
+    Devs.outputsTo Devs.changed Devs.changedAll Devs.resultantOut Devs.resultantInt Devs.resultantExt Devs.resultantCon Devs.transition
+    Devs.devsStep Devs.devsDue
+    Atomic.meets Atomic.withinElapsed Atomic.holds Atomic.deciding Atomic.unspent Atomic.followed Atomic.advanceOf Atomic.nextPhase
+    Atomic.ruleFor Atomic.timeAdvance Atomic.internal Atomic.external Atomic.confluent
+    SavedRun.noEntry SavedRun.atomicCount SavedRun.runLength SavedRun.toEntry SavedRun.toRun SavedRun.runOf SavedRun.entryBytes
+    SavedRun.runBytes SavedRun.dueOf SavedRun.lookUp SavedRun.entryOf SavedRun.nextDue SavedRun.notBefore SavedRun.entryFits
+    SavedRun.entriesFit SavedRun.runFits SavedRun.dueAt
     Step.elapsed Step.assoc Step.unload Step.stepOn Step.step Step.load Step.leavesOf
-    Instant.stepped Instant.isDue Instant.goesOn Instant.stepsAt Instant.instant Instant.over Instant.recordBytes Instant.traceBytes Instant.recordsFrom Instant.instantTrace
+    Instant.stepped Instant.isDue Instant.goesOn Instant.stepsAt Instant.instant Instant.over Instant.recordBytes Instant.traceBytes
+    Instant.recordsFrom Instant.instantTrace
     Advance.ended Advance.tried Advance.continued Advance.succeeded Advance.isBefore Advance.advancing Advance.advanceFrom
-    Engine.wrote Engine.startRun Engine.start Engine.toBag Engine.bagFits Engine.advanceChecks Engine.advanced Engine.advance Engine.dueNumber Engine.wasRead Engine.readingChecks Engine.readAt Engine.reading
-    Flatten.placeIn Flatten.renumbered Flatten.flatAtomic Flatten.flatComponents Flatten.flatRule Flatten.flatRoute Flatten.flat Flatten.flatten
-    FlatMachine.sent FlatMachine.dueNow FlatMachine.putOut FlatMachine.reaching FlatMachine.arriving FlatMachine.moved FlatMachine.movedAll FlatMachine.flatStep FlatMachine.anyDue FlatMachine.takeSteps FlatMachine.firstDue FlatMachine.flatDue FlatMachine.notAfter FlatMachine.placed FlatMachine.inOrder FlatMachine.recorded FlatMachine.entriesIn FlatMachine.standing FlatMachine.verdictOn FlatMachine.attempt FlatMachine.openedPast FlatMachine.orEnd FlatMachine.dueBefore FlatMachine.inTurn FlatMachine.answered FlatMachine.flatAdvance FlatMachine.flatStart FlatMachine.flatReading
+    Engine.wrote Engine.startRun Engine.start Engine.toBag Engine.bagFits Engine.advanceChecks Engine.advanced Engine.advance
+    Engine.dueNumber Engine.wasRead Engine.readingChecks Engine.readAt Engine.reading
+    Flatten.placeIn Flatten.renumbered Flatten.flatAtomic Flatten.flatComponents Flatten.flatRule Flatten.flatRoute Flatten.flat
+    Flatten.flatten
+    FlatMachine.sent FlatMachine.ledTo FlatMachine.externalPart FlatMachine.bothParts FlatMachine.dueNow FlatMachine.putOut
+    FlatMachine.reaching FlatMachine.arriving FlatMachine.movedBy FlatMachine.moved FlatMachine.movedAll FlatMachine.flatStep
+    FlatMachine.anyDue FlatMachine.takeSteps FlatMachine.firstDue FlatMachine.flatDue FlatMachine.notAfter FlatMachine.placed
+    FlatMachine.inOrder FlatMachine.recorded FlatMachine.entriesIn FlatMachine.standing FlatMachine.verdictOn FlatMachine.attempt
+    FlatMachine.openedPast FlatMachine.orEnd FlatMachine.dueBefore FlatMachine.inTurn FlatMachine.answered FlatMachine.flatAdvance
+    FlatMachine.flatStart FlatMachine.flatReading
     Calls.called Calls.runCalls Calls.engine Calls.flatMachine
 computing = Unit {0}

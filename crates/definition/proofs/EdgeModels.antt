@@ -1,11 +1,12 @@
 -- Models that stand on an edge of document 01: a confluent transition that tells both orders and their elapsed times apart, a rule
--- without an upper end, an instant of exactly 1,024 steps, and one that jams and overruns at once. Assumes nothing.
+-- without an upper end, an instant of exactly 1,024 steps, and one that jams and overruns at once; and a hold that gets stray cues.
+-- Assumes nothing.
 use Prim.Native.Nat.{ℕ, suc}
 use mathlib.Core.List.{[], _∷_, _++_, map}
 use Rattle.definition.specs.Lists.{upFrom}
 use Rattle.definition.specs.Limits.{neverField}
 use Rattle.definition.specs.Model.{Rule, Model, noComponent}
-use Rattle.definition.proofs.Models.{message, atomicIn, silent, saying, onValue, link}
+use Rattle.definition.proofs.Models.{message, coupledIn, atomicIn, silent, saying, onValue, link}
 
 -- as `onValue`, at an elapsed time from low to high
 unfoldable pub onValueAt : ℕ → ℕ → ℕ → ℕ → ℕ → ℕ → Rule
@@ -50,4 +51,16 @@ counting initial = record {
       ++ map (λ i. silent neverField i) (upFrom 0 31) ++ (saying 0 32 (message 0 9) ∷ silent neverField 32 ∷ []);
   rules = onValue 1 1 9 1 32 ∷ onValue 1 63 5 1 0 ∷ map (λ i. onValue 2 i 1 1 (suc i)) (upFrom 0 31);
   couplings = link 0 0 1 0 ∷ link 1 0 2 0 ∷ link 2 0 1 0 ∷ [];
+}
+
+-- The atomic 3, three levels down in 1 and 2: a 7 begins a hold of 5 ticks, after which it says 9 at the root; a 6 begins it anew, a 4 after 4
+-- or 5 ticks of it leads to phase 2, and so does a 3 after a rest of 4,294,967,294 ticks or more. For all else it has no rule. Beside its
+-- parent, the atomic 4 sends it an 8 every so many ticks.
+unfoldable pub holding : ℕ → ℕ → Model
+holding order every = record {
+  components = noComponent ∷ coupledIn 0 ∷ coupledIn 1 ∷ atomicIn 2 3 order ∷ atomicIn 1 1 0 ∷ [];
+  phases = silent neverField 0 ∷ saying 5 0 (message 0 9) ∷ silent neverField 2 ∷ saying every 0 (message 0 8) ∷ [];
+  rules = onValue 3 0 7 1 1 ∷ onValue 3 1 6 1 1 ∷ onValueAt 3 1 4 4 5 2 ∷ onValueAt 3 0 3 4294967294 neverField 2 ∷ [];
+  couplings =
+      link 0 0 1 0 ∷ link 1 0 0 0 ∷ link 1 0 2 0 ∷ link 2 0 1 0 ∷ link 2 0 3 0 ∷ link 3 0 2 0 ∷ link 4 0 2 0 ∷ [];
 }

@@ -37,15 +37,8 @@ edges =
     ∷ record {
       model = waiting 4294967294;
       calls = startCall ∷ advanceTo 5000000000 (0 ∷ 7 ∷ 0 ∷ []) [] ∷ readingCall 0 ∷ [];
-      answers = startAnswer 0 19 ∷ advanceAnswer 0 1 1 0 [] ∷ readingAnswer 0 0 5000000000 18446744073709551615 ∷ [];
-      run = saved 5000000001 ((0, 5000000000) ∷ []) ++ zeros 9;
-    }
-    -- the atomic's own elapsed time: a stray 8 at 3 begins its stay afresh, so that the 7 at 6 comes after 3 ticks, and the one at 11 after 5
-    ∷ record {
-      model = waiting 5;
-      calls = startCall ∷ advanceTo 3 (0 ∷ 8 ∷ 0 ∷ []) [] ∷ advanceTo 6 (0 ∷ 7 ∷ 0 ∷ []) [] ∷ advanceTo 11 (0 ∷ 7 ∷ 0 ∷ []) [] ∷ [];
-      answers = startAnswer 0 19 ∷ advanceAnswer 0 1 1 0 [] ∷ advanceAnswer 0 1 1 0 [] ∷ advanceAnswer 0 1 1 0 [] ∷ [];
-      run = saved 12 ((1, 11) ∷ []) ++ zeros 9;
+      answers = startAnswer 0 19 ∷ advanceAnswer 0 1 1 0 [] ∷ readingAnswer 0 0 0 18446744073709551615 ∷ [];
+      run = saved 5000000001 ((0, 0) ∷ []) ++ zeros 9;
     }
     -- an instant that jams gets 13, also where its records overrun the trace
     ∷ record {

@@ -5,6 +5,7 @@ pub mod Table
 pub mod NestTable
 pub mod EdgeModels
 pub mod EdgeTable
+pub mod StrayTable
 -- literal bytes, refusals, runs, rules and flat forms: rows that fail where a definition's detail is changed
 pub mod Literals
 pub mod FileTable

@@ -51,8 +51,8 @@ unfoldable pub restless : Model
 restless = record { components = noComponent ∷ atomicIn 0 1 0 ∷ []; phases = silent 0 0 ∷ []; rules = []; couplings = [] }
 
 -- Three levels: the root holds the coupled 1 and the atomic 5; 1 holds the atomic 2 and the coupled 3; 3 holds the atomic 4 (order 1).
--- Couplings 2.0 to 3.0 and 5.0 to 1.0 are doubled. Phases with advance 0 of 2 and 4 give instants of two steps, and both meet
--- confluent transitions, with and without a deciding rule.
+-- Couplings 2.0 to 3.0 and 5.0 to 1.0 are doubled. Phases with advance 0 of 2 and 4 give instants of two steps. In its rows 2 and 4 meet
+-- confluent transitions with a deciding rule, 2 and 5 such without one, and 2 and 5 get messages for which they have no rule.
 unfoldable pub nest : Model
 nest = record {
   components = noComponent ∷ coupledIn 0 ∷ atomicIn 1 3 0 ∷ coupledIn 1 ∷ atomicIn 3 3 1 ∷ atomicIn 0 2 0 ∷ [];

@@ -1,4 +1,4 @@
--- A nest of three levels with repeated couplings, confluent and zero-stay steps, computed on the engine's definitions, on the engine
+-- A nest of three levels with repeated couplings, confluent and zero-stay steps and stray messages, computed on the engine's definitions, on the engine
 -- with the flat form, and on the flat machine. Assumes nothing.
 use mathlib.Core.Path.{_≡_, refl}
 use mathlib.Core.List.{[], _∷_, _++_}
@@ -13,14 +13,15 @@ nestRow = record {
   model = nest;
   calls =
       startCall ∷ advanceTo 6 (0 ∷ 7 ∷ 0 ∷ 1 ∷ 9 ∷ 0 ∷ []) (zeros 55) ∷ readingCall 1
-      ∷ advanceTo 15 (0 ∷ 8 ∷ 0 ∷ 0 ∷ 8 ∷ 0 ∷ []) (zeros 54) ∷ readingCall 0 ∷ readingCall 3 ∷ [];
+      ∷ advanceTo 15 (0 ∷ 8 ∷ 0 ∷ 0 ∷ 8 ∷ 0 ∷ []) (zeros 87) ∷ readingCall 0 ∷ readingCall 3 ∷ [];
   answers =
       startAnswer 0 37
       ∷ advanceAnswer 0 2 4 51 (traced 5 0 ((0, 7) ∷ []) ++ traced 5 1 ((0, 8) ∷ (0, 100) ∷ (1, 10) ∷ []) ++ traced 6 1 ((0, 100) ∷ []) ++ zeros 4)
-      ∷ readingAnswer 0 2 6 11
-      ∷ advanceAnswer 0 2 4 54 (traced 11 0 ((0, 7) ∷ []) ++ traced 11 1 ((0, 8) ∷ (0, 100) ∷ (1, 10) ∷ []) ++ traced 15 1 ((0, 8) ∷ (1, 9) ∷ []))
-      ∷ readingAnswer 0 0 15 20 ∷ readingAnswer 16 0 0 0 ∷ [];
-  run = saved 16 ((0, 15) ∷ (0, 15) ∷ (0, 15) ∷ []) ++ zeros 3;
+      ∷ readingAnswer 0 2 6 10
+      ∷ advanceAnswer 0 3 6 87 (traced 10 0 ((0, 7) ∷ []) ++ traced 10 1 ((0, 8) ∷ (0, 100) ∷ (1, 9) ∷ []) ++ traced 11 1 ((0, 100) ∷ [])
+      ++ traced 15 0 ((0, 7) ∷ []) ++ traced 15 1 ((0, 8) ∷ (0, 100) ∷ (1, 9) ∷ []))
+      ∷ readingAnswer 0 0 15 16 ∷ readingAnswer 16 0 0 0 ∷ [];
+  run = saved 16 ((0, 15) ∷ (0, 15) ∷ (0, 11) ∷ []) ++ zeros 3;
 }
 
 pub nest-engine : runCalls (engine (modelBytes nest)) (zeros 40) (nestRow .calls) ≡ expected nestRow

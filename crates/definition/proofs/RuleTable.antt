@@ -41,6 +41,10 @@ pub record Chosen : Type 0 where
 unfoldable pub leads : ℕ → Bytes → ℕ → Chosen
 leads t bag phase = record { moment = t; bag = bag; phase = phase; last = t }
 
+-- At t with a bag that reaches no atomic, or for which the first has no rule: phase 0 since 0, as before.
+unfoldable pub passes : ℕ → Bytes → Chosen
+passes t bag = record { moment = t; bag = bag; phase = 0; last = 0 }
+
 unfoldable pub choices : List Chosen
 choices =
     -- two messages, in either order, the same one twice, and with a third; one of them
@@ -50,11 +54,11 @@ choices =
     ∷ leads 0 (b3 1 4 0 ++ b3 1 9 0) 2 ∷ leads 0 (b3 1 9 0 ++ b3 1 10 0) 2 ∷ leads 0 (b3 1 9 0 ++ b3 1 9 1) 2
     ∷ leads 0 (b3 0 5 0 ++ b3 0 9 0) 2 ∷ leads 0 (b3 0 5 0 ++ b3 1 9 0) 2
     -- two rules hold: the first; and a bag that reaches no atomic
-    ∷ leads 0 (b3 0 7 0) 2 ∷ record { moment = 3; bag = b3 2 5 0 ++ b3 2 9 0; phase = 0; last = 0 } ∷ []
+    ∷ leads 0 (b3 0 7 0) 2 ∷ passes 3 (b3 2 5 0 ++ b3 2 9 0) ∷ []
 
 -- elapsed times 4, 5, 9 and 10
 unfoldable pub times : List Chosen
-times = leads 4 (b3 0 7 0) 0 ∷ leads 5 (b3 0 7 0) 1 ∷ leads 9 (b3 0 7 0) 1 ∷ leads 10 (b3 0 7 0) 0 ∷ []
+times = passes 4 (b3 0 7 0) ∷ leads 5 (b3 0 7 0) 1 ∷ leads 9 (b3 0 7 0) 1 ∷ passes 10 (b3 0 7 0) ∷ []
 
 -- A run with the first atomic's phase and last moment: alone, or with another at 0.
 unfoldable pub alone : ℕ → ℕ → ℕ → Bytes
@@ -90,7 +94,7 @@ portingSo phase =
 -- ---- the rows
 
 unfoldable pub opened : Type 0
-unfolding tabled literals ruled choosing timed leads choices times alone besides chosenBy chosenSo porting portingCalls portingSo
+unfolding tabled literals ruled choosing timed leads passes choices times alone besides chosenBy chosenSo porting portingCalls portingSo
 opened = Unit {0}
 
 pub chosen : map (chosenBy (engine choosing) besides) choices ≡ map (chosenSo besides) choices
@@ -109,9 +113,9 @@ pub in-time-flat : map (chosenBy (flatMachine timed) alone) times ≡ map (chose
 unfolding opened
 in-time-flat = refl
 
--- In phase 1, of which no rule speaks, a 7 at 6 begins the stay afresh.
+-- In phase 1, of which no rule speaks, a 7 at 6 changes nothing; it is a step.
 pub stays : map (λ k. called k (alone 0 1 0) (advanceTo 6 (b3 0 7 0) [])) (engine timed ∷ flatMachine timed ∷ [])
-    ≡ (advanceAnswer 0 1 1 0 [], alone 7 1 6) ∷ (advanceAnswer 0 1 1 0 [], alone 7 1 6) ∷ []
+    ≡ (advanceAnswer 0 1 1 0 [], alone 7 1 0) ∷ (advanceAnswer 0 1 1 0 [], alone 7 1 0) ∷ []
 unfolding opened
 stays = refl
 

@@ -1,6 +1,6 @@
--- The atomic model of document 01, "One step": phases, rules and the two orders; and the model of every component of a nest.
--- Assumes nothing.
-use Prim.Native.Nat.{ℕ, suc}
+-- The atomic model of document 01, "One step": phases, rules and the two orders, as request (i) of document 02 mends it; and the model of
+-- every component of a nest. Assumes nothing.
+use Prim.Native.Nat.{ℕ, suc, _+_}
 use mathlib.Core.List.{List, [], _∷_}
 use mathlib.Core.Option.{Option, none, some}
 use mathlib.Core.Bool.{Bool, _&&_, _||_, cond}
@@ -9,7 +9,7 @@ use lib.ListN.{getD}
 use Rattle.definition.specs.Lists.{count}
 use Rattle.definition.specs.Limits.{neverField}
 use Rattle.definition.specs.Model.{Message, Bag, Rule, Model, noRule, componentAt, phaseAt, outputs, Tree, Forest, leaf, node, stop, more, nameOf}
-use Rattle.definition.specs.Devs.{Time, finite, never, ticks, Devs, Part, resultant}
+use Rattle.definition.specs.Devs.{Time, finite, never, remaining, ticks, Devs, Part, resultant}
 
 -- ---- the deciding rule
 
@@ -22,7 +22,7 @@ unfoldable pub withinElapsed : Rule → ℕ → Bool
 withinElapsed k e = leb (k .lowElapsed) e && (leb e (k .highElapsed) || eqb (k .highElapsed) neverField)
 
 -- "Conditions: component, phase, elapsed time within the range, and at least the least count of messages": component c in phase p,
--- e after its last transition, with bag x.
+-- e after its last moment, with bag x.
 unfoldable pub holds : ℕ → ℕ → ℕ → Bag → Rule → Bool
 holds c p e x k = eqb (k .component) c && eqb (k .phase) p && withinElapsed k e && leb (k .least) (count (meets k) x)
 
@@ -31,35 +31,58 @@ unfoldable pub deciding : (Rule → Bool) → ℕ → List Rule → Option ℕ
 deciding test at [] = none
 deciding test at (k ∷ ks) = let rest = deciding test (suc at) ks in cond (test k) (some at) rest
 
--- Where the rule at a position leads; "Where no rule holds the phase stays".
-unfoldable pub ledTo : List Rule → ℕ → Option ℕ → ℕ
-ledTo ks p none = p
-ledTo ks p (some i) = getD ks i noRule .next
+-- ---- the state of an atomic
+
+-- Document 001 counts the elapsed time anew after every event, also after one that a model lets pass. So the state is the phase and the
+-- time already spent in it before the last event: the last moment lies that time and the elapsed time back.
+pub record InPhase : Type 0 where
+  pub phase : ℕ
+  pub spent : ℕ
+
+unfoldable pub unspent : ℕ → InPhase
+unspent p = record { phase = p; spent = 0 }
+
+-- The rule at a position leads into its phase; "where no rule holds, the external transition keeps both phase and last moment": all the
+-- time since then is spent.
+unfoldable pub followed : List Rule → ℕ → ℕ → Option ℕ → InPhase
+followed ks p since none = record { phase = p; spent = since }
+followed ks p since (some i) = unspent (getD ks i noRule .next)
 
 -- ---- the atomic c
 
 module _ (m : Model) (c : ℕ) where
-  -- ta: the phase's advance, or never
+  -- "the phase's advance, or never"
   unfoldable pub advanceOf : ℕ → Time
   advanceOf p = cond (eqb (phaseAt m c p .advance) neverField) never (finite (phaseAt m c p .advance))
 
-  -- δ_int: "next phase"
-  unfoldable pub internal : ℕ → ℕ
-  internal p = phaseAt m c p .next
+  -- "next phase"
+  unfoldable pub nextPhase : ℕ → ℕ
+  nextPhase p = phaseAt m c p .next
 
-  -- δ_ext, an elapsed time e after the last transition
-  unfoldable pub external : ℕ → ℕ → Bag → ℕ
-  external p e x = ledTo (m .rules) p (deciding (holds c p e x) 0 (m .rules))
+  -- The position of the rule that decides in phase p, so long since the last moment.
+  unfoldable pub ruleFor : ℕ → ℕ → Bag → Option ℕ
+  ruleFor p since x = deciding (holds c p since x) 0 (m .rules)
 
-  -- δ_con: "order 0 takes the next phase, then the external transition with elapsed time 0; order 1 the external one with elapsed
-  -- time equal to the advance, then the next phase of where it led"
-  unfoldable pub confluent : ℕ → Bag → ℕ
-  confluent p x =
-      cond (eqb (componentAt (m .components) c .order) 0) (external (internal p) 0 x) (internal (external p (ticks (advanceOf p)) x))
+  -- ta: what is left of the phase's advance
+  unfoldable pub timeAdvance : InPhase → Time
+  timeAdvance s = remaining (advanceOf (s .phase)) (s .spent)
 
-  -- The state is the phase.
+  -- δ_int
+  unfoldable pub internal : InPhase → InPhase
+  internal s = unspent (nextPhase (s .phase))
+
+  -- δ_ext, an elapsed time e after the last event
+  unfoldable pub external : InPhase → ℕ → Bag → InPhase
+  external s e x = let since = s .spent + e in followed (m .rules) (s .phase) since (ruleFor (s .phase) since x)
+
+  -- δ_con: "order 0 takes the next phase, then the external transition with elapsed time 0; order 1 the external one with elapsed time
+  -- equal to the advance, then the next phase of where it led": δ_ext adds what was spent to what is left.
+  unfoldable pub confluent : InPhase → Bag → InPhase
+  confluent s x =
+      cond (eqb (componentAt (m .components) c .order) 0) (external (internal s) 0 x) (internal (external s (ticks (timeAdvance s)) x))
+
   abbrev pub atomic : Devs
-  atomic = record { State = ℕ; ta = advanceOf; out = λ p. outputs (phaseAt m c p); int = internal; ext = external; con = confluent }
+  atomic = record { State = InPhase; ta = timeAdvance; out = λ s. outputs (phaseAt m c (s .phase)); int = internal; ext = external; con = confluent }
 
 -- ---- every component: atomic, or the resultant of its children
 

@@ -10,7 +10,7 @@ use Rattle.definition.specs.Bytes.{Bytes, stored}
 use Rattle.definition.specs.Limits.{maxMoment}
 use Rattle.definition.specs.Model.{Model, componentAt, Tree, Forest, leaf, node, stop, more, tree}
 use Rattle.definition.specs.Devs.{Devs, Totals, Since, devsDue, devsStep}
-use Rattle.definition.specs.Atomic.{devsOf, partsOf}
+use Rattle.definition.specs.Atomic.{unspent, devsOf, partsOf}
 use Rattle.definition.specs.SavedRun.{Entry, noEntry, atomicCount, runLength, runOf, runBytes, entryOf, runFits}
 use Rattle.definition.specs.Step.{Simulator}
 use Rattle.definition.specs.Advance.{Progress, Ended}
@@ -28,10 +28,10 @@ carried d = record { next = devsDue d; step = λ now x q. let r = devsStep d now
 abbrev pub rootOf : Model → Devs
 rootOf m = devsOf m (tree m)
 
--- "Start writes 0, the initial phases and last moments 0": every atomic in its initial phase, all elapsed times 0.
+-- "Start writes 0, the initial phases and last moments 0": every atomic in its initial phase with nothing spent, all elapsed times 0.
 unfoldable mutual
   pub initially : (m : Model) (t : Tree) → devsOf m t .State
-  initially m (leaf c) = componentAt (m .components) c .initial
+  initially m (leaf c) = unspent (componentAt (m .components) c .initial)
   initially m (node c f) = initiallyAll m f
 
   pub initiallyAll : (m : Model) (f : Forest) → Totals (partsOf m f)
@@ -40,12 +40,12 @@ unfoldable mutual
 
 -- ---- what it stands for
 
--- A state stands for entries at a moment: each atomic is in its phase, and its last moment plus the elapsed times on the way to it
--- is that moment. How they are split over the levels is left open; e is what the levels above have.
+-- A state stands for entries at a moment: each atomic is in its phase, and its last moment plus what was spent and the elapsed times on
+-- the way to it is that moment. How they are split over the levels is left open; e is what the levels above have.
 module _ (m : Model) (at : ℕ → Entry) (now : ℕ) where
   abbrev mutual
     pub Stands : ℕ → (t : Tree) → devsOf m t .State → Type 0
-    Stands e (leaf c) s = (s ≡ at c .phase) × (at c .last + e ≡ now)
+    Stands e (leaf c) s = (s .phase ≡ at c .phase) × (at c .last + (s .spent + e) ≡ now)
     Stands e (node c f) s = StandsAll e f s
 
     pub StandsAll : ℕ → (f : Forest) → Totals (partsOf m f) → Type 0

@@ -4,6 +4,7 @@ use mathlib.Core.Path.{_≡_}
 use mathlib.Core.Logic.{_⊎_}
 use Prim.Native.Nat.{ℕ, suc, _+_, _≤_, _<_}
 use mathlib.Core.List.{List, [], _∷_, map}
+use mathlib.Core.Option.{Option, none, some}
 use lib.ListN.{length, getD}
 use Rattle.definition.specs.Lists.{concat}
 use Rattle.definition.specs.Bytes.{Bytes, numberAt}
@@ -64,9 +65,8 @@ pub record Holds (c p e : ℕ) (x : Bag) (k : Rule) : Type 0 where
   pub to : (e ≤ k .highElapsed) ⊎ (k .highElapsed ≡ neverField)
   pub messages : (ys : Bag) × Among ys x × (length ys ≡ k .least) × Every (Meets k) ys
 
--- "the first rule in file order whose conditions all hold decides", and "Where no rule holds the phase stays": the phase after the external
--- transition.
-pub data Decides (ks : List Rule) (c p e : ℕ) (x : Bag) : ℕ → Type 0 where
+-- "the first rule in file order whose conditions all hold decides": its position, or none "where no rule holds".
+pub data Decides (ks : List Rule) (c p e : ℕ) (x : Bag) : Option ℕ → Type 0 where
   first : (i : ℕ) → i < length ks → Holds c p e x (getD ks i noRule) → ((j : ℕ) → j < i → Holds c p e x (getD ks j noRule) → ⊥)
-      → Decides ks c p e x (getD ks i noRule .next)
-  none-holds : ((j : ℕ) → j < length ks → Holds c p e x (getD ks j noRule) → ⊥) → Decides ks c p e x p
+      → Decides ks c p e x (some i)
+  none-holds : ((j : ℕ) → j < length ks → Holds c p e x (getD ks j noRule) → ⊥) → Decides ks c p e x none

@@ -16,7 +16,7 @@ use Rattle.definition.specs.Pinned.Decoder.{accepted, checkModel}
 use Rattle.definition.specs.Sound.{Sound}
 use Rattle.definition.specs.Refusals.{Judged}
 use Rattle.definition.specs.Devs.{Since}
-use Rattle.definition.specs.Atomic.{external, devsOf}
+use Rattle.definition.specs.Atomic.{ruleFor, devsOf}
 use Rattle.definition.specs.SavedRun.{Entry, runLength, atomicCount, runOf, runBytes, nextDue, runFits}
 use Rattle.definition.specs.Clauses.{RunFits, BagFits, Decides}
 use Rattle.definition.specs.Step.{nested}
@@ -178,8 +178,8 @@ pub record Demand2 : Type 0 where
   pub from-start : (file run : Bytes) (m : Model) → AllBytes file → accepted file ≡ ok m → (before calls : List Call)
       → start file (runCalls (engine file) run before .1) .number ≡ 0
       → Through m (engine file) (atStart m) (start file (runCalls (engine file) run before .1) .buffer) calls
-  -- The atomic's external transition is by the first rule whose conditions all hold.
-  pub external-decides : (m : Model) (c p e : ℕ) (x : Bag) → Decides (m .rules) c p e x (external m c p e x)
+  -- The search by which an atomic's external part is decided finds the first rule whose conditions all hold.
+  pub rule-decides : (m : Model) (c p e : ℕ) (x : Bag) → Decides (m .rules) c p e x (ruleFor m c p e x)
   -- The order of messages in a bag changes nothing: of a given bag, and of a bag that reaches any component of a nest.
   pub given-order : (file run : Bytes) (t : ℕ) (b c trace : Bytes) → AllBytes file → length b ≡ length c → Same (toBag b) (toBag c)
       → advance file run t b trace ≡ advance file run t c trace

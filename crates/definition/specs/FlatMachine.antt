@@ -1,21 +1,22 @@
 -- The flat machine, from its own section of document 01, with its own steps, instants, trace records and loop over the instants. It
--- shares with the engine: the model and its acceptance; the lines for one atomic (its output, next phase, external and confluent
--- transition, when it is due); times and limits; the bytes of a message, of a saved run and of a given bag; the run that start writes;
+-- shares with the engine: the model and its acceptance; the lines for one atomic (its output, advance and next phase, its deciding rule, when
+-- it is due); times and limits; the bytes of a message, of a saved run and of a given bag; the run that start writes;
 -- the checks of a call's arguments; what a refused call answers, what a writer writes and what a reading shows of an entry.
 -- Assumes nothing.
 use Prim.Native.Nat.{ℕ, zero, suc, _+_, _-_}
 use mathlib.Core.List.{List, [], _∷_, _++_, map}
+use mathlib.Core.Option.{Option, none, some}
 use mathlib.Core.Bool.{Bool, true, false, _&&_, _||_, not, cond}
 use lib.Dec.{leb, ltb, eqb}
-use lib.ListN.{length, take, drop}
+use lib.ListN.{length, take, drop, getD}
 use Rattle.definition.specs.Lists.{concat, all, isEmpty}
 use Rattle.definition.specs.Bytes.{Bytes, Result, ok, refused, _>>=_, bytesOf, stored}
 use Rattle.definition.specs.Limits.{maxSteps, maxRootBag}
-use Rattle.definition.specs.Model.{Message, Bag, Coupling, Model, atomics, phaseAt, outputs}
+use Rattle.definition.specs.Model.{Message, Bag, Rule, Coupling, Model, noRule, componentAt, atomics, phaseAt, outputs}
 use Rattle.definition.specs.Records.{messageBytes}
 use Rattle.definition.specs.Pinned.Decoder.{accepted}
 use Rattle.definition.specs.Devs.{Time, finite, never, earlier, sameTime, ticks}
-use Rattle.definition.specs.Atomic.{internal, external, confluent}
+use Rattle.definition.specs.Atomic.{advanceOf, nextPhase, ruleFor}
 use Rattle.definition.specs.SavedRun.{Entry, runBytes, runOf, dueOf}
 use Rattle.definition.specs.Step.{Stepped}
 use Rattle.definition.specs.Engine.{Wrote, wrote, startRun, Advanced, advanceChecks, toBag, WasRead, wasRead, readingChecks, readAt}
@@ -29,6 +30,22 @@ pub record Sent : Type 0 where
 
 unfoldable pub sent : ℕ → Bag → List Sent
 sent c x = map (λ y. record { source = c; message = y }) x
+
+-- Where the external part of a confluent transition leads from phase p: without a rule the phase stays.
+unfoldable pub ledTo : List Rule → ℕ → Option ℕ → ℕ
+ledTo ks p none = p
+ledTo ks p (some i) = getD ks i noRule .next
+
+-- "Confluent: order 0 takes the next phase, then the external transition with elapsed time 0; order 1 the external one with elapsed time
+-- equal to the advance, then the next phase of where it led": the phases that the atomic c comes to.
+module _ (m : Model) (c : ℕ) where
+  unfoldable pub externalPart : ℕ → ℕ → Bag → ℕ
+  externalPart p e x = ledTo (m .rules) p (ruleFor m c p e x)
+
+  unfoldable pub bothParts : ℕ → Bag → ℕ
+  bothParts p x =
+      cond (eqb (componentAt (m .components) c .order) 0)
+      (externalPart (nextPhase m c p) 0 x) (nextPhase m c (externalPart p (ticks (advanceOf m c p)) x))
 
 module _ (m : Model) (now : ℕ) where
   unfoldable pub dueNow : ℕ → Entry → Bool
@@ -51,12 +68,17 @@ module _ (m : Model) (now : ℕ) where
   unfoldable pub arriving : ℕ → List Sent → Bag
   arriving d xs = concat (map (λ x. reaching d x (m .couplings)) xs)
 
+  -- "where no rule holds, the external transition keeps both phase and last moment": the entry stays as it is.
+  unfoldable pub movedBy : Option ℕ → Entry → Entry
+  movedBy none r = r
+  movedBy (some i) r = record { phase = getD (m .rules) i noRule .next; last = now }
+
   -- "by the lines of `One step`": an atomic that is due or not, with its bag.
   unfoldable pub moved : ℕ → Bool → Bag → Entry → Entry
-  moved c true [] r = record { phase = internal m c (r .phase); last = now }
-  moved c true (x ∷ xs) r = record { phase = confluent m c (r .phase) (x ∷ xs); last = now }
+  moved c true [] r = record { phase = nextPhase m c (r .phase); last = now }
+  moved c true (x ∷ xs) r = record { phase = bothParts m c (r .phase) (x ∷ xs); last = now }
   moved c false [] r = r
-  moved c false (x ∷ xs) r = record { phase = external m c (r .phase) (now - r .last) (x ∷ xs); last = now }
+  moved c false (x ∷ xs) r = movedBy (ruleFor m c (r .phase) (now - r .last) (x ∷ xs)) r
 
   -- "Then all atomics change together"
   unfoldable pub movedAll : List Sent → List ℕ → List Entry → List Entry

@@ -23,3 +23,4 @@ pub mod Calls
 pub mod AdvanceRelation
 pub mod Carrying
 pub mod Demands
+pub mod StrayCue

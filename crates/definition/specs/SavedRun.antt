@@ -11,7 +11,8 @@ use Rattle.definition.specs.Model.{Model, componentAt, atomics, Tree, Fo
 use Rattle.definition.specs.Devs.{Time, finite, never, earlier, later}
 use Rattle.definition.specs.Atomic.{advanceOf}
 
--- "The state of an atomic is its phase and the moment of its last transition"
+-- "The state of an atomic is its phase and the moment of its last transition", or of the last that set it: "where no rule holds, the
+-- external transition keeps both phase and last moment."
 pub record Entry : Type 0 where
   pub phase : ℕ
   pub last : ℕ

@@ -6,7 +6,7 @@ use mathlib.Core.Bool.{cond}
 use lib.Dec.{eqb}
 use Rattle.definition.specs.Model.{Bag, Model, atomics, Tree, Forest, leaf, node, stop, more, tree}
 use Rattle.definition.specs.Devs.{Time, Totals, devsStep}
-use Rattle.definition.specs.Atomic.{devsOf, partsOf}
+use Rattle.definition.specs.Atomic.{unspent, devsOf, partsOf}
 use Rattle.definition.specs.SavedRun.{Entry, noEntry, entryOf, nextDue}
 
 -- Something to run: when it is next due, and its step at a moment with a bag.
@@ -20,24 +20,25 @@ pub record Simulator (S : Type 0) : Type 0 where
 
 -- ---- the state at a moment
 
--- An atomic's elapsed time is the time since its last transition; all of it is put at the atomic, and none at the levels above it.
+-- The time since an atomic's last moment is put at the atomic, all of it as elapsed time: nothing is spent before, and the levels above it
+-- have none.
 unfoldable pub elapsed : (ℕ → Entry) → ℕ → Tree → ℕ
 elapsed at now (leaf c) = now - at c .last
 elapsed at now (node c f) = 0
 
 unfoldable mutual
   pub load : (m : Model) (at : ℕ → Entry) (now : ℕ) (t : Tree) → devsOf m t .State
-  load m at now (leaf c) = at c .phase
+  load m at now (leaf c) = unspent (at c .phase)
   load m at now (node c f) = loadAll m at now f
 
   pub loadAll : (m : Model) (at : ℕ → Entry) (now : ℕ) (f : Forest) → Totals (partsOf m f)
   loadAll m at now stop = tt
   loadAll m at now (more t f) = ((load m at now t, elapsed at now t), loadAll m at now f)
 
--- Read back: each atomic's phase, and now less the elapsed times on the way to it; e is what the levels above have.
+-- Read back: each atomic's phase, and now less what was spent and the elapsed times on the way to it; e is what the levels above have.
 unfoldable mutual
   pub leavesOf : (m : Model) (now e : ℕ) (t : Tree) → devsOf m t .State → List (ℕ × Entry)
-  leavesOf m now e (leaf c) s = (c, record { phase = s; last = now - e }) ∷ []
+  leavesOf m now e (leaf c) s = (c, record { phase = s .phase; last = now - (s .spent + e) }) ∷ []
   leavesOf m now e (node c f) s = leavesOfAll m now e f s
 
   pub leavesOfAll : (m : Model) (now e : ℕ) (f : Forest) → Totals (partsOf m f) → List (ℕ × Entry)

@@ -3,7 +3,7 @@
 use mathlib.Core.Path.{_≡_, refl, sym, ap, ap₂, _∙_, subst}
 use Prim.Native.Nat.{ℕ, zero, suc, _+_, _-_, _<_}
 use mathlib.Core.List.{List, [], _∷_, _++_}
-use mathlib.Core.Option.{some}
+use mathlib.Core.Option.{Option, none, some}
 use mathlib.Core.Bool.{Bool, true, false, _&&_, cond}
 use native.Mathlib.Omega.{arith}
 use lib.Dec.{leb, ltb, eqb}
@@ -17,9 +17,9 @@ use Rattle.definition.specs.Records.{portFits}
 use Rattle.definition.specs.File.{phaseTotal}
 use Rattle.definition.specs.Pinned.Decoder.{advanceFits, usedFit, phaseFields, bounds, phaseFits, ruleFields}
 use Rattle.definition.specs.Devs.{ticks}
-use Rattle.definition.specs.Atomic.{holds, deciding, ledTo, advanceOf, internal, external, confluent}
+use Rattle.definition.specs.Atomic.{holds, deciding, advanceOf, nextPhase, ruleFor}
 use Rattle.definition.specs.SavedRun.{Entry}
-use Rattle.definition.specs.FlatMachine.{moved}
+use Rattle.definition.specs.FlatMachine.{ledTo, externalPart, bothParts, movedBy, moved}
 use Rattle.law_base.proofs.Tests.{and-left, and-right}
 use Rattle.law_base.proofs.Bags.{holds-component}
 use Rattle.law_model.proofs.WellFormed.{WellFormed, rules-fit}
@@ -85,9 +85,9 @@ module _ (m : Model) (w : WellFormed m) (c : ℕ) where
   abbrev pub Own : ℕ → Type 0
   Own p = p < componentAt (m .components) c .phases
 
-  internal-own : (p : ℕ) → Own p → Own (internal m c p)
-  unfolding internal phaseAt phaseFits
-  internal-own p h =
+  next-own : (p : ℕ) → Own p → Own (nextPhase m c p)
+  unfolding nextPhase phaseAt phaseFits
+  next-own p h =
       let cs = m .components in
       let i = phasesBefore cs c + p in
       let b = bound-at cs c p h in
@@ -118,21 +118,27 @@ module _ (m : Model) (w : WellFormed m) (c : ℕ) where
           let n : length (before ++ (k ∷ [])) ≡ suc (length before) = length-append before (k ∷ []) ∙ omega arith in
           rw (f, ← n, ← append-snoc before k ks) ih
 
-  external-own : (p e : ℕ) (x : Bag) → Own p → Own (external m c p e x)
-  unfolding external
+  external-own : (p e : ℕ) (x : Bag) → Own p → Own (externalPart m c p e x)
+  unfolding externalPart ruleFor
   external-own p e x o = led-own p e x [] (m .rules) (rules-fit m w) o
 
-  confluent-own : (p : ℕ) (x : Bag) → Own p → Own (confluent m c p x)
-  unfolding confluent
-  confluent-own p x o = go (eqb (componentAt (m .components) c .order) 0)
+  both-own : (p : ℕ) (x : Bag) → Own p → Own (bothParts m c p x)
+  unfolding bothParts
+  both-own p x o = go (eqb (componentAt (m .components) c .order) 0)
     where
-      go : (b : Bool) → Own (cond b (external m c (internal m c p) 0 x) (internal m c (external m c p (ticks (advanceOf m c p)) x)))
-      go true = external-own (internal m c p) 0 x (internal-own p o)
-      go false = internal-own _ (external-own p _ x o)
+      go : (b : Bool) → Own (cond b (externalPart m c (nextPhase m c p) 0 x) (nextPhase m c (externalPart m c p (ticks (advanceOf m c p)) x)))
+      go true = external-own (nextPhase m c p) 0 x (next-own p o)
+      go false = next-own _ (external-own p _ x o)
+
+  -- the phase of an entry that a search has moved is where the search led
+  moved-phase : (now : ℕ) (o : Option ℕ) (r : Entry) → movedBy m now o r .phase ≡ ledTo (m .rules) (r .phase) o
+  unfolding movedBy ledTo
+  moved-phase now none r = refl
+  moved-phase now (some i) r = refl
 
   pub moved-own : (now : ℕ) (b : Bool) (x : Bag) (r : Entry) → Own (r .phase) → Own (moved m now c b x r .phase)
-  unfolding moved
-  moved-own now true [] r o = internal-own (r .phase) o
-  moved-own now true (y ∷ x) r o = confluent-own (r .phase) (y ∷ x) o
+  unfolding moved externalPart
+  moved-own now true [] r o = next-own (r .phase) o
+  moved-own now true (y ∷ x) r o = both-own (r .phase) (y ∷ x) o
   moved-own now false [] r o = o
-  moved-own now false (y ∷ x) r o = external-own (r .phase) (now - r .last) (y ∷ x) o
+  moved-own now false (y ∷ x) r o = subst Own (sym (moved-phase now _ r)) (external-own (r .phase) (now - r .last) (y ∷ x) o)

@@ -1,19 +1,22 @@
--- Any state of a resultant whose elapsed times add up, along each path, to the time since the atomic's last transition does what the nest's
--- own account says, and stands for the entries after the step; how the time is split over the levels means nothing. This joins document
--- 001's bookkeeping to the saved run. Assumes nothing.
+-- Any state of a resultant whose elapsed times, with what the atomic has spent, add up along each path to the time since the atomic's last moment
+-- does what the nest's own account says, and stands for the entries after the step; how the time is split over the levels means nothing. This
+-- joins document 001's bookkeeping to the saved run. Assumes nothing.
 use mathlib.Core.Path.{_≡_, refl, sym, ap, ap₂, _∙_, subst, fun-ext}
 use Prim.Native.Nat.{ℕ, _+_, _-_}
 use mathlib.Core.List.{List, [], _∷_, _++_, append-nil}
+use mathlib.Core.Option.{Option, none, some}
 use mathlib.Core.Bool.{Bool, true, false, cond}
 use native.Mathlib.Omega.{arith}
 use native.Mathlib.Nat.{add-zero, zero-add}
 use Rattle.definition.specs.Model.{Bag, Coupling, Model, phaseAt, outputs, Tree, Forest, leaf, node, stop, more, nameOf}
-use Rattle.definition.specs.Devs.{Time, finite, earlier, remaining, later, sameTime, ticks, Totals, translate, sigma, leastSigma, outputsTo, changed, changedAll, resultantOut, resultantInt, resultantExt, resultantCon, transition}
-use Rattle.definition.specs.Atomic.{advanceOf, internal, external, confluent, devsOf, partsOf}
+use Rattle.definition.specs.Devs.{Time, finite, earlier, remaining, later, sameTime, ticks, Totals, translate}
+use Rattle.definition.specs.Devs.{sigma, leastSigma, outputsTo, changed, changedAll, resultantOut, resultantInt, resultantExt, resultantCon, transition}
+use Rattle.definition.specs.Atomic.{InPhase, unspent, followed, advanceOf, nextPhase, ruleFor, timeAdvance, internal, external, devsOf, partsOf}
 use Rattle.definition.specs.SavedRun.{Entry, dueOf, dueAt, dueAll}
 use Rattle.definition.specs.Step.{elapsed, load, loadAll}
-use Rattle.definition.specs.FlatMachine.{moved}
+use Rattle.definition.specs.FlatMachine.{movedBy, moved}
 use Rattle.definition.specs.Carrying.{Stands, StandsAll}
+use Rattle.law_nest.proofs.Entries.{confluent-due}
 use Rattle.law_nest.proofs.Times.{later-add, later-earlier, left-earlier, spent-left, same-later, never-later, imminent, left-due}
 use Rattle.law_nest.proofs.Nest.{Ready, ReadyAll, ready-due, due, outOf, outTo, NoneDue, none-due, out-none}
 
@@ -35,10 +38,12 @@ module _ (m : Model) (at : ℕ → Entry) (now : ℕ) where
   -- ---- what is left of a component's advance
 
   mutual
-    unfolding dueAt sigma leastSigma dueOf
+    unfolding dueAt sigma leastSigma dueOf timeAdvance
 
     pub ta-stands : (t : Tree) (e : ℕ) (s : devsOf m t .State) → Stands m at now e t s → Ready m at now t → devsOf m t .ta s ≡ later e (remaining (dueAt m at t) now)
-    ta-stands (leaf c) e s h r = ap (advanceOf m c) (h .0) ∙ spent-left (at c .last) e now (advanceOf m c (at c .phase)) (h .1) (r .1)
+    ta-stands (leaf c) e s h r =
+        ap (λ p. remaining (advanceOf m c p) (s .spent)) (h .0)
+        ∙ spent-left (at c .last) (s .spent) e now (advanceOf m c (at c .phase)) (h .1) (r .1)
     ta-stands (node c f) e s h r = least-stands f e s h r
 
     least-stands : (f : Forest) (e : ℕ) (s : Totals (partsOf m f)) → StandsAll m at now e f s → ReadyAll m at now f → leastSigma (partsOf m f) s ≡ later e (remaining (dueAll m at f) now)
@@ -128,24 +133,33 @@ module _ (m : Model) (at : ℕ → Entry) (now : ℕ) where
         (e : ℕ) (imm : Time → Bool) (input : ℕ → Bag) → StandsAll m at now e f s → ImmAll imm f s → OnAll f input
         → StandsAll m on now 0 f (changedAll imm input e (partsOf m f) s)
 
-    new-leaf : (c e k p : ℕ) (x : Bag) → Stands m at now (e + k) (leaf c) p → On (leaf c) x → New (leaf c) e (p, k) x
-    unfolding changed moved
-    new-leaf c e k p x h o = go (due m at now (leaf c)) refl x o
+    -- after a search: what the rule at a position sets, or all that was spent
+    new-searched : (c e k : ℕ) (s : InPhase) (o : Option ℕ) → Stands m at now (e + k) (leaf c) s → on c ≡ movedBy m now o (at c)
+        → Stands m on now 0 (leaf c) (followed (m .rules) (s .phase) (s .spent + (k + e)) o)
+    unfolding followed unspent movedBy
+    new-searched c e k s none h q = (h .0 ∙ sym (ap (λ r. r .phase) q), omega (arith, h .1, ap (λ r. r .last) q))
+    new-searched c e k s (some i) h q = (sym (ap (λ r. r .phase) q), omega (arith, ap (λ r. r .last) q))
+
+    new-leaf : (c e k : ℕ) (s : InPhase) (x : Bag) → Stands m at now (e + k) (leaf c) s → On (leaf c) x → New (leaf c) e (s, k) x
+    unfolding changed moved internal external unspent due dueAt
+    new-leaf c e k s x h o = go (due m at now (leaf c)) refl x o
       where
-        go : (b : Bool) → due m at now (leaf c) ≡ b → (x : Bag) → On (leaf c) x → New (leaf c) e (p, k) x
+        go : (b : Bool) → due m at now (leaf c) ≡ b → (x : Bag) → On (leaf c) x → New (leaf c) e (s, k) x
         go true d [] o =
             let q = rw d at o in
-            rw d (ap (internal m c) (h .0) ∙ sym (ap (λ r. r .phase) q), omega (arith, ap (λ r. r .last) q))
+            rw d (ap (nextPhase m c) (h .0) ∙ sym (ap (λ r. r .phase) q), omega (arith, ap (λ r. r .last) q))
         go true d (y ∷ ys) o =
             let q = rw d at o in
-            rw d (ap (λ p. confluent m c p (y ∷ ys)) (h .0) ∙ sym (ap (λ r. r .phase) q), omega (arith, ap (λ r. r .last) q))
+            rw d (subst (Stands m on now 0 (leaf c)) (sym (confluent-due m c now (e + k) s (at c) (y ∷ ys) (h .0) (h .1) d))
+            (sym (ap (λ r. r .phase) q), omega (arith, ap (λ r. r .last) q)))
         go false d [] o =
             let q = rw d at o in
             rw d (h .0 ∙ sym (ap (λ r. r .phase) q), omega (arith, h .1, ap (λ r. r .last) q))
         go false d (y ∷ ys) o =
             let q = rw d at o in
-            let z : k + e ≡ now - at c .last = omega (arith, h .1) in
-            rw d (ap₂ (λ p e. external m c p e (y ∷ ys)) (h .0) z ∙ sym (ap (λ r. r .phase) q), omega (arith, ap (λ r. r .last) q))
+            let z : s .spent + (k + e) ≡ now - at c .last = omega (arith, h .1) in
+            rw d (new-searched c e k s (ruleFor m c (s .phase) (s .spent + (k + e)) (y ∷ ys)) h
+            (q ∙ ap₂ (λ p e. movedBy m now (ruleFor m c p e (y ∷ ys)) (at c)) (sym (h .0)) (sym z)))
 
     -- where the coupled component c is due
     new-due : (c : ℕ) (f : Forest) (s : Totals (partsOf m f)) (e : ℕ) (x : Bag) → StandsAll m at now e f s → ReadyAll m at now f → NewAll f s
@@ -231,7 +245,7 @@ module _ (m : Model) (at : ℕ → Entry) (now : ℕ) where
   -- ---- the state that a step builds
 
   mutual
-    unfolding load elapsed
+    unfolding load elapsed unspent
 
     pub load-stands : (t : Tree) → Ready m at now t → Stands m at now (elapsed at now t) t (load m at now t)
     load-stands (leaf c) r = (refl, omega (arith, r .0))

@@ -10,10 +10,10 @@ use borrow.Author.Tests.{eqb-true, eq-eqb}
 use Rattle.definition.specs.Lists.{count, Same}
 use Rattle.definition.specs.Model.{Bag, Model, atomics, isAtomic, Tree, Forest, leaf, node, stop, more, nameOf}
 use Rattle.definition.specs.Devs.{Totals}
-use Rattle.definition.specs.Atomic.{external, confluent, ledTo, devsOf, partsOf}
+use Rattle.definition.specs.Atomic.{InPhase, followed, ruleFor, external, confluent, devsOf, partsOf}
 use Rattle.definition.specs.SavedRun.{Entry}
 use Rattle.definition.specs.Step.{leavesOf, leavesOfAll, assoc, unload}
-use Rattle.definition.specs.FlatMachine.{moved}
+use Rattle.definition.specs.FlatMachine.{ledTo, externalPart, bothParts, movedBy, moved}
 use Rattle.definition.specs.Carrying.{Stands, StandsAll}
 use Rattle.law_base.proofs.Bags.{count-append, deciding-same, same-length}
 use Rattle.law_base.proofs.Lists.{map-cong-if, all-keep}
@@ -25,13 +25,25 @@ use Rattle.law_nest.proofs.AnySplit.{On, OnAll}
 
 -- ---- the order of a bag
 
-pub external-same : (m : Model) (c : ℕ) (x y : Bag) → Same x y → (p e : ℕ) → external m c p e x ≡ external m c p e y
-unfolding external
-external-same m c x y s p e = ap (ledTo (m .rules) p) (deciding-same c p e 0 x y (m .rules) s)
+rule-same : (m : Model) (c : ℕ) (x y : Bag) → Same x y → (p e : ℕ) → ruleFor m c p e x ≡ ruleFor m c p e y
+unfolding ruleFor
+rule-same m c x y s p e = deciding-same c p e 0 x y (m .rules) s
 
-pub confluent-same : (m : Model) (c : ℕ) (x y : Bag) → Same x y → (p : ℕ) → confluent m c p x ≡ confluent m c p y
+part-same : (m : Model) (c : ℕ) (x y : Bag) → Same x y → (p e : ℕ) → externalPart m c p e x ≡ externalPart m c p e y
+unfolding externalPart
+part-same m c x y s p e = ap (ledTo (m .rules) p) (rule-same m c x y s p e)
+
+both-same : (m : Model) (c : ℕ) (x y : Bag) → Same x y → (p : ℕ) → bothParts m c p x ≡ bothParts m c p y
+unfolding bothParts
+both-same m c x y s p = simp (part-same m c x y s)
+
+pub external-same : (m : Model) (c : ℕ) (x y : Bag) → Same x y → (s : InPhase) (e : ℕ) → external m c s e x ≡ external m c s e y
+unfolding external
+external-same m c x y h s e = ap (followed (m .rules) (s .phase) (s .spent + e)) (rule-same m c x y h (s .phase) (s .spent + e))
+
+pub confluent-same : (m : Model) (c : ℕ) (x y : Bag) → Same x y → (s : InPhase) → confluent m c s x ≡ confluent m c s y
 unfolding confluent
-confluent-same m c x y s p = simp (external-same m c x y s)
+confluent-same m c x y h s = simp (external-same m c x y h)
 
 pub moved-same : (m : Model) (now c : ℕ) (b : Bool) (x y : Bag) (r : Entry) → Same x y → moved m now c b x r ≡ moved m now c b y r
 unfolding moved
@@ -39,8 +51,8 @@ moved-same m now c true [] [] r s = refl
 moved-same m now c false [] [] r s = refl
 moved-same m now c b [] (z ∷ y) r s = absurd (let e = same-length [] (z ∷ y) s in omega arith)
 moved-same m now c b (z ∷ x) [] r s = absurd (let e = same-length (z ∷ x) [] s in omega arith)
-moved-same m now c true (w ∷ x) (z ∷ y) r s = simp (confluent-same m c (w ∷ x) (z ∷ y) s)
-moved-same m now c false (w ∷ x) (z ∷ y) r s = simp (external-same m c (w ∷ x) (z ∷ y) s)
+moved-same m now c true (w ∷ x) (z ∷ y) r s = simp (both-same m c (w ∷ x) (z ∷ y) s)
+moved-same m now c false (w ∷ x) (z ∷ y) r s = ap (λ o. movedBy m now o r) (rule-same m c (w ∷ x) (z ∷ y) s (r .phase) (now - r .last))
 
 module _ (m : Model) (at : ℕ → Entry) (now : ℕ) where
   -- ---- one leaf, one bag
@@ -100,7 +112,7 @@ module _ (m : Model) (at : ℕ → Entry) (now : ℕ) where
     unfolding leavesOf leavesT
 
     leaves-stand : (e : ℕ) (t : Tree) (s : devsOf m t .State) → Stands m at now e t s → leavesOf m now e t s ≡ map (λ c. (c, at c)) (leavesT t)
-    leaves-stand e (leaf c) s h = let q : now - e ≡ at c .last = omega (arith, h .1) in λ i. (c, record { phase = h .0 i; last = q i }) ∷ []
+    leaves-stand e (leaf c) s h = let q : now - (s .spent + e) ≡ at c .last = omega (arith, h .1) in λ i. (c, record { phase = h .0 i; last = q i }) ∷ []
     leaves-stand e (node c f) s h = all-leaves-stand e f s h
 
     all-leaves-stand : (e : ℕ) (f : Forest) (s : Totals (partsOf m f)) → StandsAll m at now e f s → leavesOfAll m now e f s ≡ map (λ c. (c, at c)) (leavesF f)

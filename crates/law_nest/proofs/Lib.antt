@@ -8,6 +8,7 @@ pub mod Kin
 pub mod Components
 pub mod Renumber
 pub mod Nest
+pub mod Entries
 pub mod AnySplit
 pub mod Leaves
 pub mod StepOf

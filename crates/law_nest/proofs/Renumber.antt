@@ -12,10 +12,10 @@ use borrow.Author.Tests.{eqb-true, eq-eqb, ne-eqb}
 use Rattle.definition.specs.Lists.{all, keep, upFrom, sum, count}
 use Rattle.definition.specs.Model.{Bag, Component, Rule, Model, noComponent, noPhase, componentAt, isAtomic, atomics, isChild, children, phaseAt, noRule, phasesBefore}
 use Rattle.law_model.proofs.WellFormed.{ComponentsFit, WellFormed}
-use Rattle.definition.specs.Atomic.{withinElapsed, holds, advanceOf, internal, external, confluent, deciding, ledTo, meets}
+use Rattle.definition.specs.Atomic.{withinElapsed, holds, advanceOf, nextPhase, ruleFor, deciding, meets}
 use Rattle.definition.specs.SavedRun.{Entry, dueOf}
 use Rattle.definition.specs.Flatten.{placeIn, renumbered, flatAtomic, flatComponents, flatRule, flat}
-use Rattle.definition.specs.FlatMachine.{dueNow, moved}
+use Rattle.definition.specs.FlatMachine.{ledTo, externalPart, bothParts, dueNow, movedBy, moved}
 use Rattle.law_base.proofs.Sums.{sumOf, sum-map}
 use Rattle.law_base.proofs.Lists.{all-every, all-map, map-cong-if, sum-map-of, getD-map, take-map, all-at}
 use Rattle.law_base.proofs.Tests.{and-true, or-right}
@@ -176,22 +176,26 @@ module _ (m : Model) (w : WellFormed m) (c : ℕ) (e : isAtomic (m .components) 
   unfolding advanceOf
   flat-advance p = rw (flat-phase p)
 
-  flat-internal : (p : ℕ) → internal (flat m) (renumbered (m .components) c) p ≡ internal m c p
-  unfolding internal
-  flat-internal p = ap (λ k. k .next) (flat-phase p)
+  flat-follow : (p : ℕ) → nextPhase (flat m) (renumbered (m .components) c) p ≡ nextPhase m c p
+  unfolding nextPhase
+  flat-follow p = ap (λ k. k .next) (flat-phase p)
 
-  flat-external : (p t : ℕ) (x : Bag) → external (flat m) (renumbered (m .components) c) p t x ≡ external m c p t x
-  unfolding external flat
-  flat-external p t x =
-      flat-led (m .rules) p _ ∙ ap (ledTo (m .rules) p) (flat-deciding p t x 0 (m .rules))
+  -- the same rule decides, at the same position
+  flat-rule : (p t : ℕ) (x : Bag) → ruleFor (flat m) (renumbered (m .components) c) p t x ≡ ruleFor m c p t x
+  unfolding ruleFor flat
+  flat-rule p t x = flat-deciding p t x 0 (m .rules)
+
+  flat-external : (p t : ℕ) (x : Bag) → externalPart (flat m) (renumbered (m .components) c) p t x ≡ externalPart m c p t x
+  unfolding externalPart flat
+  flat-external p t x = flat-led (m .rules) p _ ∙ ap (ledTo (m .rules) p) (flat-rule p t x)
 
   flat-order : componentAt (flat m .components) (renumbered (m .components) c) .order ≡ componentAt (m .components) c .order
   unfolding flat flatAtomic
   flat-order = ap (λ k. k .order) (flat-component (m .components) (w .components .fit) (w .some-component) c e)
 
-  flat-confluent : (p : ℕ) (x : Bag) → confluent (flat m) (renumbered (m .components) c) p x ≡ confluent m c p x
-  unfolding confluent
-  flat-confluent p x = simp (flat-order, flat-internal, flat-external, flat-advance)
+  flat-both : (p : ℕ) (x : Bag) → bothParts (flat m) (renumbered (m .components) c) p x ≡ bothParts m c p x
+  unfolding bothParts
+  flat-both p x = simp (flat-order, flat-follow, flat-external, flat-advance)
 
   pub flat-due : (r : Entry) → dueOf (flat m) (renumbered (m .components) c) r ≡ dueOf m c r
   unfolding dueOf
@@ -201,9 +205,14 @@ module _ (m : Model) (w : WellFormed m) (c : ℕ) (e : isAtomic (m .components) 
   unfolding dueNow
   flat-now now r = rw (flat-due r)
 
+  flat-moved-by : (now : ℕ) (o : Option ℕ) (r : Entry) → movedBy (flat m) now o r ≡ movedBy m now o r
+  unfolding movedBy flat
+  flat-moved-by now none r = refl
+  flat-moved-by now (some i) r = rw (flat-next (m .rules) i)
+
   pub flat-moved : (now : ℕ) (b : Bool) (x : Bag) (r : Entry) → moved (flat m) now (renumbered (m .components) c) b x r ≡ moved m now c b x r
   unfolding moved
-  flat-moved now true [] r = rw (flat-internal (r .phase))
-  flat-moved now true (y ∷ x) r = rw (flat-confluent (r .phase) (y ∷ x))
+  flat-moved now true [] r = rw (flat-follow (r .phase))
+  flat-moved now true (y ∷ x) r = rw (flat-both (r .phase) (y ∷ x))
   flat-moved now false [] r = refl
-  flat-moved now false (y ∷ x) r = rw (flat-external (r .phase) (now - r .last) (y ∷ x))
+  flat-moved now false (y ∷ x) r = flat-moved-by now _ r ∙ ap (λ o. movedBy m now o r) (flat-rule (r .phase) (now - r .last) (y ∷ x))

@@ -2,7 +2,7 @@
 -- step of every instant. Assumes nothing.
 use mathlib.Core.Path.{_≡_, refl, sym, ap, _∙_}
 use Prim.Native.Nat.{ℕ, suc, _+_, _≤_}
-use mathlib.Core.List.{List, [], _∷_}
+use mathlib.Core.List.{List}
 use mathlib.Core.Bool.{Bool, true, false}
 use native.Mathlib.Omega.{arith}
 use lib.ListN.{length}
@@ -14,6 +14,7 @@ use Rattle.definition.specs.SavedRun.{Entry, notBefore, dueOf, dueAt, entryOf, 
 use Rattle.definition.specs.Step.{step}
 use Rattle.definition.specs.FlatMachine.{dueNow, moved}
 use Rattle.law_nest.proofs.Nest.{Ready, due, ready-due, Fresh, ready-in, bagAt}
+use Rattle.law_nest.proofs.Entries.{SetOrKept, set, kept, set-or-kept}
 use Rattle.law_nest.proofs.StepOf.{step-moved, entryAfter}
 use Rattle.law_model.proofs.WellFormed.{WellFormed}
 use Rattle.law_nest.proofs.Pairs.{paired, paired-lookUp, Pairs, pairs-length, pairs-lookUp, pairs-paired}
@@ -23,7 +24,7 @@ use Rattle.law_nest.proofs.Trees.{only-in}
 use Rattle.law_nest.proofs.Firsts.{firstOf, first-perm, due-leaves, fresh-later}
 use Rattle.law_nest.proofs.Times.{not-before-past}
 
--- a transition sets the last moment to now
+-- a transition that sets the last moment
 new-fresh : (m : Model) (now c p : ℕ) → Fresh m now c (record { phase = p; last = now })
 unfolding dueOf later notBefore
 new-fresh m now c p = (omega arith, go (advanceOf m c p))
@@ -33,11 +34,11 @@ new-fresh m now c p = (omega arith, go (advanceOf m c p))
     go never = refl
 
 moved-fresh : (m : Model) (now c : ℕ) (b : Bool) (x : Bag) (r : Entry) → Fresh m now c r → Fresh m now c (moved m now c b x r)
-unfolding moved
-moved-fresh m now c true [] r h = new-fresh m now c _
-moved-fresh m now c true (y ∷ x) r h = new-fresh m now c _
-moved-fresh m now c false [] r h = h
-moved-fresh m now c false (y ∷ x) r h = new-fresh m now c _
+moved-fresh m now c b x r h = go (set-or-kept m now c b x r)
+  where
+    go : {r′ : Entry} → SetOrKept now r r′ → Fresh m now c r′
+    go (set p) = new-fresh m now c p
+    go kept = h
 
 -- What an advance keeps: an entry for each atomic, none of them changed after now or due before.
 abbrev pub Good : Model → ℕ → List Entry → Type 0

@@ -5,7 +5,7 @@ use Prim.Native.Nat.{ℕ, suc, _+_, _-_, min}
 use mathlib.Core.Bool.{true, false}
 use native.Mathlib.Omega.{arith}
 use borrow.Author.Tests.{eqb-true, eqb-false, ne-eqb, leb-true, le-leb}
-use Rattle.definition.specs.Devs.{Time, finite, never, earlier, remaining, later, sameTime}
+use Rattle.definition.specs.Devs.{Time, finite, never, earlier, remaining, later, sameTime, ticks}
 use Rattle.definition.specs.SavedRun.{notBefore}
 use Rattle.law_base.proofs.Tests.{clash, eqb-cong}
 
@@ -28,11 +28,19 @@ unfolding remaining later
 later-add e k (finite a) = ap finite (omega arith)
 later-add e k never = refl
 
--- An advance is the time spent and the time left.
-pub spent-left : (last e now : ℕ) (u : Time) → last + e ≡ now → notBefore now (later last u) ≡ true → u ≡ later e (remaining (later last u) now)
+-- What is left of an advance after the time spent is the elapsed time and what is left now.
+pub spent-left : (last spent e now : ℕ) (u : Time) → last + (spent + e) ≡ now → notBefore now (later last u) ≡ true
+    → remaining u spent ≡ later e (remaining (later last u) now)
 unfolding remaining later notBefore
-spent-left last e now (finite a) h k = ap finite (omega (arith, leb-true now (last + a) k))
-spent-left last e now never h k = refl
+spent-left last spent e now (finite a) h k = ap finite (omega (arith, leb-true now (last + a) k))
+spent-left last spent e now never h k = refl
+
+-- Where it is due now, what is left of the advance after the time spent makes up the advance.
+pub due-spent : (last spent e now : ℕ) (u : Time) → last + (spent + e) ≡ now → sameTime (later last u) (finite now) ≡ true
+    → spent + ticks (remaining u spent) ≡ ticks u
+unfolding remaining later sameTime ticks
+due-spent last spent e now (finite a) h k = omega (arith, eqb-true (last + a) now k)
+due-spent last spent e now never h k = absurd (clash k refl)
 
 -- What is left at a moment, counted on from it, is the moment that was due.
 pub left-later : (event e now : ℕ) (u : Time) → event + e ≡ now → notBefore now u ≡ true → later event (later e (remaining u now)) ≡ u

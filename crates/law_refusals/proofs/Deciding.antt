@@ -1,4 +1,4 @@
--- The atomic's external transition is by the first rule in file order whose conditions all hold: the engine's tests of a rule, with its
+-- The external part of an atomic's transition is by the first rule in file order whose conditions all hold: the engine's tests of a rule, with its
 -- count of messages, decide the conditions. Demand 2 says so of every phase, elapsed time and bag. Assumes nothing.
 use mathlib.Core.Path.{_≡_, refl, ap, subst}
 use Prim.Native.Nat.{ℕ, zero, suc, _+_, _≤_, _<_}
@@ -6,14 +6,14 @@ use mathlib.Core.List.{List, [], _∷_}
 use mathlib.Core.Option.{Option, none, some}
 use mathlib.Core.Bool.{Bool, true, false, cond}
 use native.Mathlib.Omega.{arith}
-use lib.Dec.{leb}
+use lib.Dec.{leb, ltb}
 use lib.ListN.{length, getD}
-use borrow.Author.Tests.{leb-true, le-leb}
+use borrow.Author.Tests.{leb-true, le-leb, ltb-true, ltb-false}
 use Rattle.definition.specs.Lists.{count}
 use Rattle.definition.specs.Limits.{neverField}
 use Rattle.definition.specs.Model.{Message, Bag, Rule, Model, noRule}
 use Rattle.definition.specs.Sound.{Every}
-use Rattle.definition.specs.Atomic.{meets, withinElapsed, holds, deciding, ledTo, external}
+use Rattle.definition.specs.Atomic.{meets, withinElapsed, holds, deciding, ruleFor}
 use Rattle.definition.specs.Clauses.{Among, nothing, with, without, Meets, Holds, Decides, first, none-holds}
 use Rattle.law_refusals.proofs.Tests as Tests
 use Rattle.law_refusals.proofs.Tests.{fails-not, most, equal, reworded, both, either}
@@ -94,12 +94,32 @@ first-found test at (k ∷ ks) = go (test k) refl (deciding test (suc at) ks) (f
     go false e o (at-place n i q l h f) = rw e (at-place n (suc i) (omega arith) (omega arith) h (behind e i f))
     go false e o (nowhere f) = rw e (nowhere (behind e (length ks) f))
 
-pub external-decides : (m : Model) (c p e : ℕ) (x : Bag) → Decides (m .rules) c p e x (external m c p e x)
-unfolding external ledTo
-external-decides m c p e x = go (deciding (holds c p e x) 0 (m .rules)) (first-found (holds c p e x) 0 (m .rules))
+pub rule-decides : (m : Model) (c p e : ℕ) (x : Bag) → Decides (m .rules) c p e x (ruleFor m c p e x)
+unfolding ruleFor
+rule-decides m c p e x = go (deciding (holds c p e x) 0 (m .rules)) (first-found (holds c p e x) 0 (m .rules))
   where
-    go : (o : Option ℕ) → First (holds c p e x) 0 (m .rules) o → Decides (m .rules) c p e x (ledTo (m .rules) p o)
+    go : (o : Option ℕ) → First (holds c p e x) 0 (m .rules) o → Decides (m .rules) c p e x o
     go o (at-place n i q l h f) =
-        subst (λ (j : ℕ). Decides (m .rules) c p e x (getD (m .rules) j noRule .next)) (let r : i ≡ n = omega arith in r)
+        subst (λ (j : ℕ). Decides (m .rules) c p e x (some j)) (let r : i ≡ n = omega arith in r)
         (first i l (rule-test c p e x _ .holds h) (λ j b. fails-not (rule-test c p e x _) (f j b)))
     go o (nowhere f) = none-holds (λ j b. fails-not (rule-test c p e x _) (f j b))
+
+-- ---- one rule decides, or none
+
+decides-one : (ks : List Rule) (c p e : ℕ) (x : Bag) (o q : Option ℕ) → Decides ks c p e x o → Decides ks c p e x q → o ≡ q
+decides-one ks c p e x o q (first i l h b) (first j k g d) = go (ltb i j) refl
+  where
+    go : (t : Bool) → ltb i j ≡ t → some i ≡ some j
+    go true s = absurd (d i (ltb-true i j s) h)
+    go false s = behind (ltb j i) refl
+      where
+        behind : (t : Bool) → ltb j i ≡ t → some i ≡ some j
+        behind true r = absurd (b j (ltb-true j i r) g)
+        behind false r = ap some (omega (arith, ltb-false i j s, ltb-false j i r))
+decides-one ks c p e x o q (first i l h b) (none-holds n) = absurd (n i l h)
+decides-one ks c p e x o q (none-holds n) (first j k g d) = absurd (n j k g)
+decides-one ks c p e x o q (none-holds n) (none-holds k) = refl
+
+-- so the definition's search finds what decides
+pub decided-rule : (m : Model) (c p e : ℕ) (x : Bag) (o : Option ℕ) → Decides (m .rules) c p e x o → ruleFor m c p e x ≡ o
+decided-rule m c p e x o d = decides-one (m .rules) c p e x _ o (rule-decides m c p e x) d

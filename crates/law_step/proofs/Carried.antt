@@ -20,6 +20,7 @@ use Rattle.run_state.specs.Held.{changedAt}
 use Rattle.spec_step.specs.Tables.{links, numbersAt, positionsAt, childAt, siblingAt, childRows, atomicAt}
 use Rattle.spec_step.specs.TableStep.{phaseIn, dueIn, dueAtPosition, leastOf, dueBelow, tableNext, markOf, marked, recordOf, changedBy}
 use Rattle.spec_step.specs.Ranges.{InRange, Seated}
+use Rattle.law_step.proofs.Changed.{SetAt, set-at, kept-at, set-at-or-kept}
 use Rattle.spec_step.specs.Carried.{Carried, endMark, endMarked, leastEnd, endBelow, nextEnd}
 
 -- ---- times as numbers
@@ -166,8 +167,8 @@ module _ (ps : List Phase) (t : List ℕ) where
 
   pub changed-elsewhere : (rs : List Rule) (now : ℕ) (st : State) (i c : ℕ) (due : Bool) (x : Bag) (j : ℕ) → (i ≡ j → ⊥)
       → dueAtPosition ps t (changedBy ps t rs now st i c due x) j ≡ dueAtPosition ps t st j
-  unfolding changedBy
-  changed-elsewhere rs now st i c true [] j d = at-elsewhere st i _ now j d
-  changed-elsewhere rs now st i c true (y ∷ x) j d = at-elsewhere st i _ now j d
-  changed-elsewhere rs now st i c false [] j d = refl
-  changed-elsewhere rs now st i c false (y ∷ x) j d = at-elsewhere st i _ now j d
+  changed-elsewhere rs now st i c due x j d = go (set-at-or-kept ps t rs now st i c due x)
+    where
+      go : {after : State} → SetAt now st i after → dueAtPosition ps t after j ≡ dueAtPosition ps t st j
+      go (set-at p) = at-elsewhere st i p now j d
+      go kept-at = refl

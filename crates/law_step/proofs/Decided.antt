@@ -3,7 +3,7 @@
 use mathlib.Core.Path.{_≡_, refl, sym, ap, ap₂, _∙_}
 use Prim.Native.Nat.{ℕ, zero, suc, _+_, _-_, _≤_, _<_}
 use mathlib.Core.List.{List, [], _∷_}
-use mathlib.Core.Option.{none, some}
+use mathlib.Core.Option.{Option, none, some}
 use mathlib.Core.Bool.{Bool, true, false, cond}
 use native.Mathlib.Omega.{arith}
 use lib.Dec.{eqb, leb}
@@ -12,11 +12,12 @@ use borrow.Author.Tests.{leb-true, leb-false}
 use Rattle.definition.specs.Limits.{neverField}
 use Rattle.definition.specs.Model.{Bag, Phase, Rule, Model, noRule, componentAt, phaseAt}
 use Rattle.definition.specs.Devs.{finite, never, ticks}
-use Rattle.definition.specs.Atomic.{holds, deciding, ledTo, advanceOf, internal, external, confluent}
+use Rattle.definition.specs.Atomic.{holds, deciding, advanceOf, nextPhase, ruleFor}
+use Rattle.definition.specs.FlatMachine.{ledTo, externalPart, bothParts}
 use Rattle.law_base.proofs.Bags.{holds-component}
 use Rattle.law_model.proofs.WellFormed.{WellFormed}
 use Rattle.run_state.specs.declared.State.{State}
-use Rattle.spec_step.specs.TableStep.{firstFrom, decidingIn, phaseIn, decidedIn, confluentIn}
+use Rattle.spec_step.specs.TableStep.{firstFrom, decidingIn, leads, phaseOr, ruleIn, phaseIn, decidedIn, confluentIn}
 use Rattle.spec_step.specs.Tabled.{Tabled}
 use Rattle.law_step.proofs.Positions.{phase-is}
 
@@ -83,33 +84,41 @@ deciding-first test at (k ∷ ks) rs h =
 
 -- ---- transitions
 
-module _ (m : Model) (w : WellFormed m) (st : State) (t : List ℕ) (h : Tabled m t) (c : ℕ) (l : c < length (m .components)) where
-  pub decided-is : (p e : ℕ) (x : Bag) → decidedIn t (m .rules) c p e x ≡ external m c p e x
-  unfolding decidedIn external decidingIn
-  decided-is p e x =
-      ap (ledTo (m .rules) p)
-      (sym (deciding-first (holds c p e x) 0 (m .rules) (m .rules) (λ j. (let q : j ≡ 0 + j = omega arith in ap (λ i. getD (m .rules) i noRule) q))
-      ∙ window (λ i. holds c p e x (getD (m .rules) i noRule)) (length (m .rules)) _ _ (h .rules-in c l)
-      (λ j s f. let n = holds-component c p e x (getD (m .rules) j noRule) f in (h .rules-from c j l s n, h .rules-to c j l s n))))
+phase-led : (rs : List Rule) (p : ℕ) (o : Option ℕ) → phaseOr p (leads rs o) ≡ ledTo rs p o
+unfolding phaseOr leads ledTo
+phase-led rs p none = refl
+phase-led rs p (some k) = refl
 
-  pub next-is : (p : ℕ) → phaseIn (m .phases) t c p .next ≡ internal m c p
-  unfolding internal
+module _ (m : Model) (w : WellFormed m) (st : State) (t : List ℕ) (h : Tabled m t) (c : ℕ) (l : c < length (m .components)) where
+  pub rule-is : (p e : ℕ) (x : Bag) → ruleIn t (m .rules) c p e x ≡ ruleFor m c p e x
+  unfolding ruleIn ruleFor decidingIn
+  rule-is p e x =
+      sym (deciding-first (holds c p e x) 0 (m .rules) (m .rules) (λ j. (let q : j ≡ 0 + j = omega arith in ap (λ i. getD (m .rules) i noRule) q))
+      ∙ window (λ i. holds c p e x (getD (m .rules) i noRule)) (length (m .rules)) _ _ (h .rules-in c l)
+      (λ j s f. let n = holds-component c p e x (getD (m .rules) j noRule) f in (h .rules-from c j l s n, h .rules-to c j l s n)))
+
+  decided-is : (p e : ℕ) (x : Bag) → decidedIn t (m .rules) c p e x ≡ externalPart m c p e x
+  unfolding decidedIn externalPart
+  decided-is p e x = ap (λ o. phaseOr p (leads (m .rules) o)) (rule-is p e x) ∙ phase-led (m .rules) p (ruleFor m c p e x)
+
+  pub next-is : (p : ℕ) → phaseIn (m .phases) t c p .next ≡ nextPhase m c p
+  unfolding nextPhase
   next-is p = ap (λ (k : Phase). k .next) (phase-is m w st t h c p l)
 
   -- where the phase has an advance
-  pub confluent-is : (p : ℕ) (x : Bag) → eqb (phaseAt m c p .advance) neverField ≡ false → confluentIn (m .phases) t (m .rules) c p x ≡ confluent m c p x
-  unfolding confluentIn confluent advanceOf ticks
+  pub confluent-is : (p : ℕ) (x : Bag) → eqb (phaseAt m c p .advance) neverField ≡ false → confluentIn (m .phases) t (m .rules) c p x ≡ bothParts m c p x
+  unfolding confluentIn bothParts advanceOf ticks
   confluent-is p x e =
       ap (λ o. cond (eqb o 0) (decidedIn t (m .rules) c (phaseIn (m .phases) t c p .next) 0 x)
       (phaseIn (m .phases) t c (decidedIn t (m .rules) c p (phaseIn (m .phases) t c p .advance) x) .next)) (h .orders c l)
       ∙ ap₂ (cond (eqb (componentAt (m .components) c .order) 0)) first second
     where
-      first : decidedIn t (m .rules) c (phaseIn (m .phases) t c p .next) 0 x ≡ external m c (internal m c p) 0 x
-      first = decided-is _ 0 x ∙ ap (λ q. external m c q 0 x) (next-is p)
+      first : decidedIn t (m .rules) c (phaseIn (m .phases) t c p .next) 0 x ≡ externalPart m c (nextPhase m c p) 0 x
+      first = decided-is _ 0 x ∙ ap (λ q. externalPart m c q 0 x) (next-is p)
 
       stay : phaseIn (m .phases) t c p .advance ≡ ticks (cond (eqb (phaseAt m c p .advance) neverField) never (finite (phaseAt m c p .advance)))
       stay = ap (λ (k : Phase). k .advance) (phase-is m w st t h c p l) ∙ (unfold ticks in (rw e))
 
       second : phaseIn (m .phases) t c (decidedIn t (m .rules) c p (phaseIn (m .phases) t c p .advance) x) .next
-          ≡ internal m c (external m c p (ticks (cond (eqb (phaseAt m c p .advance) neverField) never (finite (phaseAt m c p .advance)))) x)
-      second = next-is _ ∙ ap (internal m c) (decided-is p _ x ∙ ap (λ e. external m c p e x) stay)
+          ≡ nextPhase m c (externalPart m c p (ticks (cond (eqb (phaseAt m c p .advance) neverField) never (finite (phaseAt m c p .advance)))) x)
+      second = next-is _ ∙ ap (nextPhase m c) (decided-is p _ x ∙ ap (λ e. externalPart m c p e x) stay)

@@ -16,6 +16,7 @@ pub mod Closed
 pub mod TablePull
 pub mod Flagged
 pub mod Decided
+pub mod Changed
 pub mod Moves
 pub mod StepLaw
 pub mod NextLaw

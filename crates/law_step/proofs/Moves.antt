@@ -3,6 +3,7 @@
 use mathlib.Core.Path.{_≡_, refl, sym, ap, _∙_}
 use Prim.Native.Nat.{ℕ, zero, suc, _+_, _-_, _≤_, _<_}
 use mathlib.Core.List.{List, [], _∷_, map}
+use mathlib.Core.Option.{Option, none, some}
 use mathlib.Core.Bool.{Bool, true, false}
 use native.Mathlib.Omega.{arith}
 use lib.Dec.{eqb}
@@ -12,16 +13,17 @@ use borrow.Author.Tests.{eqb-true, eqb-false}
 use Rattle.definition.specs.Limits.{neverField}
 use Rattle.definition.specs.Model.{Bag, Model, phaseAt}
 use Rattle.definition.specs.SavedRun.{Entry}
-use Rattle.definition.specs.FlatMachine.{moved}
+use Rattle.definition.specs.FlatMachine.{movedBy, moved}
 use Rattle.law_model.proofs.WellFormed.{WellFormed}
 use Rattle.run_state.specs.declared.State.{State}
 use Rattle.run_state.specs.Held.{changedAt}
 use Rattle.law_base.specs.Keys.{messageOf}
 use Rattle.spec_step.specs.Tables.{numbersAt}
-use Rattle.spec_step.specs.TableStep.{isUp, keysInto, changedBy, changedFrom}
+use Rattle.spec_step.specs.TableStep.{isUp, keysInto, leads, ledInto, leadBy, changedBy, changedFrom}
 use Rattle.spec_step.specs.Tabled.{Tabled}
 use Rattle.law_step.proofs.Positions.{heldAt}
-use Rattle.law_step.proofs.Decided.{decided-is, next-is, confluent-is}
+use Rattle.law_step.proofs.Decided.{rule-is, next-is, confluent-is}
+use Rattle.law_step.proofs.Changed.{SetAt, set-at, kept-at, set-at-or-kept}
 
 -- ---- one entry of a state
 
@@ -50,31 +52,37 @@ set-room st i p l = (length-set (st .phase) i p, length-set (st .last) i l)
 module _ (m : Model) (w : WellFormed m) (t : List ℕ) (h : Tabled m t) (now : ℕ) where
   -- ---- one atomic
 
+  followed-own : (st : State) (i : ℕ) (o : Option ℕ) → i < length (st .phase) → i < length (st .last)
+      → heldAt (ledInto now st i (leads (m .rules) o)) i ≡ movedBy m now o (heldAt st i)
+  unfolding ledInto leads movedBy
+  followed-own st i none u v = refl
+  followed-own st i (some k) u v = set-held st i _ now u v
+
   changed-own : (st : State) (i c : ℕ) (b : Bool) (y : Bag) → c < length (m .components) → i < length (st .phase) → i < length (st .last)
       → (b ≡ true → eqb (phaseAt m c (heldAt st i .phase) .advance) neverField ≡ false)
       → heldAt (changedBy (m .phases) t (m .rules) now st i c b y) i ≡ moved m now c b y (heldAt st i)
-  unfolding changedBy moved
+  unfolding changedBy leadBy ledInto moved
   changed-own st i c true [] l u v timed =
       set-held st i _ now u v ∙ ap (λ (p : ℕ). record { phase = p; last = now }) (next-is m w st t h c l (getD (st .phase) i 0))
   changed-own st i c true (z ∷ y) l u v timed =
       set-held st i _ now u v ∙ ap (λ (p : ℕ). record { phase = p; last = now }) (confluent-is m w st t h c l (getD (st .phase) i 0) (z ∷ y) (timed refl))
   changed-own st i c false [] l u v timed = refl
   changed-own st i c false (z ∷ y) l u v timed =
-      set-held st i _ now u v ∙ ap (λ (p : ℕ). record { phase = p; last = now }) (decided-is m w st t h c l (getD (st .phase) i 0) (now - getD (st .last) i 0) (z ∷ y))
+      followed-own st i _ u v ∙ ap (λ o. movedBy m now o (heldAt st i)) (rule-is m w st t h c l (getD (st .phase) i 0) (now - getD (st .last) i 0) (z ∷ y))
 
   changed-other : (st : State) (i j c : ℕ) (b : Bool) (y : Bag) → (j ≡ i → ⊥) → heldAt (changedBy (m .phases) t (m .rules) now st i c b y) j ≡ heldAt st j
-  unfolding changedBy
-  changed-other st i j c true [] n = set-other st i j _ now n
-  changed-other st i j c true (z ∷ y) n = set-other st i j _ now n
-  changed-other st i j c false [] n = refl
-  changed-other st i j c false (z ∷ y) n = set-other st i j _ now n
+  changed-other st i j c b y n = go (set-at-or-kept (m .phases) t (m .rules) now st i c b y)
+    where
+      go : {after : State} → SetAt now st i after → heldAt after j ≡ heldAt st j
+      go (set-at p) = set-other st i j p now n
+      go kept-at = refl
 
   changed-room : (st : State) (i c : ℕ) (b : Bool) (y : Bag) → SameRoom (changedBy (m .phases) t (m .rules) now st i c b y) st
-  unfolding changedBy
-  changed-room st i c true [] = set-room st i _ now
-  changed-room st i c true (z ∷ y) = set-room st i _ now
-  changed-room st i c false [] = (refl, refl)
-  changed-room st i c false (z ∷ y) = set-room st i _ now
+  changed-room st i c b y = go (set-at-or-kept (m .phases) t (m .rules) now st i c b y)
+    where
+      go : {after : State} → SetAt now st i after → SameRoom after st
+      go (set-at p) = set-room st i p now
+      go kept-at = (refl, refl)
 
   -- ---- all of them
 

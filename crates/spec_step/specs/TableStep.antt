@@ -10,7 +10,7 @@ use Rattle.definition.specs.Lists.{isEmpty}
 use Rattle.definition.specs.Limits.{maxComponents, maxAncestors, portCount, neverField}
 use Rattle.definition.specs.Model.{Bag, Phase, Rule, noPhase, noRule, outputs}
 use Rattle.definition.specs.Devs.{Time, finite, never, earlier, sameTime}
-use Rattle.definition.specs.Atomic.{holds, ledTo}
+use Rattle.definition.specs.Atomic.{holds}
 use Rattle.definition.specs.Step.{Stepped, Simulator}
 use Rattle.clock.specs.Times.{latest}
 use Rattle.run_state.specs.declared.State.{State}
@@ -19,7 +19,8 @@ use Rattle.spec_step.specs.Pull.{coupledOut, inputIn}
 use Rattle.law_base.specs.Keys.{messageOf}
 use Rattle.spec_step.specs.Put.{valuesOn, keysOf}
 use Rattle.law_routes.specs.Nodes.{inputNode, outputNode}
-use Rattle.spec_step.specs.Tables.{nodeComponent, nodePort, isOutput, isRootNode, numbersAt, positionsAt, ordersAt, phasesAt, parentsAt, rulesFromAt, rulesToAt, liveAt, countAt, chainRows, childRows, atomicAt, atomicNode}
+use Rattle.spec_step.specs.Tables.{nodeComponent, nodePort, isOutput, isRootNode, numbersAt, positionsAt, ordersAt, phasesAt}
+use Rattle.spec_step.specs.Tables.{parentsAt, rulesFromAt, rulesToAt, liveAt, countAt, chainRows, childRows, atomicAt, atomicNode}
 
 -- Some element passes the test.
 unfoldable pub anyOf : {A : Type 0} → (A → Bool) → List A → Bool
@@ -34,6 +35,21 @@ firstFrom test (suc m) i = let rest = firstFrom test m (i + 1) in cond (test i) 
 -- The deciding rule among the rules from `first` up to `end`.
 unfoldable pub decidingIn : List Rule → ℕ → ℕ → ℕ → ℕ → ℕ → Bag → Option ℕ
 decidingIn rs first end c p e x = firstFrom (λ i. holds c p e x (getD rs i noRule)) (end - first) first
+
+-- The phase that the rule at a position leads to.
+unfoldable pub leads : List Rule → Option ℕ → Option ℕ
+leads rs none = none
+leads rs (some k) = some (getD rs k noRule .next)
+
+-- The phase that something was led to, or else the phase p.
+unfoldable pub phaseOr : ℕ → Option ℕ → ℕ
+phaseOr p none = p
+phaseOr p (some q) = q
+
+-- The atomic at position i is led into a phase at `now`, or nowhere, and then nothing changes.
+unfoldable pub ledInto : ℕ → State → ℕ → Option ℕ → State
+ledInto now st i none = st
+ledInto now st i (some p) = changedAt st i p now
 
 -- A flag is up where a list does not hold 0.
 unfoldable pub isUp : List ℕ → ℕ → Bool
@@ -99,10 +115,14 @@ module _ (t : List ℕ) where
   unfoldable pub openRows : List ℕ → List ℕ → ℕ → List ℕ
   openRows es fs x = cond (isOpen es fs x) (chainRows t x) []
 
-  -- The first rule of rs that holds for component c in phase p, e after its last transition, with bag x, among those from the first that
-  -- names c to the last: where it leads.
+  -- The first rule of rs that holds for component c in phase p, e after its last moment, with bag x, among those from the first that
+  -- names c to the last.
+  unfoldable pub ruleIn : List Rule → ℕ → ℕ → ℕ → Bag → Option ℕ
+  ruleIn rs c p e x = decidingIn rs (getD t (rulesFromAt + c) 0) (getD t (rulesToAt + c) 0) c p e x
+
+  -- The phase after the external part of a confluent transition.
   unfoldable pub decidedIn : List Rule → ℕ → ℕ → ℕ → Bag → ℕ
-  decidedIn rs c p e x = ledTo rs p (decidingIn rs (getD t (rulesFromAt + c) 0) (getD t (rulesToAt + c) 0) c p e x)
+  decidedIn rs c p e x = phaseOr p (leads rs (ruleIn rs c p e x))
 
 module _ (ps : List Phase) (t : List ℕ) where
   -- ---- phases, and when something is due
@@ -165,12 +185,15 @@ module _ (ps : List Phase) (t : List ℕ) where
         cond (eqb (getD t (ordersAt + c) 0) 0) (decidedIn t rs c (phaseIn c p .next) 0 x)
         (phaseIn c (decidedIn t rs c p (phaseIn c p .advance) x) .next)
 
-    -- The atomic c at position i, due or not, with its bag.
+    -- Where the transition of the atomic c at position i leads, due or not, with its bag.
+    unfoldable pub leadBy : ℕ → State → ℕ → ℕ → Bool → Bag → Option ℕ
+    leadBy now st i c true [] = some (phaseIn c (getD (st .phase) i 0) .next)
+    leadBy now st i c true (y ∷ x) = some (confluentIn c (getD (st .phase) i 0) (y ∷ x))
+    leadBy now st i c false [] = none
+    leadBy now st i c false (y ∷ x) = leads rs (ruleIn t rs c (getD (st .phase) i 0) (now - getD (st .last) i 0) (y ∷ x))
+
     unfoldable pub changedBy : ℕ → State → ℕ → ℕ → Bool → Bag → State
-    changedBy now st i c true [] = changedAt st i (phaseIn c (getD (st .phase) i 0) .next) now
-    changedBy now st i c true (y ∷ x) = changedAt st i (confluentIn c (getD (st .phase) i 0) (y ∷ x)) now
-    changedBy now st i c false [] = st
-    changedBy now st i c false (y ∷ x) = changedAt st i (decidedIn t rs c (getD (st .phase) i 0) (now - getD (st .last) i 0) (y ∷ x)) now
+    changedBy now st i c due x = ledInto now st i (leadBy now st i c due x)
 
     -- n atomics from position i on, one after the other: marks and flags were read before, so the order does not matter. A bag has
     -- room for so many messages.

@@ -45,14 +45,14 @@ module _ (m : Model) (w : WellFormed m) where
   BetweenStands o q rs = StandsFor m o q rs × Fit m o rs
 
   -- at a moment at or after its last event
-  stands-now : (now : ℕ) (q : Since (rootOf m)) (rs : List Entry) → StandsFor m now q rs → Stands m (entryOf m rs) now (now - q .event) (tree m) (q .state)
+  pub stands-now : (now : ℕ) (q : Since (rootOf m)) (rs : List Entry) → StandsFor m now q rs → Stands m (entryOf m rs) now (now - q .event) (tree m) (q .state)
   stands-now now q rs h =
       let d = now - q .event in
       let l = h .in-time in
       subst (λ n. Stands m (entryOf m rs) n d (tree m) (q .state)) (let e : q .event + d ≡ now = omega arith in e)
       (subst (λ n. Stands m (entryOf m rs) (q .event + d) n (tree m) (q .state)) (let e : 0 + d ≡ d = omega arith in e) (pass-stands m (entryOf m rs) (q .event) d 0 (tree m) (q .state) (h .stands)))
 
-  ready-tree : (now : ℕ) (rs : List Entry) → Good m now rs → Ready m (entryOf m rs) now (tree m)
+  pub ready-tree : (now : ℕ) (rs : List Entry) → Good m now rs → Ready m (entryOf m rs) now (tree m)
   ready-tree now rs g = subst (Ready m (entryOf m rs) now) (sym (shape m w)) (ready m w now rs g)
 
   -- it is due when the entries are
@@ -65,7 +65,7 @@ module _ (m : Model) (w : WellFormed m) where
       ∙ left-later (q .event) e now (dueAt m (entryOf m rs) (tree m)) (let l = h .0 .in-time in omega arith) (ready-due m (entryOf m rs) now (tree m) r)
 
   -- an instant begins at a moment before which nothing is due
-  opened : (o u : ℕ) (q : Since (rootOf m)) (rs : List Entry) → BetweenStands o q rs → o ≤ u → notBefore u (nextDue m rs) ≡ true → AtStands u q rs
+  pub opened : (o u : ℕ) (q : Since (rootOf m)) (rs : List Entry) → BetweenStands o q rs → o ≤ u → notBefore u (nextDue m rs) ≡ true → AtStands u q rs
   opened o u q rs h l e = (record { stands = h .0 .stands; in-time = let k = h .0 .in-time in omega arith; each = h .0 .each }, fit-opens m w o u rs (h .1) l e)
 
   pub due-between : (o : ℕ) (q : Since (rootOf m)) (rs : List Entry) → BetweenStands o q rs → devsDue (rootOf m) q ≡ nextDue m rs

@@ -14,6 +14,8 @@ pub mod Shown
 pub mod Standing
 pub mod StandsOnce
 pub mod Through
+pub mod NeverOverdue
+pub mod StrayCue
 pub mod Demand2
 pub mod FlatTrace
 pub mod FlatLoops

@@ -7,6 +7,7 @@ use mathlib.Core.Bool.{true}
 use native.Mathlib.Omega.{arith}
 use lib.ListN.{length-map}
 use Rattle.definition.specs.Model.{Model, componentAt, isAtomic, atomics, Tree, Forest, leaf, node, stop, more, tree}
+use Rattle.definition.specs.Atomic.{unspent}
 use Rattle.definition.specs.SavedRun.{Entry, atomicCount, entryOf}
 use Rattle.definition.specs.Step.{load, elapsed}
 use Rattle.definition.specs.Engine.{startRun}
@@ -31,7 +32,7 @@ module _ (m : Model) (w : WellFormed m) where
   begun c e = lookUp-map _ (atomics (m .components)) c (let o = atomic-once (m .components) (w .components .fit) (w .some-component) c e in omega arith)
 
   mutual
-    unfolding Begun initially
+    unfolding Begun initially unspent
 
     initial-stands : (at : ℕ → Entry) → Begun at → (t : Tree) → OnlyIn (isAtomic (m .components)) t → Stands m at 0 0 t (initially m t)
     initial-stands at h (leaf c) o = (sym (ap (λ r. r .phase) (h c o)), omega (arith, ap (λ r. r .last) (h c o)))
