@@ -4,13 +4,13 @@ use mathlib.Core.List.{List, map}
 use mathlib.Core.Bool.{Bool, _&&_, not}
 use lib.Dec.{eqb}
 use Prim.Native.Nat.{ℕ, _+_, _≤_, _<_, min}
-use lib.ListN.{length, take, getD, set}
+use lib.ListN.{length, take, getD}
 use Rattle.definition.specs.Lists.{sortBy}
 use Rattle.definition.specs.Bytes.{Bytes}
 use Rattle.definition.specs.Limits.{maxComponents}
 use Rattle.definition.specs.Model.{Bag, messageLe}
 use Rattle.definition.specs.Devs.{Time}
-use Rattle.definition.specs.Engine.{toBag, dueNumber}
+use Rattle.definition.specs.Engine.{toBag}
 use Rattle.definition.specs.Step.{Stepped, Simulator}
 use Rattle.law_base.specs.Keys.{messageOf}
 use Rattle.clock.specs.Times.{latest}
@@ -20,9 +20,10 @@ use Rattle.model_records.specs.Values.{phasesIn, rulesIn}
 use Rattle.step_due.specs.Due.{CarriedIn}
 use Rattle.spec_step.specs.Ranges.{InRange}
 use Rattle.spec_step.specs.Tables.{numbersAt}
-use Rattle.spec_step.specs.TableStep.{rootRoom, isUp, dueAtPosition}
+use Rattle.spec_step.specs.TableStep.{rootRoom, isUp}
 use Rattle.spec_step.specs.Flags.{marksIn, reachedIn}
 use Rattle.step_collect.specs.Collected.{keysFor}
+use Rattle.step_transition.specs.Changes.{endOf}
 use Rattle.spec_step.specs.TableStep as T
 
 abbrev pub tableNext : Bytes → List ℕ → State → Time
@@ -51,11 +52,7 @@ changedOne phases rules tables flags room now given st i =
 pub record CanChange (phases : Bytes) (tables w : List ℕ) (i : ℕ) : Type 0 where
   pub position : i < maxComponents
   pub in-range : InRange tables
-  pub carried : getD (endsIn w) i 0 ≡ dueNumber (dueAtPosition (phasesIn phases) tables (heldIn w) i)
-
-pub record OneChanged (phases : Bytes) (tables w₀ w : List ℕ) (i : ℕ) (after : State) : Type 0 where
-  pub state : heldIn w ≡ after
-  pub ends : endsIn w ≡ set (endsIn w₀) i (dueNumber (dueAtPosition (phasesIn phases) tables (heldIn w) i))
+  pub carried : getD (endsIn w) i 0 ≡ endOf phases tables w i
 
 -- ---- all atomics
 

@@ -8,8 +8,9 @@ ghost use Rattle.definition.specs.Engine.{toBag};
 ghost use Rattle.run_state.specs.Held.{heldIn};
 ghost use Rattle.spec_step.specs.Ranges.{InRange};
 ghost use Rattle.step_collect.specs.Collected.{rootKeysFor};
+ghost use Rattle.step_transition.specs.Changes.{Changed};
 ghost use Rattle.step_simulator.specs.Simulator.{tableStep, isStill, changedOne, changedAll};
-ghost use Rattle.step_simulator.specs.Simulator.{CanChange, OneChanged, Changeable, AllChanged, RootBag, CanStep, HasStepped};
+ghost use Rattle.step_simulator.specs.Simulator.{CanChange, Changeable, AllChanged, RootBag, CanStep, HasStepped};
 use clock::Moment;
 use run_state::STATE_SIZE;
 use step_collect::collect_bag;
@@ -31,7 +32,7 @@ fn is_still(flags: &[u32; FLAGS_SIZE], c: u16) -> bool
     (mark_at(flags, place) == 0) & ((c != 0) & (reach_at(flags, place) == 0))
 }
 
-// The atomic at position i: its bag is pulled into `work`, it changes, and its due moment is carried anew.
+// The atomic at position i: its bag is pulled into `work`, and it changes with its due moment.
 fn change_one(
     phases: &[u8],
     rules: &[u8],
@@ -44,7 +45,7 @@ fn change_one(
     work: &mut [u32],
 )
     requires { ⌜ CanChange (now phases) (now tables) (now state) i ⌝ }
-    ensures { λ _. ⌜ OneChanged (now (phases .entry)) (now (tables .entry)) (now (state .entry)) (now (state .exit)) i
+    ensures { λ _. ⌜ Changed (now (phases .entry)) (now (tables .entry)) (now (state .entry)) (now (state .exit)) i
         (changedOne (now (phases .entry)) (now (rules .entry)) (now (tables .entry)) (now (flags .entry))
         (length (now (work .entry))) (at .0) (now (given .entry)) (heldIn (now (state .entry))) i) ⌝ }
 {
@@ -55,8 +56,7 @@ fn change_one(
     let k = collect_bag(phases, tables, flags, given, c, work);
     let due = mark_at(flags, u16_to_usize(c)) != 0;
     let bag = &work[..k];
-    let p = step_transition::transition(phases, rules, tables, state, at, i, c, due, bag);
-    step_due::put_end(phases, tables, c, p, state, i);
+    step_transition::transition(phases, rules, tables, state, at, i, c, due, bag);
 }
 
 // All n atomics, one after the other: the flags were read before, so the order does not matter.

@@ -1,41 +1,74 @@
--- The four cases of a transition, by whether the atomic is due and whether its bag is empty. Assumes nothing.
+-- The four cases of a transition, by whether the atomic is due and whether its bag is empty: where each leads. Assumes nothing.
 use mathlib.Core.Path.{_≡_, refl, sym, ap, _∙_}
 use mathlib.Core.List.{List, [], _∷_, map}
+use mathlib.Core.Option.{Option, none, some}
 use mathlib.Core.Bool.{true, false}
-use Prim.Native.Nat.{ℕ, _-_, _<_}
+use Prim.Native.Nat.{ℕ, _-_, _≤_, _<_}
 use native.Mathlib.Omega.{arith}
 use lib.ListN.{length, getD, set}
-use lib.Seq.{getD-set-same}
+use lib.Seq.{getD-set-same, set-getD}
+use borrow.Author.Tests.{lt-ltb, le-ltb}
 use Rattle.definition.specs.Model.{Phase, Rule}
 use Rattle.run_state.specs.declared.State.{State}
 use Rattle.run_state.specs.Held.{changedAt}
 use Rattle.law_base.specs.Keys.{messageOf}
-use Rattle.spec_step.specs.TableStep.{phaseIn, decidedIn, confluentIn, changedBy}
+use Rattle.spec_step.specs.TableStep.{leads, ledInto, phaseIn, ruleIn, confluentIn, leadBy, changedBy}
+use Rattle.step_transition.specs.Changes.{ledOf}
+
+-- ---- the state after a transition, by where it leads
+
+pub led-nowhere : (now : ℕ) (st : State) (i : ℕ) (o : Option ℕ) → none ≡ o → st ≡ ledInto now st i o
+unfolding ledInto
+led-nowhere now st i o q = ap (ledInto now st i) q
+
+pub led-into : (now : ℕ) (st : State) (i p : ℕ) (o : Option ℕ) → some p ≡ o → changedAt st i p now ≡ ledInto now st i o
+unfolding ledInto
+led-into now st i p o q = ap (ledInto now st i) q
+
+-- ---- where each case leads
 
 module _ (ps : List Phase) (t : List ℕ) (rs : List Rule) (now : ℕ) (st : State) (i c : ℕ) where
   pub internal-case : (l : List ℕ) → length l ≡ 0
-      → changedAt st i (phaseIn ps t c (getD (st .phase) i 0) .next) now ≡ changedBy ps t rs now st i c true (map messageOf l)
-  unfolding changedBy
+      → some (phaseIn ps t c (getD (st .phase) i 0) .next) ≡ leadBy ps t rs now st i c true (map messageOf l)
+  unfolding leadBy
   internal-case [] e = refl
   internal-case (k ∷ l) e = absurd (omega arith)
 
-  pub still-case : (l : List ℕ) → length l ≡ 0 → st ≡ changedBy ps t rs now st i c false (map messageOf l)
-  unfolding changedBy
+  pub still-case : (l : List ℕ) → length l ≡ 0 → none ≡ leadBy ps t rs now st i c false (map messageOf l)
+  unfolding leadBy
   still-case [] e = refl
   still-case (k ∷ l) e = absurd (omega arith)
 
   pub confluent-case : (l : List ℕ) → (length l ≡ 0 → ⊥)
-      → changedAt st i (confluentIn ps t rs c (getD (st .phase) i 0) (map messageOf l)) now ≡ changedBy ps t rs now st i c true (map messageOf l)
-  unfolding changedBy
+      → some (confluentIn ps t rs c (getD (st .phase) i 0) (map messageOf l)) ≡ leadBy ps t rs now st i c true (map messageOf l)
+  unfolding leadBy
   confluent-case [] e = absurd (e refl)
   confluent-case (k ∷ l) e = refl
 
   pub external-case : (l : List ℕ) → (length l ≡ 0 → ⊥)
-      → changedAt st i (decidedIn t rs c (getD (st .phase) i 0) (now - getD (st .last) i 0) (map messageOf l)) now
-      ≡ changedBy ps t rs now st i c false (map messageOf l)
-  unfolding changedBy
+      → leads rs (ruleIn t rs c (getD (st .phase) i 0) (now - getD (st .last) i 0) (map messageOf l)) ≡ leadBy ps t rs now st i c false (map messageOf l)
+  unfolding leadBy
   external-case [] e = absurd (e refl)
   external-case (k ∷ l) e = refl
+
+  -- a state that nothing changes
+  pub still-state : (l : List ℕ) → length l ≡ 0 → st ≡ changedBy ps t rs now st i c false (map messageOf l)
+  unfolding changedBy
+  still-state l e = led-nowhere now st i _ (still-case l e)
+
+-- ---- what the code's answer names
+
+pub led-byte : (r : ℕ) → r < 256 → ledOf r ≡ some r
+unfolding ledOf
+led-byte r h = rw (lt-ltb r 256 h)
+
+pub led-none : (r : ℕ) → 256 ≤ r → ledOf r ≡ none
+unfolding ledOf
+led-none r h = rw (le-ltb r 256 h)
+
+-- the due moment of what nothing changes is carried as it was
+pub end-kept : (ends : List ℕ) (i v : ℕ) → getD ends i 0 ≡ v → ends ≡ set ends i v
+end-kept ends i v e = sym (set-getD ends i 0) ∙ ap (set ends i) e
 
 -- The phase that was put stands at its position.
 pub phase-put : (st new : State) (k i p last : ℕ) → new ≡ changedAt st k p last → k ≡ i → i < length (st .phase) → p ≡ getD (new .phase) i 0

@@ -1,22 +1,49 @@
--- A transition over the bytes of the phase and rule sections and the words of a state. Assumes nothing.
+-- Where a search leads, and a transition over the bytes of the phase and rule sections and the words of a state. Assumes nothing.
 use mathlib.Core.Path.{_≡_}
 use mathlib.Core.List.{List, map}
-use mathlib.Core.Bool.{Bool}
-use Prim.Native.Nat.{ℕ}
-use lib.ListN.{getD}
+use mathlib.Core.Option.{Option, none, some}
+use mathlib.Core.Bool.{Bool, cond}
+use lib.Dec.{ltb}
+use Prim.Native.Nat.{ℕ, _+_, _<_}
+use lib.ListN.{getD, set}
 use Rattle.definition.specs.Bytes.{Bytes}
+use Rattle.definition.specs.Limits.{maxComponents}
+use Rattle.definition.specs.Model.{Bag, Rule}
+use Rattle.definition.specs.Engine.{dueNumber}
 use Rattle.law_base.specs.Keys.{messageOf}
 use Rattle.run_state.specs.declared.State.{State}
 use Rattle.run_state.specs.Held.{heldIn, endsIn}
 use Rattle.model_records.specs.Values.{phasesIn, rulesIn}
-use Rattle.spec_step.specs.TableStep.{changedBy}
+use Rattle.spec_step.specs.Tables.{numbersAt}
+use Rattle.spec_step.specs.TableStep.{leads, ruleIn, leadBy, dueAtPosition, changedBy}
 
--- The state after the transition at `now` of the atomic c at position i, due or not, with a bag of keys.
+-- The phase that the code's answer names: a byte, and none where it is no byte.
+unfoldable pub ledOf : ℕ → Option ℕ
+ledOf r = cond (ltb r 256) (some r) none
+
+-- The phase that the deciding rule leads to, by the tables of a call.
+abbrev pub leadIn : List ℕ → List Rule → ℕ → ℕ → ℕ → Bag → Option ℕ
+leadIn tables rs c p e x = leads rs (ruleIn tables rs c p e x)
+
+-- Where the transition at `now` of the atomic c at position i leads, due or not, with a bag of keys; and the state after it.
+abbrev pub leadOf : Bytes → Bytes → List ℕ → ℕ → List ℕ → ℕ → ℕ → Bool → List ℕ → Option ℕ
+leadOf phases rules tables now w i c due bag = leadBy (phasesIn phases) tables (rulesIn rules) now (heldIn w) i c due (map messageOf bag)
+
 abbrev pub changeOf : Bytes → Bytes → List ℕ → ℕ → List ℕ → ℕ → ℕ → Bool → List ℕ → State
 changeOf phases rules tables now w i c due bag = changedBy (phasesIn phases) tables (rulesIn rules) now (heldIn w) i c due (map messageOf bag)
 
--- The words hold that state, and p is the atomic's phase there; when something is due is not carried anew.
-pub record Changed (w₀ w : List ℕ) (i p : ℕ) (after : State) : Type 0 where
+-- When the atomic at position i is due, as a number.
+abbrev pub endOf : Bytes → List ℕ → List ℕ → ℕ → ℕ
+endOf phases tables w i = dueNumber (dueAtPosition (phasesIn phases) tables (heldIn w) i)
+
+-- A position, the atomic that stands there, and its due moment carried.
+pub record AtomicAt (phases : Bytes) (tables w : List ℕ) (i c : ℕ) : Type 0 where
+  pub position : i < maxComponents
+  pub component : c < maxComponents
+  pub own : c ≡ getD tables (numbersAt + i) 0
+  pub carried : getD (endsIn w) i 0 ≡ endOf phases tables w i
+
+-- The words hold that state, and the atomic's due moment.
+pub record Changed (phases : Bytes) (tables w₀ w : List ℕ) (i : ℕ) (after : State) : Type 0 where
   pub state : heldIn w ≡ after
-  pub ends : endsIn w ≡ endsIn w₀
-  pub phase : p ≡ getD (heldIn w .phase) i 0
+  pub ends : endsIn w ≡ set (endsIn w₀) i (endOf phases tables w i)

@@ -2,13 +2,13 @@
 ghost use mathlib.Core.Path.{_≡_};
 ghost use mathlib.Core.List.{map};
 ghost use Prim.Native.Nat.{_<_};
+ghost use lib.ListN.{getD};
 ghost use Rattle.definition.specs.Limits.{maxComponents};
-ghost use Rattle.definition.specs.Atomic.{ledTo};
+ghost use Rattle.definition.specs.Model.{noRule};
 ghost use Rattle.model_records.specs.Values.{phasesIn, rulesIn};
-ghost use Rattle.step_rule.specs.Search.{foundOf};
 ghost use Rattle.law_base.specs.Keys.{messageOf};
-ghost use Rattle.spec_step.specs.TableStep.{phaseIn, decidedIn, confluentIn};
-ghost use Rattle.step_transition.specs.Changes.{changeOf, Changed};
+ghost use Rattle.spec_step.specs.TableStep.{phaseOr, phaseIn, confluentIn};
+ghost use Rattle.step_transition.specs.Changes.{ledOf, leadIn, leadOf, changeOf, AtomicAt, Changed};
 use clock::Moment;
 use clock::Stay;
 use run_state::STATE_SIZE;
@@ -19,6 +19,7 @@ use table_words::RULES_FROM_AT;
 use table_words::RULES_TO_AT;
 use table_words::TABLE_SIZE;
 use table_words::row_in;
+use widen::u8_to_u16;
 use widen::u8_to_usize;
 use widen::u16_to_usize;
 use widen::u32_to_u64;
@@ -40,18 +41,18 @@ fn advance_of(phases: &[u8], tables: &[u16; TABLE_SIZE], c: u16, p: u8) -> Stay
     Stay(u32_to_u64(phase.advance))
 }
 
-// Where the rule that was found leads; without one the phase stays.
-fn led_to(rules: &[u8], p: u8, found: Found) -> u8
-    ensures { λ r. ⌜ r ≡ ledTo (rulesIn (now (rules .entry))) p (foundOf found) ⌝ }
+// No phase: what leads nowhere answers it. A number and no enum, which would go through memory in two stores that are read as one.
+const NOWHERE: u16 = 256;
+
+// The phase that the rule at position i leads to.
+fn next_by(rules: &[u8], i: u16) -> u8
+    ensures { λ r. ⌜ r ≡ getD (rulesIn (now (rules .entry))) i noRule .next ⌝ }
 {
-    let Found::At(i) = found else {
-        return p;
-    };
     let rule = model_records::rule_at(rules, u16_to_usize(i));
     rule.next
 }
 
-// The external transition of component c in phase p.
+// The rule that decides for component c in phase p, by the phase that it leads to: the search's position tells whether there is one.
 fn decided(
     rules: &[u8],
     tables: &[u16; TABLE_SIZE],
@@ -59,17 +60,23 @@ fn decided(
     p: u8,
     elapsed: Stay,
     bag: &[u32],
-) -> u8
+) -> u16
     requires { ⌜ c < maxComponents ⌝ }
-    ensures { λ r. ⌜ r ≡ decidedIn (now (tables .entry)) (rulesIn (now (rules .entry))) c p (elapsed .0) (map messageOf (now (bag .entry))) ⌝ }
+    ensures { λ r. ⌜ ledOf r ≡ leadIn (now (tables .entry)) (rulesIn (now (rules .entry))) c p (elapsed .0) (map messageOf (now (bag .entry))) ⌝ }
 {
     let first = row_in(tables, RULES_FROM_AT, c);
     let end = row_in(tables, RULES_TO_AT, c);
-    led_to(
-        rules,
-        p,
-        step_rule::deciding(rules, first, end, c, p, elapsed, bag),
-    )
+    let Found::At(i) = step_rule::deciding(rules, first, end, c, p, elapsed, bag) else {
+        return NOWHERE;
+    };
+    u8_to_u16(next_by(rules, i))
+}
+
+// The phase after the external part of a confluent transition: without a rule it stays.
+fn phase_after(p: u8, led: u16) -> u8
+    ensures { λ r. ⌜ r ≡ phaseOr p (ledOf led) ⌝ }
+{
+    if led < NOWHERE { led as u8 } else { p }
 }
 
 // "order 0 takes the next phase, then the external transition with elapsed time 0; order 1 the external one with elapsed time equal to the
@@ -87,14 +94,48 @@ fn confluent(
 {
     if row_in(tables, ORDERS_AT, c) == 0 {
         let next = next_of(phases, tables, c, p);
-        return decided(rules, tables, c, next, Stay(0), bag);
+        return phase_after(next, decided(rules, tables, c, next, Stay(0), bag));
     }
     let advance = advance_of(phases, tables, c, p);
-    let led = decided(rules, tables, c, p, advance, bag);
+    let led = phase_after(p, decided(rules, tables, c, p, advance, bag));
     next_of(phases, tables, c, led)
 }
 
-// The atomic c at position i, due or not, with its bag. Its phase afterwards is the answer.
+// Where the transition of the atomic c at position i leads, due or not, with its bag. "where no rule holds, the external transition keeps both
+// phase and last moment": it leads nowhere, as where nothing is due and nothing comes. What the search found tells that, and not the phase: a
+// rule may lead into the same one.
+fn lead(
+    phases: &[u8],
+    rules: &[u8],
+    tables: &[u16; TABLE_SIZE],
+    state: &[u64; STATE_SIZE],
+    at: Moment,
+    i: u8,
+    c: u16,
+    due: bool,
+    bag: &[u32],
+) -> u16
+    requires { ⌜ (i < maxComponents) × (c < maxComponents) ⌝ }
+    ensures { λ r. ⌜ ledOf r
+        ≡ leadOf (now (phases .entry)) (now (rules .entry)) (now (tables .entry)) (at .0) (now (state .entry)) i c due (now (bag .entry)) ⌝ }
+{
+    let position = u8_to_usize(i);
+    let p = run_state::phase_at(state, position);
+    if bag.len() == 0 {
+        if due {
+            return u8_to_u16(next_of(phases, tables, c, p));
+        }
+        return NOWHERE;
+    }
+    if due {
+        return u8_to_u16(confluent(phases, rules, tables, c, p, bag));
+    }
+    let elapsed = at.since(run_state::last_at(state, position));
+    decided(rules, tables, c, p, elapsed, bag)
+}
+
+// The transition of the atomic c at position i, due or not, with its bag: its entry is set and its due moment carried anew, or nothing is
+// written.
 pub fn transition(
     phases: &[u8],
     rules: &[u8],
@@ -105,29 +146,17 @@ pub fn transition(
     c: u16,
     due: bool,
     bag: &[u32],
-) -> u8
-    requires { ⌜ (i < maxComponents) × (c < maxComponents) ⌝ }
-    ensures { λ r. ⌜ Changed (now (state .entry)) (now (state .exit)) i r
+)
+    requires { ⌜ AtomicAt (now phases) (now tables) (now state) i c ⌝ }
+    ensures { λ _. ⌜ Changed (now (phases .entry)) (now (tables .entry)) (now (state .entry)) (now (state .exit)) i
         (changeOf (now (phases .entry)) (now (rules .entry)) (now (tables .entry)) (at .0) (now (state .entry)) i c due (now (bag .entry))) ⌝ }
 {
     run_state::whole(state);
-    let position = u8_to_usize(i);
-    let p = run_state::phase_at(state, position);
-    if bag.len() == 0 {
-        if due {
-            let next = next_of(phases, tables, c, p);
-            run_state::put_at(state, position, next, at);
-            return next;
-        }
-        return p;
+    let led = lead(phases, rules, tables, state, at, i, c, due, bag);
+    if NOWHERE <= led {
+        return;
     }
-    if due {
-        let next = confluent(phases, rules, tables, c, p, bag);
-        run_state::put_at(state, position, next, at);
-        return next;
-    }
-    let elapsed = at.since(run_state::last_at(state, position));
-    let led = decided(rules, tables, c, p, elapsed, bag);
-    run_state::put_at(state, position, led, at);
-    led
+    let p = led as u8;
+    run_state::put_at(state, u8_to_usize(i), p, at);
+    step_due::put_end(phases, tables, c, p, state, i);
 }

@@ -2,7 +2,6 @@
 use borrow.Author.Needs.{needs}
 use native.Mathlib.Omega.{arith}
 use Rattle.step_simulator.proofs.Laws.{into-held, keys-unreached}
-use Rattle.definition.specs.Engine.{dueNumber}
 use Rattle.definition.specs.Limits.{maxComponents}
 use Rattle.model_records.specs.Values.{phasesIn, rulesIn}
 use Rattle.spec_step.specs.Tables.{numbersAt}
@@ -10,16 +9,15 @@ use Rattle.spec_step.specs.TableStep.{isUp}
 use Rattle.spec_step.specs.Flags.{marksIn}
 use Rattle.step_collect.specs.Collected.{keysFor}
 use denote.Ref.{now}
-use lib.Seq.{length-take-le, set-getD}
-use mathlib.Core.Path.{_≡_, _∙_, sym, ap}
+use lib.Seq.{length-take-le}
+use mathlib.Core.Path.{_≡_, _∙_, sym}
 use Prim.Native.Nat.{_+_, _<_}
 use lib.Dec.{eqb}
-use lib.ListN.{length, take, getD, set, length-take}
+use lib.ListN.{length, take, getD, length-take}
 use Rattle.law_base.proofs.Tests.{and-left, and-right}
 use Rattle.law_stores.proofs.Fronts.{Front}
 use Rattle.run_state.specs.Held.{heldIn, endsIn}
-use Rattle.step_transition.proofs.Laws.{still-case}
-use Rattle.step_due.proofs.Laws.{due-named}
+use Rattle.step_transition.proofs.Laws.{still-state, end-kept}
 use Rattle.step_simulator.proofs.change_one.Statement.{statement}
 use Rattle.step_simulator.proofs.change_one.Tie as tie
 
@@ -62,10 +60,10 @@ returns c =
     let keys = keysFor (now (a .phases)) t flags (now (a .given)) n in
     let unreached = keys-unreached (now (a .phases)) t flags (now (a .given)) n (and-right mark _ h) in
     let none : length (take (length (now (a .work))) keys) ≡ 0 = omega (arith, length-take (length (now (a .work))) keys, unreached) in
-    let still = still-case (phasesIn (now (a .phases))) t (rulesIn (now (a .rules))) (a .at .0) (heldIn (now (a .state))) (a .i) n (take (length (now (a .work))) keys) none in
+    let still = still-state (phasesIn (now (a .phases))) t (rulesIn (now (a .rules))) (a .at .0) (heldIn (now (a .state))) (a .i) n (take (length (now (a .work))) keys) none in
     record {
       state = rw (and-left mark _ h) still;
-      ends = sym (set-getD (endsIn (now (a .state))) (a .i) 0) ∙ ap (set (endsIn (now (a .state))) (a .i)) (start .pre .carried);
+      ends = end-kept (endsIn (now (a .state))) (a .i) _ (start .pre .carried);
     }
 
 collect-bag-requires : tie.Need-collect-bag-requires
@@ -90,34 +88,23 @@ slice-aggregate-bag c =
 
 transition-requires : tie.Need-transition-requires
 transition-requires c κs =
-    let start : tie.Start = search in let after-row-in : tie.After-row-in = search in
-    (start .pre .position, numbered after-row-in)
-
-put-end-requires : tie.Need-put-end-requires
-put-end-requires c κs =
-    let start : tie.Start = search in let after-row-in : tie.After-row-in = search in
-    (start .pre .position, numbered after-row-in)
+    let start : tie.Start = search in let row : tie.After-row-in = search in
+    let q = start .pre in
+    record { position = q .position; component = numbered row; own = row .row-in .ensures; carried = q .carried }
 
 returns-2 : tie.Need-returns-2
 unfolding isUp
 returns-2 c =
-    let start : tie.Start = search in let after-transition : tie.After-transition = search in let after-mark-at : tie.After-mark-at = search in
-    let after-u16-to-usize : tie.After-u16-to-usize = search in let after-collect-bag : tie.After-collect-bag = search in
-    let row : tie.After-row-in = search in
-    let a = start .args in
-    let ps = phasesIn (now (a .phases)) in
-    let t = now (a .tables) in
-    let ends = endsIn (now (a .state)) in
+    let after-mark-at : tie.After-mark-at = search in let after-u16-to-usize : tie.After-u16-to-usize = search in
+    let after-collect-bag : tie.After-collect-bag = search in let row : tie.After-row-in = search in
     let f = pulled after-collect-bag in
-    let changed = after-transition .transition .ensures in
-    let put = c .put-end .ensures in
-    let named = due-named ps t _ (a .i) (row .row-in .result) (after-transition .transition .result) (row .row-in .ensures) (changed .phase) in
+    let changed = c .transition .ensures in
     record {
-      state = put .held ∙ (rw (after-mark-at .mark-at .ensures, after-u16-to-usize .u16-to-usize .ensures, f .held, row .row-in .ensures) at (changed .state));
-      ends = put .ends ∙ rw (changed .ends, put .held) (ap (λ u. set ends (a .i) (dueNumber u)) named);
+      state = rw (after-mark-at .mark-at .ensures, after-u16-to-usize .u16-to-usize .ensures, f .held, row .row-in .ensures) at (changed .state);
+      ends = changed .ends;
     }
 
 pub change-one-spec : {M : Type 1} → statement M
 change-one-spec =
     tie.close (tie.spec (λ c κs. search needs) is-still-requires returns collect-bag-requires (λ c κs. search needs)
-    mark-at-requires slice-reshare-prefix-bag slice-aggregate-bag transition-requires put-end-requires (λ c. search needs) returns-2)
+    mark-at-requires slice-reshare-prefix-bag slice-aggregate-bag transition-requires (λ c. search needs) returns-2)

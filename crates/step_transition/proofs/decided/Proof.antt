@@ -1,14 +1,47 @@
 -- The deciding rule among those from the first that names the component to the last, and where it leads.
 use borrow.Author.Needs.{needs}
-use Rattle.spec_step.specs.TableStep.{decidedIn}
+use mathlib.Core.Option.{some}
+use mathlib.Core.Path.{_≡_, _∙_, sym, ap}
+use mathlib.Core.List.{map}
+use denote.Ref.{now}
+use Rattle.law_base.specs.Keys.{messageOf}
+use Rattle.model_records.specs.Values.{rulesIn}
+use Rattle.spec_step.specs.TableStep.{leads, ruleIn}
+use Rattle.step_rule.specs.Search.{foundOf}
+use native.Mathlib.Omega.{arith}
+use Rattle.step_transition.specs.Changes.{ledOf}
+use Rattle.step_transition.proofs.Laws.{led-none, led-byte}
 use Rattle.step_transition.proofs.decided.Statement.{statement}
 use Rattle.step_transition.proofs.decided.Tie as tie
 
-returns : tie.Need-returns
-unfolding decidedIn
-returns c =
+-- what the search found
+abbrev Searched : tie.After-deciding → Type 0
+Searched k =
+    let start : tie.Start = search in
+    let a = start .args in
+    foundOf (k .deciding .result) ≡ ruleIn (now (a .tables)) (rulesIn (now (a .rules))) (a .c) (a .p) (a .elapsed .0) (map messageOf (now (a .bag)))
+
+searched : (k : tie.After-deciding) → Searched k
+unfolding ruleIn
+searched k =
     let after-row-in2 : tie.After-row-in2 = search in let after-row-in : tie.After-row-in = search in
-    rw (c .before .deciding .ensures, after-row-in2 .row-in2 .ensures, after-row-in .row-in .ensures) at (c .led-to .ensures)
+    rw (after-row-in2 .row-in2 .ensures, after-row-in .row-in .ensures) at (k .deciding .ensures)
+
+returns : tie.Need-returns
+unfolding leads
+returns c =
+    let start : tie.Start = search in let told : tie.After-enum-told = search in let after-deciding : tie.After-deciding = search in
+    led-none 256 (omega arith) ∙ ap (leads (rulesIn (now (start .args .rules)))) (sym (ap foundOf (told .enum-told .given .1)) ∙ searched after-deciding)
+
+returns-2 : tie.Need-returns-2
+unfolding leads
+returns-2 c =
+    let start : tie.Start = search in let after-next-by : tie.After-next-by = search in let after-i : tie.After-i = search in
+    let after-deciding : tie.After-deciding = search in
+    ap ledOf (c .u8-to-u16 .ensures) ∙ led-byte (after-next-by .next-by .result) (search) ∙ ap some (after-next-by .next-by .ensures)
+    ∙ ap (leads (rulesIn (now (start .args .rules)))) (sym (ap foundOf (after-i .i .given .1)) ∙ searched after-deciding)
 
 pub decided-spec : {M : Type 1} → statement M
-decided-spec = tie.close (tie.spec (λ c κs. search needs) (λ c κs. search needs) (λ c κs. search needs) (λ c κs. search needs) returns)
+decided-spec =
+    tie.close (tie.spec (λ c κs. search needs) (λ c κs. search needs) (λ c κs. search needs) (λ c. search needs) (λ c. search needs) returns
+    (λ c κs. search needs) (λ c κs. search needs) returns-2)

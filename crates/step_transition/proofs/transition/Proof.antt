@@ -1,77 +1,59 @@
--- Due or not, with an empty bag or not: the four cases of the definition.
+-- Led into a phase, the entry is set and its due moment with it; led nowhere, both are what they were.
 use borrow.Author.Needs.{needs}
-use Rattle.step_transition.proofs.Laws.{internal-case, still-case, confluent-case, external-case, phase-put}
-use Rattle.run_state.specs.Held.{heldIn}
-use Rattle.run_state.proofs.Laws.{held-size}
-use Rattle.model_records.specs.Values.{phasesIn, rulesIn}
-use Rattle.spec_step.specs.TableStep.{decidedIn}
-use denote.Ref.{now}
+use mathlib.Core.Path.{_∙_, sym, ap}
 use native.Mathlib.Omega.{arith}
-use lib.ListN.{getD}
-use mathlib.Core.Path.{_∙_, ap, refl}
+use denote.Ref.{now}
+use lib.ListN.{set}
+use Rattle.definition.specs.Engine.{dueNumber}
+use Rattle.run_state.specs.Held.{heldIn, endsIn}
+use Rattle.run_state.proofs.Laws.{held-size}
+use Rattle.model_records.specs.Values.{phasesIn}
+use Rattle.spec_step.specs.TableStep.{changedBy}
+use Rattle.step_due.proofs.Laws.{due-named}
+use Rattle.step_transition.proofs.Laws.{led-byte, led-none, led-nowhere, led-into, end-kept, phase-put}
 use Rattle.step_transition.proofs.transition.Statement.{statement}
 use Rattle.step_transition.proofs.transition.Tie as tie
 
+lead-requires : tie.Need-lead-requires
+lead-requires c κs =
+    let start : tie.Start = search in
+    (start .pre .position, start .pre .component)
+
 returns : tie.Need-returns
+unfolding changedBy
 returns c =
-    let start : tie.Start = search in let after-next-of : tie.After-next-of = search in let then2 : tie.Then2 = search in
-    let then1 : tie.Then1 = search in let after-phase-at : tie.After-phase-at = search in let after-u8-to-usize : tie.After-u8-to-usize = search in
-    let after-whole : tie.After-whole = search in
+    let start : tie.Start = search in let then1 : tie.Then1 = search in let after-lead : tie.After-lead = search in
     let a = start .args in
-    let st = heldIn (now (a .state)) in
-    let put = c .put-at .ensures in
-    let is = rw (after-next-of .next-of .ensures, after-phase-at .phase-at .ensures, after-u8-to-usize .u8-to-usize .ensures) at (put .held) in
     record {
-      state = rw (then2 .if2 .taken) (is ∙ internal-case (phasesIn (now (a .phases))) (now (a .tables)) (rulesIn (now (a .rules))) (a .at .0) st (a .i) (a .c) (now (a .bag)) (then1 .if1 .taken));
-      ends = put .ends;
-      phase = phase-put st _ _ (a .i) _ _ (put .held) (after-u8-to-usize .u8-to-usize .ensures) (omega (arith, held-size (now (a .state)) (after-whole .whole .ensures) .0, start .pre .0));
+      state = led-nowhere (a .at .0) (heldIn (now (a .state))) (a .i) _ (sym (led-none (after-lead .lead .result) (then1 .if1 .taken)) ∙ after-lead .lead .ensures);
+      ends = end-kept (endsIn (now (a .state))) (a .i) _ (start .pre .carried);
     }
+
+put-end-requires : tie.Need-put-end-requires
+put-end-requires c κs =
+    let start : tie.Start = search in
+    (start .pre .position, start .pre .component)
 
 returns-2 : tie.Need-returns-2
+unfolding changedBy
 returns-2 c =
-    let start : tie.Start = search in let after-phase-at : tie.After-phase-at = search in let after-u8-to-usize : tie.After-u8-to-usize = search in
+    let start : tie.Start = search in let else1 : tie.Else1 = search in let after-lead : tie.After-lead = search in
+    let after-put-at : tie.After-put-at = search in let after-u8-to-usize : tie.After-u8-to-usize = search in let after-whole : tie.After-whole = search in
     let a = start .args in
+    let ps = phasesIn (now (a .phases)) in
     let st = heldIn (now (a .state)) in
+    let entry = after-put-at .put-at .ensures in
+    let end = c .put-end .ensures in
+    let at-i = after-u8-to-usize .u8-to-usize .ensures in
+    let led = sym (led-byte (after-lead .lead .result) (omega (arith, else1 .if1 .left))) ∙ after-lead .lead .ensures in
+    let phase = phase-put st _ _ (a .i) _ _ (entry .held) at-i (omega (arith, held-size (now (a .state)) (after-whole .whole .ensures) .0, start .pre .position)) in
+    let named = due-named ps (now (a .tables)) _ (a .i) (a .c) _ (start .pre .own) phase in
     record {
-      state = rw (c .if2 .left) (still-case (phasesIn (now (a .phases))) (now (a .tables)) (rulesIn (now (a .rules))) (a .at .0) st (a .i) (a .c) (now (a .bag)) (c .before .if1 .taken));
-      ends = refl;
-      phase = after-phase-at .phase-at .ensures ∙ ap (λ k. getD (st .phase) k 0) (after-u8-to-usize .u8-to-usize .ensures);
-    }
-
-returns-3 : tie.Need-returns-3
-returns-3 c =
-    let start : tie.Start = search in let after-confluent : tie.After-confluent = search in let then3 : tie.Then3 = search in
-    let else1 : tie.Else1 = search in let after-phase-at : tie.After-phase-at = search in let after-u8-to-usize : tie.After-u8-to-usize = search in
-    let after-whole : tie.After-whole = search in
-    let a = start .args in
-    let st = heldIn (now (a .state)) in
-    let put = c .put-at2 .ensures in
-    let is = rw (after-confluent .confluent .ensures, after-phase-at .phase-at .ensures, after-u8-to-usize .u8-to-usize .ensures) at (put .held) in
-    record {
-      state = rw (then3 .if3 .taken) (is ∙ confluent-case (phasesIn (now (a .phases))) (now (a .tables)) (rulesIn (now (a .rules))) (a .at .0) st (a .i) (a .c) (now (a .bag)) (else1 .if1 .left));
-      ends = put .ends;
-      phase = phase-put st _ _ (a .i) _ _ (put .held) (after-u8-to-usize .u8-to-usize .ensures) (omega (arith, held-size (now (a .state)) (after-whole .whole .ensures) .0, start .pre .0));
-    }
-
-returns-4 : tie.Need-returns-4
-unfolding decidedIn
-returns-4 c =
-    let start : tie.Start = search in let after-decided : tie.After-decided = search in let after-since : tie.After-since = search in
-    let after-last-at : tie.After-last-at = search in let else3 : tie.Else3 = search in let else1 : tie.Else1 = search in
-    let after-phase-at : tie.After-phase-at = search in let after-u8-to-usize : tie.After-u8-to-usize = search in let after-whole : tie.After-whole = search in
-    let a = start .args in
-    let st = heldIn (now (a .state)) in
-    let put = c .put-at3 .ensures in
-    let phase = rw (after-decided .decided .ensures, after-since .since .ensures, after-last-at .last-at .ensures) at (put .held) in
-    let is = rw (after-phase-at .phase-at .ensures, after-u8-to-usize .u8-to-usize .ensures) at phase in
-    record {
-      state = rw (else3 .if3 .left) (is ∙ external-case (phasesIn (now (a .phases))) (now (a .tables)) (rulesIn (now (a .rules))) (a .at .0) st (a .i) (a .c) (now (a .bag)) (else1 .if1 .left));
-      ends = put .ends;
-      phase = phase-put st _ _ (a .i) _ _ (put .held) (after-u8-to-usize .u8-to-usize .ensures) (omega (arith, held-size (now (a .state)) (after-whole .whole .ensures) .0, start .pre .0));
+      state = end .held ∙ (rw at-i at (entry .held)) ∙ led-into (a .at .0) st (a .i) _ _ led;
+      ends = end .ends ∙ rw (entry .ends, end .held) (ap (λ u. set (endsIn (now (a .state))) (a .i) (dueNumber u)) named);
     }
 
 pub transition-spec : {M : Type 1} → statement M
 transition-spec =
-    tie.close (tie.spec (λ c κs. search needs) (λ c κs. search needs) (λ c κs. search needs) (λ c κs. search needs) (λ c κs. search needs) returns
-    returns-2 (λ c κs. search needs) (λ c κs. search needs) returns-3 (λ c κs. search needs) (λ c κs. search needs) (λ c κs. search needs)
-    (λ c κs. search needs) returns-4)
+    tie.close (tie.spec (λ c κs. search needs) lead-requires returns (λ c. search needs) (λ c κs. search needs) (λ c κs. search needs)
+    put-end-requires returns-2)
