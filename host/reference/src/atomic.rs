@@ -1,4 +1,4 @@
-//! One atomic as a Parallel DEVS model: time advance, output, and the three transitions by tables.
+//! One atomic: what its tables say of a phase, and the Parallel DEVS model that they make of it.
 
 use crate::limits;
 use crate::model::Model;
@@ -11,13 +11,30 @@ pub struct Atomic<'m> {
     rules: Vec<(usize, &'m Rule)>,
 }
 
+/// The sequential state of an atomic. To Parallel DEVS a bag for which no rule holds is an event like
+/// any other, after which the elapsed time counts from 0; but the stay in the phase goes on, so that
+/// the state keeps how much of it had gone by at the last event.
+#[derive(Clone, Copy, Debug, PartialEq, Eq)]
+pub struct AtomicState {
+    pub phase: u8,
+    pub spent: u64,
+}
+
+impl AtomicState {
+    /// A stay that begins now.
+    pub fn afresh(phase: u8) -> AtomicState {
+        AtomicState { phase, spent: 0 }
+    }
+}
+
 /// Where an external part led, and the position of the rule that decided it.
 #[derive(Clone, Copy, Debug, PartialEq, Eq)]
 pub struct Led {
-    pub phase: u8,
+    pub state: AtomicState,
     pub rule: Option<usize>,
 }
 
+/// What the tables say of a phase.
 impl<'m> Atomic<'m> {
     pub fn new(model: &'m Model, component: usize) -> Atomic<'m> {
         let names_this = |rule: &Rule| usize::from(rule.component) == component;
@@ -33,41 +50,61 @@ impl<'m> Atomic<'m> {
     }
 
     /// How long the phase lasts; none for never.
-    pub fn time_advance(&self, phase: u8) -> Option<u64> {
+    pub fn advance(&self, phase: u8) -> Option<u64> {
         let advance = self.phases[usize::from(phase)].advance;
         (advance != limits::UNBOUNDED).then(|| u64::from(advance))
     }
 
-    pub fn output(&self, phase: u8) -> &'m [Message] {
+    pub fn outputs(&self, phase: u8) -> &'m [Message] {
         self.phases[usize::from(phase)].outputs()
     }
 
-    /// "Imminent with an empty bag: next phase."
-    pub fn internal(&self, phase: u8) -> u8 {
+    pub fn next_phase(&self, phase: u8) -> u8 {
         self.phases[usize::from(phase)].next_phase
     }
 
-    /// "The first rule in file order whose conditions all hold decides." Where none holds the phase stays.
-    pub fn external(&self, phase: u8, elapsed: u64, bag: &[Message]) -> Led {
+    /// "The first rule in file order whose conditions all hold decides": its position, and where it leads.
+    pub fn deciding_rule(&self, phase: u8, elapsed: u64, bag: &[Message]) -> Option<(usize, u8)> {
         let holds = |rule: &Rule| {
             rule.phase == phase && elapsed_is_in_range(rule, elapsed) && enough_messages(rule, bag)
         };
-        match self.rules.iter().find(|(_, rule)| holds(rule)) {
-            Some((position, rule)) => Led { phase: rule.next_phase, rule: Some(*position) },
-            None => Led { phase, rule: None },
+        let deciding = self.rules.iter().find(|(_, rule)| holds(rule));
+        deciding.map(|(position, rule)| (*position, rule.next_phase))
+    }
+}
+
+/// The Parallel DEVS model. An elapsed time here is the one since the last event.
+impl Atomic<'_> {
+    /// ta: what is left of the phase's advance; none for never.
+    pub fn time_advance(&self, state: AtomicState) -> Option<u64> {
+        let advance = self.advance(state.phase)?;
+        Some(advance.checked_sub(state.spent).expect("no stay is longer than its advance"))
+    }
+
+    /// δint: "Imminent with an empty bag: next phase."
+    pub fn internal(&self, state: AtomicState) -> AtomicState {
+        AtomicState::afresh(self.next_phase(state.phase))
+    }
+
+    /// δext: a rule begins a stay, be it in the same phase. Where no rule holds "the external transition
+    /// keeps both phase and last moment": all the time up to now is spent on the same stay.
+    pub fn external(&self, state: AtomicState, elapsed: u64, bag: &[Message]) -> Led {
+        let spent = state.spent + elapsed;
+        match self.deciding_rule(state.phase, spent, bag) {
+            Some((rule, next)) => Led { state: AtomicState::afresh(next), rule: Some(rule) },
+            None => Led { state: AtomicState { spent, ..state }, rule: None },
         }
     }
 
-    /// Order 0: next phase, then external with elapsed time 0. Order 1: external with elapsed time
-    /// equal to the advance, then the next phase of where it led.
-    pub fn confluent(&self, phase: u8, bag: &[Message]) -> Led {
+    /// δcon(s, x) = δext(δint(s), 0, x) for order 0, δint(δext(s, ta(s), x)) for order 1. Either way a stay
+    /// begins, whichever part had no rule.
+    pub fn confluent(&self, state: AtomicState, bag: &[Message]) -> Led {
         if self.internal_first {
-            self.external(self.internal(phase), 0, bag)
-        } else {
-            let advance = self.time_advance(phase).expect("a never-due atomic is not imminent");
-            let led = self.external(phase, advance, bag);
-            Led { phase: self.internal(led.phase), rule: led.rule }
+            return self.external(self.internal(state), 0, bag);
         }
+        let left = self.time_advance(state).expect("a never-due atomic is not imminent");
+        let led = self.external(state, left, bag);
+        Led { state: self.internal(led.state), ..led }
     }
 }
 

@@ -1,6 +1,7 @@
 //! Models whose outcome is known beforehand: the papers' worked example and some that stand at a limit.
 
 use crate::builder::{phase, rule, Builder, NEVER};
+use crate::limits::UNBOUNDED;
 use crate::records::Rule;
 
 /// "The two-phase cue source": component 2 with the given order, and the first coupling so many times.
@@ -129,5 +130,65 @@ pub fn atomic_behind_rows(rows: usize, least: u16) -> Builder {
     let any_value = Rule { low_value: 0, high_value: 65_535, ..rule(atomic, 0, 0, 1) };
     model.rule(Rule { least_count: least, ..any_value });
     model.couple_times(rows, 0, 0, atomic, 0);
+    model
+}
+
+/// What a `hold` hears on its port 0. It has no rule for the last.
+pub const CUE: u16 = 7;
+pub const AGAIN: u16 = 8;
+pub const AT_FOUR: u16 = 4;
+pub const AT_THE_END: u16 = 5;
+pub const EARLY: u16 = 1;
+pub const LATE: u16 = 2;
+pub const STRAY: u16 = 9;
+
+/// A hold with so many ancestors, joined to the root's input 0 and output 0 through all of them;
+/// component 1 is the hold itself, or the outermost one around it. It rests in phase 0 until a cue,
+/// holds it for 5 in phase 1, pauses for 7 in phase 2, and rests. The other cues lead to phase 3, or
+/// begin the hold again, at the elapsed times that stand in their rules.
+pub fn hold(ancestors: usize, order: u8) -> Builder {
+    let mut model = Builder::new();
+    let innermost = model.coupled_chain(0, ancestors - 1);
+    let phases = [
+        phase(NEVER, 0, &[]),
+        phase(5, 2, &[(0, 100)]),
+        phase(7, 0, &[(0, 200)]),
+        phase(NEVER, 4, &[]),
+        phase(NEVER, 4, &[]),
+    ];
+    let hold = model.atomic_from(innermost, 0, order, &phases);
+    for (from, cue, low_elapsed, high_elapsed, to) in [
+        (0, CUE, 0, UNBOUNDED, 1),
+        (0, EARLY, 0, 5, 3),
+        (0, LATE, UNBOUNDED, UNBOUNDED, 3),
+        (1, AGAIN, 0, UNBOUNDED, 1),
+        (1, AT_FOUR, 4, 4, 3),
+        (1, AT_THE_END, 5, 5, 3),
+        (2, AT_THE_END, 0, 0, 3),
+    ] {
+        model.rule(Rule { low_elapsed, high_elapsed, ..rule(hold, from, cue, to) });
+    }
+    for inside in 1..=hold {
+        model.couple(inside - 1, 0, inside, 0);
+        model.couple(inside, 0, inside - 1, 0);
+    }
+    model
+}
+
+/// A hold, and a source beside it, or beside the outermost component around it, that sends it a stray
+/// every 2.
+pub fn hold_among_strays(ancestors: usize, order: u8) -> Builder {
+    let mut model = hold(ancestors, order);
+    let source = model.atomic(0, &[phase(2, 0, &[(0, STRAY)])]);
+    model.couple(source, 0, 1, 0);
+    model
+}
+
+/// A tick every 5, with so many ancestors, that has no rule for what comes from the root's input 0.
+pub fn tick_among_strays(ancestors: usize, order: u8) -> Builder {
+    let mut model = Builder::new();
+    let innermost = model.coupled_chain(0, ancestors - 1);
+    let tick = model.atomic_from(innermost, 0, order, &[phase(5, 0, &[])]);
+    (1..=tick).for_each(|inside| model.couple(inside - 1, 0, inside, 0));
     model
 }

@@ -1,6 +1,6 @@
 //! The flat machine, written from its own section of the papers. It is fed a model's flat form, and
-//! its state is the bytes of the run buffer. It shares with the nest only the lines of a single
-//! atomic, the byte forms, and the table's checks of a call.
+//! its state is the bytes of the run buffer. It shares with the nest only what the tables of a single
+//! atomic say of a phase, the byte forms, and the table's checks of a call.
 
 use crate::answers::{
     Advanced, Reading, Written, BAD_POSITION, BUFFER_TOO_SHORT, ROOT_BAG_LIMIT, STILL_DUE, SUCCESS,
@@ -11,7 +11,7 @@ use crate::limits;
 use crate::little_endian::{put_u64, u64_at};
 use crate::model::Model;
 use crate::records::{Coupling, Message};
-use crate::saved_run::{self, ATOMIC_BYTES, HEAD_BYTES};
+use crate::saved_run::{self, AtomicRun, ATOMIC_BYTES, HEAD_BYTES};
 use crate::trace::write_record;
 
 /// Start writes its run, as on the nest: it concerns single atomics only.
@@ -40,6 +40,19 @@ pub fn read(flat: &[u8], run: &[u8], position: u64) -> Reading {
 
 /// Advance takes its instants in turn, each on a copy of the state.
 pub fn advance(flat: &[u8], run: &mut [u8], t: u64, bag: &[u8], trace: &mut [u8]) -> Advanced {
+    advance_by(&mut entry_after, flat, run, t, bag, trace)
+}
+
+/// Advance of a machine whose atomics change as is said here. Only tests say anything but `entry_after`:
+/// they try what a machine with a wrong transition would do.
+pub fn advance_by(
+    change: &mut Change,
+    flat: &[u8],
+    run: &mut [u8],
+    t: u64,
+    bag: &[u8],
+    trace: &mut [u8],
+) -> Advanced {
     let (model, given) = match checks::model_and_run(flat, run)
         .and_then(|(model, saved)| Ok((model, checks::time_and_bag(saved.open, t, bag)?)))
     {
@@ -52,7 +65,7 @@ pub fn advance(flat: &[u8], run: &mut [u8], t: u64, bag: &[u8], trace: &mut [u8]
         let mut copy = run[..saved_run::length(machine.atomics.len())].to_vec();
         let mut records = Vec::new();
         let given_here = if moment == t { &given[..] } else { &[] };
-        let steps = match machine.steps_at(&mut copy, moment, given_here, &mut records) {
+        let steps = match machine.steps_at(change, &mut copy, moment, given_here, &mut records) {
             Ok(steps) => steps,
             Err(number) => return Advanced { number, ..answer },
         };
@@ -70,6 +83,43 @@ pub fn advance(flat: &[u8], run: &mut [u8], t: u64, bag: &[u8], trace: &mut [u8]
     }
     put_u64(run, 0, t + 1);
     answer
+}
+
+/// What a step brings to one atomic.
+pub struct Brought<'s> {
+    pub atomic: &'s Atomic<'s>,
+    pub rank: usize,
+    pub entry: AtomicRun,
+    pub moment: u64,
+    pub is_due: bool,
+    pub bag: &'s [Message],
+}
+
+/// Says the entry of an atomic after a step.
+pub type Change<'c> = dyn FnMut(&Brought) -> AtomicRun + 'c;
+
+/// The entry of an atomic after a step. It stays as it is where nothing happens to the atomic, and where
+/// it is not due and no rule holds for its bag.
+pub fn entry_after(brought: &Brought) -> AtomicRun {
+    let Brought { atomic, entry, moment, is_due, bag, .. } = *brought;
+    let old = entry.phase;
+    let led = |from: u8, elapsed: u64| {
+        atomic.deciding_rule(from, elapsed, bag).map(|(_, next_phase)| next_phase)
+    };
+    let entered = match (is_due, bag.is_empty()) {
+        (false, true) => None,
+        (false, false) => led(old, moment - entry.last),
+        (true, true) => Some(atomic.next_phase(old)),
+        (true, false) if atomic.internal_first() => {
+            let next = atomic.next_phase(old);
+            Some(led(next, 0).unwrap_or(next))
+        }
+        (true, false) => {
+            let advance = atomic.advance(old).expect("a never-due atomic is not due");
+            Some(atomic.next_phase(led(old, advance).unwrap_or(old)))
+        }
+    };
+    entered.map_or(entry, |phase| AtomicRun { phase, last: moment })
 }
 
 struct Machine<'m> {
@@ -107,7 +157,7 @@ impl<'m> Machine<'m> {
     }
 
     fn due(&self, state: &[u8], rank: usize) -> Option<u64> {
-        let advance = self.atomics[rank].time_advance(phase(state, rank))?;
+        let advance = self.atomics[rank].advance(phase(state, rank))?;
         Some(last(state, rank) + advance)
     }
 
@@ -129,18 +179,19 @@ impl<'m> Machine<'m> {
     /// Takes the steps of the instant at a moment, or answers its number of the row "each instant".
     fn steps_at(
         &self,
+        change: &mut Change,
         state: &mut [u8],
         moment: u64,
         given: &[Message],
         records: &mut Vec<u8>,
     ) -> Result<u64, u64> {
         let mut root_bags = Vec::new();
-        root_bags.push(self.step(state, moment, given));
+        root_bags.push(self.step(change, state, moment, given));
         while self.next_due(state) == Some(moment) {
             if root_bags.len() as u64 == limits::STEPS_OF_AN_INSTANT {
                 return Err(STILL_DUE);
             }
-            root_bags.push(self.step(state, moment, &[]));
+            root_bags.push(self.step(change, state, moment, &[]));
         }
         if root_bags.iter().any(|bag| bag.len() > limits::ROOT_BAG) {
             return Err(ROOT_BAG_LIMIT);
@@ -154,28 +205,29 @@ impl<'m> Machine<'m> {
 
     /// One step: outputs, then every message along each coupling from its port, then all atomics
     /// change together. Answers the root's output bag.
-    fn step(&self, state: &mut [u8], moment: u64, given: &[Message]) -> Vec<Message> {
+    fn step(
+        &self,
+        change: &mut Change,
+        state: &mut [u8],
+        moment: u64,
+        given: &[Message],
+    ) -> Vec<Message> {
         let is_due: Vec<bool> =
             (0..self.atomics.len()).map(|rank| self.due(state, rank) == Some(moment)).collect();
         let mut sent: Vec<Sent> =
             given.iter().map(|&message| Sent { source: 0, message }).collect();
         for (rank, atomic) in self.atomics.iter().enumerate().filter(|(rank, _)| is_due[*rank]) {
-            let output = atomic.output(phase(state, rank));
-            sent.extend(output.iter().map(|&message| Sent { source: rank + 1, message }));
+            let outputs = atomic.outputs(phase(state, rank));
+            sent.extend(outputs.iter().map(|&message| Sent { source: rank + 1, message }));
         }
         let mut bags = self.deliver(&sent);
         for (rank, atomic) in self.atomics.iter().enumerate() {
-            let bag = &bags[rank + 1];
-            let old = phase(state, rank);
-            let new = match (is_due[rank], bag.is_empty()) {
-                (true, true) => atomic.internal(old),
-                (false, false) => atomic.external(old, moment - last(state, rank), bag).phase,
-                (true, false) => atomic.confluent(old, bag).phase,
-                (false, true) => continue,
-            };
+            let entry = AtomicRun { phase: phase(state, rank), last: last(state, rank) };
+            let (is_due, bag) = (is_due[rank], &bags[rank + 1][..]);
+            let after = change(&Brought { atomic, rank, entry, moment, is_due, bag });
             let at = HEAD_BYTES + ATOMIC_BYTES * rank;
-            state[at] = new;
-            put_u64(state, at + 1, moment);
+            state[at] = after.phase;
+            put_u64(state, at + 1, after.last);
         }
         bags.swap_remove(0)
     }

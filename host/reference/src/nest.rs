@@ -1,7 +1,7 @@
 //! The nest of a model: its tree of components, built from the records, and the way between a
 //! saved run's last moments and the elapsed times that the resultants keep.
 
-use crate::atomic::Atomic;
+use crate::atomic::{Atomic, AtomicState};
 use crate::model::Model;
 use crate::resultant::{Devs, Resultant, State, TotalState};
 use crate::routes::{self, Port, PortTable, Side};
@@ -83,10 +83,14 @@ fn component<'m>(
 
 /// A component's state from where its atomics stand, and the component's own last moment. That of a
 /// coupled component is the greatest of its children's, and 0 without children; a child's elapsed
-/// time is its parent's last moment less its own.
+/// time is its parent's last moment less its own. An atomic's last moment counts as its last event:
+/// how much of a stay had gone by at a stray cue, and how much since, is the same to everything.
 pub fn load(devs: &Devs, atomics: &[AtomicRun]) -> (State, u64) {
     match devs {
-        Devs::Atomic { rank, .. } => (State::Phase(atomics[*rank].phase), atomics[*rank].last),
+        Devs::Atomic { rank, .. } => {
+            let AtomicRun { phase, last } = atomics[*rank];
+            (State::Atomic(AtomicState::afresh(phase)), last)
+        }
         Devs::Coupled(resultant) => {
             let loaded: Vec<(State, u64)> =
                 resultant.children.iter().map(|child| load(child, atomics)).collect();
@@ -97,12 +101,13 @@ pub fn load(devs: &Devs, atomics: &[AtomicRun]) -> (State, u64) {
     }
 }
 
-/// Notes where the atomics stand below a component whose last transition was at `last`: an atomic's
-/// elapsed time is the sum of the elapsed times on the way down to it.
+/// Notes where the atomics stand below a component whose last event was at `last`: an atomic's
+/// elapsed time is the sum of the elapsed times on the way down to it, and its stay began earlier by
+/// the time that it had spent by then.
 pub fn save(devs: &Devs, state: &State, last: u64, atomics: &mut [AtomicRun]) {
     match (devs, state) {
-        (Devs::Atomic { rank, .. }, State::Phase(phase)) => {
-            atomics[*rank] = AtomicRun { phase: *phase, last };
+        (Devs::Atomic { rank, .. }, State::Atomic(AtomicState { phase, spent })) => {
+            atomics[*rank] = AtomicRun { phase: *phase, last: last - spent };
         }
         (Devs::Coupled(resultant), State::Children(children)) => {
             for (devs, child) in resultant.children.iter().zip(children) {

@@ -1,7 +1,7 @@
 //! A coupled component as the resultant of its children, as source document 001 defines it:
 //! its state is the total state (s_d, e_d) of every child, and it is a Parallel DEVS model itself.
 
-use crate::atomic::Atomic;
+use crate::atomic::{Atomic, AtomicState};
 use crate::observed::Observed;
 use crate::records::Message;
 
@@ -20,11 +20,11 @@ pub enum Devs<'m> {
 
 #[derive(Clone, Debug, PartialEq, Eq)]
 pub enum State {
-    Phase(u8),
+    Atomic(AtomicState),
     Children(Vec<TotalState>),
 }
 
-/// A state and the time elapsed since the component's last transition.
+/// A state and the time elapsed since the component's last event.
 #[derive(Clone, Debug, PartialEq, Eq)]
 pub struct TotalState {
     pub state: State,
@@ -45,7 +45,7 @@ impl Devs<'_> {
     /// ta: none where nothing is ever due.
     pub fn time_advance(&self, state: &State) -> Option<u64> {
         match (self, state) {
-            (Devs::Atomic { atomic, .. }, State::Phase(phase)) => atomic.time_advance(*phase),
+            (Devs::Atomic { atomic, .. }, State::Atomic(state)) => atomic.time_advance(*state),
             (Devs::Coupled(resultant), State::Children(children)) => {
                 resultant.time_advance(children)
             }
@@ -56,7 +56,9 @@ impl Devs<'_> {
     /// λ
     pub fn output(&self, state: &State) -> Bag {
         match (self, state) {
-            (Devs::Atomic { atomic, .. }, State::Phase(phase)) => atomic.output(*phase).to_vec(),
+            (Devs::Atomic { atomic, .. }, State::Atomic(state)) => {
+                atomic.outputs(state.phase).to_vec()
+            }
             (Devs::Coupled(resultant), State::Children(children)) => resultant.output(children),
             _ => unreachable!("the state of another component"),
         }
@@ -65,10 +67,9 @@ impl Devs<'_> {
     /// δint
     pub fn internal(&self, state: &State, observed: &mut Observed) -> State {
         match (self, state) {
-            (Devs::Atomic { atomic, ancestors, .. }, State::Phase(phase)) => {
-                observed.internal += 1;
-                observed.deepest_transition = observed.deepest_transition.max(*ancestors);
-                State::Phase(atomic.internal(*phase))
+            (Devs::Atomic { atomic, ancestors, .. }, State::Atomic(state)) => {
+                observed.internal(*ancestors, *state);
+                State::Atomic(atomic.internal(*state))
             }
             (Devs::Coupled(resultant), State::Children(children)) => {
                 // δint is δcon with no input: INF' is then INF, and so are the other sets.
@@ -87,15 +88,11 @@ impl Devs<'_> {
         observed: &mut Observed,
     ) -> State {
         match (self, state) {
-            (Devs::Atomic { atomic, ancestors, .. }, State::Phase(phase)) => {
-                let led = atomic.external(*phase, elapsed, bag);
-                match led.rule {
-                    Some(_) => observed.external_by_rule += 1,
-                    None => observed.external_without_rule += 1,
-                }
-                observed.deepest_transition = observed.deepest_transition.max(*ancestors);
-                observed.external_part(elapsed, bag.len(), led.rule.is_some());
-                State::Phase(led.phase)
+            (Devs::Atomic { atomic, ancestors, .. }, State::Atomic(state)) => {
+                let led = atomic.external(*state, elapsed, bag);
+                observed.external(*ancestors, *state, elapsed, &led);
+                observed.external_part(state.spent + elapsed, bag.len(), led.rule.is_some());
+                State::Atomic(led.state)
             }
             (Devs::Coupled(resultant), State::Children(children)) => {
                 State::Children(resultant.external(children, elapsed, bag, observed))
@@ -107,16 +104,11 @@ impl Devs<'_> {
     /// δcon
     pub fn confluent(&self, state: &State, bag: &[Message], observed: &mut Observed) -> State {
         match (self, state) {
-            (Devs::Atomic { atomic, ancestors, .. }, State::Phase(phase)) => {
-                let led = atomic.confluent(*phase, bag);
-                match atomic.internal_first() {
-                    true => observed.confluent_internal_first += 1,
-                    false => observed.confluent_external_first += 1,
-                }
-                observed.confluent_without_rule += u64::from(led.rule.is_none());
-                observed.deepest_transition = observed.deepest_transition.max(*ancestors);
+            (Devs::Atomic { atomic, ancestors, .. }, State::Atomic(state)) => {
+                let led = atomic.confluent(*state, bag);
+                observed.confluent(*ancestors, atomic, *state, &led);
                 observed.external_part(0, bag.len(), led.rule.is_some());
-                State::Phase(led.phase)
+                State::Atomic(led.state)
             }
             (Devs::Coupled(resultant), State::Children(children)) => {
                 State::Children(resultant.confluent(children, bag, observed))
@@ -181,7 +173,7 @@ impl Resultant<'_> {
         bags
     }
 
-    /// The case of a component that is not imminent: e is the time since its last transition.
+    /// The case of a component that is not imminent: e is the time since its last event.
     fn external(
         &self,
         children: &[TotalState],

@@ -1,4 +1,4 @@
-//! The root coordinator: it keeps the root's state and the moment of its last transition, takes
+//! The root coordinator: it keeps the root's state and the moment of its last event, takes
 //! steps, and judges an instant as a whole.
 
 use crate::answers::{ROOT_BAG_LIMIT, STILL_DUE};

@@ -10,7 +10,7 @@ use crate::model::Model;
 #[derive(Clone, Copy, Debug, PartialEq, Eq)]
 pub struct AtomicRun {
     pub phase: u8,
-    /// The moment of its last transition.
+    /// Its last moment: when the stay in the phase began.
     pub last: u64,
 }
 

@@ -136,8 +136,8 @@ fn an_atomic_bag_of_16384() {
     let outcome = run(&atomic_behind_rows(1_024, 16_384), 2, &given);
     assert_eq!(outcome.atomics, [(1, 2)]);
     assert_eq!(outcome.observed.largest_decided_bag, 16_384);
-    assert_eq!(run(&atomic_behind_rows(1_024, 16_385), 2, &given).atomics, [(0, 2)]);
-    assert_eq!(run(&atomic_behind_rows(1_023, 16_384), 2, &given).atomics, [(0, 2)]);
+    assert_eq!(run(&atomic_behind_rows(1_024, 16_385), 2, &given).atomics, [(0, 0)]);
+    assert_eq!(run(&atomic_behind_rows(1_023, 16_384), 2, &given).atomics, [(0, 0)]);
 }
 
 #[test]

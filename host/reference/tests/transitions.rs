@@ -32,9 +32,9 @@ fn the_first_rule_in_file_order_decides() {
 }
 
 #[test]
-fn without_a_rule_the_stay_begins_afresh() {
+fn without_a_rule_the_stay_goes_on() {
     let (model, _) = waiting(2);
-    assert_eq!(phase_after(&model, 9, &[(0, 5)]), (0, 9));
+    assert_eq!(phase_after(&model, 9, &[(0, 5)]), (0, 0));
     let mut model = Builder::new();
     let atomic = model.atomic(0, &[phase(10, 0, &[(0, 1)])]);
     model.couple(0, 0, atomic, 0);
@@ -42,7 +42,7 @@ fn without_a_rule_the_stay_begins_afresh() {
     let file = model.file();
     let mut buffer = started(&file);
     common::advance(&file, &mut buffer, 4, &bag(&[(0, 5)]), &mut []);
-    assert_eq!(common::read(&file, &buffer, 0).next_due, 14);
+    assert_eq!(common::read(&file, &buffer, 0).next_due, 10);
 }
 
 #[test]
@@ -72,7 +72,7 @@ fn least_count_0_holds_for_every_bag() {
     model.rule(Rule { phase: 2, ..none_needed });
     model.rule(Rule { component: atomic as u8, high_elapsed: 8, ..none_needed });
     assert_eq!(phase_after(&model, 8, &[(0, 5)]), (1, 8));
-    assert_eq!(phase_after(&model, 9, &[(0, 5)]), (0, 9));
+    assert_eq!(phase_after(&model, 9, &[(0, 5)]), (0, 0));
 }
 
 #[test]
