@@ -12,6 +12,8 @@ use crate::workloads::{self, Workload};
 use reference::decode::decode;
 use reference::flatten::flat_form;
 use reference::model::Model;
+use reference::nest::DeadWays;
+use reference::observed::Observed;
 use reference::routes;
 
 const YARDSTICKS: [(&str, Functions); 2] = [("pulled", PULLED), ("flat rows", FLAT_ROWS)];
@@ -165,19 +167,42 @@ fn workloads_run_without_refusal() {
     }
 }
 
+fn workload(name: &str) -> Workload {
+    all_workloads().into_iter().find(|workload| workload.name == name).expect("a workload")
+}
+
 /// The nests and the maximal model stand at the limits.
 #[test]
 fn workloads_are_as_large_as_they_say() {
     let sizes = |name: &str| {
-        let workload = all_workloads().into_iter().find(|workload| workload.name == name);
-        let model = decode(&workload.expect("a workload").model).expect("an accepted model");
+        let model = decode(&workload(name).model).expect("an accepted model");
         let records = [model.components.len(), model.phases.len(), model.rules.len()];
         (records, model.couplings.len(), routes::count(&model))
     };
     assert_eq!(sizes("nest LI"), ([64, 111, 55], 70, 56));
     assert_eq!(sizes("nest HI"), ([64, 111, 55], 118, 104));
     assert_eq!(sizes("nest HO"), ([64, 111, 55], 179, 158));
+    assert_eq!(sizes("nest LI, stray cues"), ([64, 126, 55], 70, 56));
     assert_eq!(sizes("each of 32 to each"), ([33, 64, 64], 1_024, 1_024));
     assert_eq!(sizes("1,024 rules, scattered"), ([34, 136, 1_024], 33, 33));
     assert_eq!(sizes("maximal, idle"), ([64, 512, 1_024], 1_024, 1_010));
+}
+
+/// In each of 40 periods of 16 moments, 55 atomics get one cue, one stray when they are due, and 14
+/// more strays.
+#[test]
+fn stray_cues_are_strays() {
+    let workload = workload("nest LI, stray cues");
+    let mut run = vec![0; 600];
+    reference::start(&workload.model, &mut run);
+    let mut observed = Observed::default();
+    for call in &workload.calls {
+        let (model, bag, trace) = (&workload.model, &call.bag, &mut [0; 1_000]);
+        let dropped = DeadWays::Dropped;
+        reference::advance::advance(model, &mut run, call.t, bag, trace, dropped, &mut observed);
+    }
+    let by_ancestors = [0, 9, 9, 9, 9, 9, 9, 1];
+    assert_eq!(observed.strays, by_ancestors.map(|atomics| 40 * 14 * atomics));
+    assert_eq!(observed.external_by_rule, 40 * 55);
+    assert_eq!(observed.confluent_internal_first_without_rule, 40 * 55);
 }

@@ -3,7 +3,7 @@
 //! minimum. Optimised Rust, not verified.
 
 use crate::shared::advance::{self, Accepted, Buffers, Simulator};
-use crate::shared::deciding::phase_after;
+use crate::shared::deciding::entered;
 use crate::shared::held::{due_after, Held, NEVER};
 use crate::shared::keys::{put_given, put_sent};
 use crate::shared::tables::{is_output, Tables, PORTS, PORT_NODES};
@@ -86,7 +86,8 @@ impl Simulator for FlatRows {
             if is_due || length > 0 {
                 let bag = front(buffers.bag, length);
                 let held = &mut state.held;
-                let phase = phase_after(accepted.model, tables, held, position, now, is_due, bag);
+                let entered = entered(accepted.model, tables, held, position, now, is_due, bag);
+                let Some(phase) = entered else { continue };
                 held.change(position, phase, now);
                 put(&mut state.dues, position, due_of(accepted, held, position));
             }

@@ -6,7 +6,7 @@ mod collect;
 mod sort;
 
 use crate::shared::advance::{self, Accepted, Buffers, Simulator};
-use crate::shared::deciding::phase_after;
+use crate::shared::deciding::entered;
 use crate::shared::held::{due_after, Held, NEVER};
 use crate::shared::tables::{is_output, PORTS, PORT_NODES};
 use crate::shared::unchecked::{at, front, put};
@@ -71,8 +71,10 @@ impl Simulator for Pulled {
             }
             if is_due || length > 0 {
                 let bag = front(buffers.bag, length);
-                let phase = phase_after(accepted.model, tables, held, position, now, is_due, bag);
-                held.change(position, phase, now);
+                let phase = entered(accepted.model, tables, held, position, now, is_due, bag);
+                if let Some(phase) = phase {
+                    held.change(position, phase, now);
+                }
             }
         }
         // The last bag is done with, and has room for more messages than the root's.

@@ -28,7 +28,7 @@ fn holds(rules: &[u8], place: usize, atomic_and_phase: u16, elapsed: u64, bag: &
     u32::from(u16_at(rules, place + 8)) <= count_between(bag, low, high)
 }
 
-/// Where the external part leads: by the first rule that holds, and else nowhere else.
+/// Where the first rule that holds leads, and `otherwise` where no rule holds.
 #[inline(always)]
 fn external(
     model: &ModelFile,
@@ -37,6 +37,7 @@ fn external(
     phase: u8,
     elapsed: u64,
     bag: &[u32],
+    otherwise: u8,
 ) -> u8 {
     let atomic_and_phase = number as u16 | (u16::from(phase) << 8);
     let from = usize::from(at(&tables.rules_from, number));
@@ -48,12 +49,16 @@ fn external(
         }
         place += Rule::BYTES;
     }
-    phase
+    otherwise
 }
 
-/// The phase after a transition of an atomic, due or not, with its bag; one of the two is so.
+/// A number that no phase has.
+const NO_PHASE: u8 = u8::MAX;
+
+/// The phase that an atomic enters, due or with a bag or both. None where it is not due and no rule
+/// holds for its bag, so that its phase and last moment stay.
 #[inline(always)]
-pub fn phase_after(
+pub fn entered(
     model: &ModelFile,
     tables: &Tables,
     held: &Held,
@@ -61,21 +66,23 @@ pub fn phase_after(
     now: u64,
     is_due: bool,
     bag: &[u32],
-) -> u8 {
+) -> Option<u8> {
     let number = usize::from(at(&tables.numbers, position));
     let first = usize::from(at(&tables.first_phases, number));
     let next = |phase: u8| at(model.phases, Phase::BYTES * (first + usize::from(phase)) + 4);
     let phase = at(&held.phases, position);
     if !is_due {
         let elapsed = now - at(&held.lasts, position);
-        return external(model, tables, number, phase, elapsed, bag);
+        let entered = external(model, tables, number, phase, elapsed, bag, NO_PHASE);
+        return (entered != NO_PHASE).then_some(entered);
     }
     if bag.is_empty() {
-        return next(phase);
+        return Some(next(phase));
     }
     if at(&tables.orders, number) == 0 {
-        return external(model, tables, number, next(phase), 0, bag);
+        let next = next(phase);
+        return Some(external(model, tables, number, next, 0, bag, next));
     }
     let advance = u64::from(u32_at(model.phases, Phase::BYTES * (first + usize::from(phase))));
-    next(external(model, tables, number, phase, advance, bag))
+    Some(next(external(model, tables, number, phase, advance, bag, phase)))
 }
