@@ -1,6 +1,7 @@
 //! What a comparison run has met, and what it must meet to pass.
 
 use crate::call::Kind;
+use reference::limits::ANCESTORS;
 use reference::observed::Observed;
 use std::collections::BTreeMap;
 
@@ -10,6 +11,18 @@ const KINDS: [(Kind, &str); 5] = [
     (Kind::Advance, "advance"),
     (Kind::Read, "read"),
     (Kind::Flatten, "flatten"),
+];
+
+/// Strays after some time in the phase, by the atomic's ancestors.
+const STRAYS: [&str; ANCESTORS] = [
+    "stray with 1 ancestor",
+    "stray with 2 ancestors",
+    "stray with 3 ancestors",
+    "stray with 4 ancestors",
+    "stray with 5 ancestors",
+    "stray with 6 ancestors",
+    "stray with 7 ancestors",
+    "stray with 8 ancestors",
 ];
 
 /// The numbers that a kind of call can give. 14 is not among them: at most 1,024 routes with 4
@@ -27,8 +40,18 @@ fn possible_numbers(kind: Kind) -> Vec<usize> {
 #[derive(Default)]
 pub struct Counts {
     numbers: [[u64; 17]; 5],
-    transitions: BTreeMap<&'static str, u64>,
+    transitions: BTreeMap<&'static str, Met>,
     named: BTreeMap<&'static str, u64>,
+    /// Whether the calls at hand are on a random model.
+    pub on_a_random_model: bool,
+}
+
+/// How often a kind of transition was met. Each comes in a case made for it; those on random models
+/// count apart, so that a generator which has lost a kind is told.
+#[derive(Default)]
+struct Met {
+    in_all_cases: u64,
+    on_random_models: u64,
 }
 
 impl Counts {
@@ -45,17 +68,26 @@ impl Counts {
     }
 
     pub fn transitions(&mut self, observed: &Observed) {
-        for (name, count) in [
+        let kinds = [
             ("internal", observed.internal),
+            ("internal after a stray", observed.internal_after_stray),
             ("external with a rule", observed.external_by_rule),
+            ("external with a rule after a stray", observed.external_by_rule_after_stray),
+            ("external with a rule into the same phase", observed.external_into_same_phase),
             ("external without a rule", observed.external_without_rule),
             ("confluent, order 0", observed.confluent_internal_first),
+            ("confluent, order 0, without a rule", observed.confluent_internal_first_without_rule),
+            ("confluent, order 0, after a stray", observed.confluent_internal_first_after_stray),
             ("confluent, order 1", observed.confluent_external_first),
-            ("confluent without a rule", observed.confluent_without_rule),
+            ("confluent, order 1, without a rule", observed.confluent_external_first_without_rule),
+            ("confluent, order 1, after a stray", observed.confluent_external_first_after_stray),
             ("none", observed.unchanged),
             ("coupled component whose bag dies inside", observed.bags_lost_inside),
-        ] {
-            *self.transitions.entry(name).or_default() += count;
+        ];
+        for (name, count) in kinds.into_iter().chain(STRAYS.into_iter().zip(observed.strays)) {
+            let met = self.transitions.entry(name).or_default();
+            met.in_all_cases += count;
+            met.on_random_models += if self.on_a_random_model { count } else { 0 };
         }
     }
 
@@ -73,14 +105,24 @@ impl Counts {
         for (row, (_, name)) in self.numbers.iter().zip(KINDS) {
             println!("{name:>12}{}", columns(row));
         }
-        println!("transitions:");
-        self.transitions.iter().for_each(|(name, count)| println!("{count:>12}  {name}"));
+        println!("transitions in all cases, and those on random models:");
+        for (name, Met { in_all_cases, on_random_models }) in &self.transitions {
+            println!("{in_all_cases:>12}{on_random_models:>12}  {name}");
+        }
         println!("boundaries and damages:");
         self.named.iter().for_each(|(name, count)| println!("{count:>12}  {name}"));
     }
 
     /// What should have been met and was not, or was met and should not have been.
     pub fn faults(&self) -> Vec<String> {
+        let lost = self.transitions.iter().filter(|(_, met)| met.on_random_models == 0);
+        let mut faults = self.faults_of_all_cases();
+        faults.extend(lost.map(|(name, _)| format!("never met on a random model: {name}")));
+        faults
+    }
+
+    /// The same, wherever it was met.
+    pub fn faults_of_all_cases(&self) -> Vec<String> {
         let mut faults = Vec::new();
         for (row, (kind, name)) in self.numbers.iter().zip(KINDS) {
             let possible = possible_numbers(kind);
@@ -92,11 +134,10 @@ impl Counts {
                 }
             }
         }
-        for (name, count) in self.transitions.iter().chain(&self.named) {
-            if *count == 0 {
-                faults.push(format!("never met: {name}"));
-            }
-        }
+        let transitions = self.transitions.iter().map(|(name, met)| (name, met.in_all_cases));
+        let named = self.named.iter().map(|(name, count)| (name, *count));
+        let never = transitions.chain(named).filter(|(_, count)| *count == 0);
+        faults.extend(never.map(|(name, _)| format!("never met: {name}")));
         faults
     }
 }
@@ -112,4 +153,23 @@ fn what_was_never_met_is_told() {
     assert!(told("never met: a boundary") && !told("never met: another"));
     assert!(told("never met: internal") && told("start never answered 15"));
     assert!(told("advance answered 14") && !told("read never answered 16"));
+}
+
+#[test]
+fn a_stray_that_only_fixed_cases_meet_is_told() {
+    let mut counts = Counts::new([]);
+    let on_level = |ancestors: usize| {
+        let mut observed = Observed::default();
+        observed.strays[ancestors - 1] = 2;
+        observed
+    };
+    counts.transitions(&on_level(8));
+    counts.on_a_random_model = true;
+    counts.transitions(&on_level(7));
+    let faults = counts.faults();
+    let told = |fault: &str| faults.iter().any(|known| known == fault);
+    assert!(told("never met on a random model: stray with 8 ancestors"));
+    assert!(!told("never met: stray with 8 ancestors"));
+    assert!(!told("never met on a random model: stray with 7 ancestors"));
+    assert!(told("never met: stray with 6 ancestors"));
 }

@@ -2,11 +2,13 @@
 //! shows here and nowhere else.
 
 use crate::call::{Answer, Call};
-use reference::limits::{HIGHEST_PORT, ROOT_BAG, STEPS_OF_AN_INSTANT};
+#[cfg(test)]
+use reference::examples::tick_among_strays;
+use reference::limits::{HIGHEST_PORT, ROOT_BAG, STEPS_OF_AN_INSTANT, UNBOUNDED};
 use reference::little_endian::{u16_at, u64_at};
 use reference::model::Model;
 use reference::records::Message;
-use reference::saved_run::{self, SavedRun};
+use reference::saved_run::{self, AtomicRun, SavedRun};
 use reference::trace::HEAD_BYTES;
 use reference::Advanced;
 
@@ -39,7 +41,8 @@ pub fn test(
     let model = model.ok_or("a refused file gave an outcome")?;
     let length = saved_run::length(model.atomics().len());
     holds(before.run[length..] == after.run[length..], "bytes beyond the run stay")?;
-    holds(SavedRun::read_fitting(model, after.run).is_ok(), "the run fits afterwards")?;
+    let fitting = SavedRun::read_fitting(model, after.run);
+    let run_after = fitting.map_err(|_| "this does not hold: the run fits afterwards")?;
     match (call, answer) {
         (Call::Start, Answer::Written(answer)) => {
             let first = SavedRun::first(model).encode();
@@ -47,7 +50,10 @@ pub fn test(
             holds(answer.bytes == length as u64, "start answers the bytes of the run")
         }
         (Call::Advance { t, bag, .. }, Answer::Advanced(answer)) => {
-            test_advance(*t, !bag.is_empty(), answer, before, after)
+            test_advance(*t, !bag.is_empty(), answer, before, after)?;
+            let run_before = SavedRun::read_fitting(model, before.run);
+            let run_before = run_before.map_err(|_| "a run that does not fit was advanced")?;
+            test_phases_without_rules(model, answer.steps, &run_before, &run_after)
         }
         (Call::Read { .. }, Answer::Reading(_)) => {
             holds(before.run == after.run, "reading writes nothing")
@@ -96,6 +102,37 @@ fn test_advance(
     holds(moments.len() as u64 <= answer.instants, "records stand for steps of instants done")
 }
 
+/// Whatever reaches an atomic in a phase that no rule names, it stays there until it is due, and then
+/// takes the next phase. What becomes of it in a phase with a rule is not followed.
+fn test_phases_without_rules(
+    model: &Model,
+    steps: u64,
+    before: &SavedRun,
+    after: &SavedRun,
+) -> Result<(), String> {
+    let standings = before.atomics.iter().zip(&after.atomics);
+    for (atomic, (before, now)) in model.atomics().into_iter().zip(standings) {
+        let rules = model.rules.iter().filter(|rule| usize::from(rule.component) == atomic);
+        let named: Vec<u8> = rules.map(|rule| rule.phase).collect();
+        let phases = model.phases_of(atomic);
+        let mut on_its_own = *before;
+        let mut left = steps;
+        while !named.contains(&on_its_own.phase) {
+            let phase = &phases[usize::from(on_its_own.phase)];
+            let due = on_its_own.last + u64::from(phase.advance);
+            if phase.advance == UNBOUNDED || due >= after.open {
+                holds(*now == on_its_own, "a phase without rules lasts until it is due")?;
+                break;
+            }
+            // It was due in an instant that was done, and so in one of the steps.
+            holds(left > 0, "an atomic has a transition in each step where it is due")?;
+            left -= 1;
+            on_its_own = AtomicRun { phase: phase.next_phase, last: due };
+        }
+    }
+    Ok(())
+}
+
 /// The distinct moments of a trace, after testing that it is one.
 fn moments_of_records(trace: &[u8]) -> Result<Vec<u64>, String> {
     let mut moments: Vec<u64> = Vec::new();
@@ -122,4 +159,25 @@ fn moments_of_records(trace: &[u8]) -> Result<Vec<u64>, String> {
         }
     }
     Ok(moments)
+}
+
+#[test]
+fn a_stay_begun_afresh_by_a_stray_is_told() {
+    let model = tick_among_strays(2, 0).model();
+    let run = |open, last| SavedRun { open, atomics: vec![AtomicRun { phase: 0, last }] }.encode();
+    // Open moment and last moment, then t, and what the last moment is right and wrong there.
+    for (open, last, t, right, wrong) in
+        [(0, 0, 3, 0, 3), (0, 0, 5, 5, 3), (3, 2, 4, 2, 4), (6, 5, 13, 10, 13)]
+    {
+        let call = Call::Advance { t, bag: vec![0; 3], trace: Vec::new() };
+        let answer = Advanced { number: 0, instants: 2, steps: 2, trace_bytes: 0 };
+        let law = |last_after| {
+            let before = Buffers { run: &run(open, last), trace: &[] };
+            let after = Buffers { run: &run(t + 1, last_after), trace: &[] };
+            test(Some(&model), &call, &Answer::Advanced(answer), &before, &after)
+        };
+        assert_eq!(law(right), Ok(()));
+        let told = "this does not hold: a phase without rules lasts until it is due";
+        assert_eq!(law(wrong), Err(told.into()));
+    }
 }

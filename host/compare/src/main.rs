@@ -3,7 +3,8 @@
 //!
 //! `compare --calls N --seed S` runs until N calls are compared; `--case K` repeats one case alone.
 //! The run fails where an answer or a byte of a lent buffer differs, where a line of the papers does
-//! not hold, and where a refusal number, a kind of transition or a boundary was never met.
+//! not hold, and where a refusal number, a kind of transition or a boundary was never met. Each kind of
+//! transition must be met on random models too: a run of less than 10,000 calls may have too few of them.
 
 mod arguments;
 mod call;

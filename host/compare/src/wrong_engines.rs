@@ -1,23 +1,36 @@
 //! Engines with one fault each, made of the reference: the comparison must find every one.
 
+mod stays;
+
 use crate::cases;
 use crate::comparison::Comparison;
 use crate::counts::Counts;
 use crate::engine::{Engine, Form, Subject};
 use crate::notice;
 use crate::random::Random;
-use crate::worked;
+use crate::{special, worked};
+use reference::flat_machine::{entry_after, Change};
 use reference::little_endian::{put_u64, u64_at};
 use reference::{Advanced, Reading, Written};
+use std::ops::Range;
 
 #[derive(Clone, Copy, Debug, PartialEq, Eq)]
 enum Fault {
     None,
+    /// The flat machine with the right transition: what wrong ones are put into has no fault of its own.
+    NoneInTheFlatMachine,
     RefusesEachFile,
     OnlyMovesTheOpenMoment,
     MakesUpSteps,
     ForgetsTheBag,
     GivesTheBagTwice,
+    BeginsTheStayAfreshAtAStray,
+    TakesARuleIntoTheSamePhaseForAStray,
+    ConfluentWithoutARuleKeepsTheLastMoment {
+        order: u8,
+    },
+    SearchesInOrder1WithWhatAStrayLeft,
+    LeavesOutAStepThatChangesNothing,
     DirtiesTheTraceOfAnUndoneInstant,
     ClearsTheRestOfTheTrace,
     ClearsTheRestOfTheRun,
@@ -28,12 +41,18 @@ enum Fault {
     FlatteningCopies,
 }
 
-const FAULTS: [Fault; 13] = [
+const FAULTS: [Fault; 19] = [
     Fault::RefusesEachFile,
     Fault::OnlyMovesTheOpenMoment,
     Fault::MakesUpSteps,
     Fault::ForgetsTheBag,
     Fault::GivesTheBagTwice,
+    Fault::BeginsTheStayAfreshAtAStray,
+    Fault::TakesARuleIntoTheSamePhaseForAStray,
+    Fault::ConfluentWithoutARuleKeepsTheLastMoment { order: 0 },
+    Fault::ConfluentWithoutARuleKeepsTheLastMoment { order: 1 },
+    Fault::SearchesInOrder1WithWhatAStrayLeft,
+    Fault::LeavesOutAStepThatChangesNothing,
     Fault::DirtiesTheTraceOfAnUndoneInstant,
     Fault::ClearsTheRestOfTheTrace,
     Fault::ClearsTheRestOfTheRun,
@@ -44,7 +63,46 @@ const FAULTS: [Fault; 13] = [
     Fault::FlatteningCopies,
 ];
 
+/// What is wrong about stays and strays, the row that tells it first, and in how many random models it
+/// must be found. The last one shows only where a stray and the end of its stay fall into one call and a
+/// rule's range tells them apart: about one random model in six hundred has that.
+const FAULTS_ABOUT_STAYS: [(Fault, &str, u64); 5] = [
+    (Fault::BeginsTheStayAfreshAtAStray, "stray in a hold", 100),
+    (Fault::TakesARuleIntoTheSamePhaseForAStray, "stray beside a cue with a rule", 100),
+    (
+        Fault::ConfluentWithoutARuleKeepsTheLastMoment { order: 0 },
+        "confluent transition without a rule, either order",
+        100,
+    ),
+    (
+        Fault::ConfluentWithoutARuleKeepsTheLastMoment { order: 1 },
+        "confluent transition without a rule, either order",
+        100,
+    ),
+    (
+        Fault::SearchesInOrder1WithWhatAStrayLeft,
+        "order 1 after strays in one call: the whole advance",
+        3_000,
+    ),
+];
+
 struct Faulty(Fault);
+
+/// The transition of an engine that is the flat machine but for that; none for other engines.
+fn transition(fault: Fault) -> Option<Box<Change<'static>>> {
+    Some(match fault {
+        Fault::NoneInTheFlatMachine => Box::new(entry_after),
+        Fault::TakesARuleIntoTheSamePhaseForAStray => Box::new(stays::same_phase_is_a_stray),
+        Fault::ConfluentWithoutARuleKeepsTheLastMoment { order } => {
+            Box::new(move |brought| stays::confluent_keeps_last_moment(order, brought))
+        }
+        Fault::SearchesInOrder1WithWhatAStrayLeft => {
+            let mut strays = stays::Strays::new();
+            Box::new(move |brought| stays::order_1_searches_with_what_is_left(&mut strays, brought))
+        }
+        _ => return None,
+    })
+}
 
 impl Engine for Faulty {
     fn check_model(&self, model: &[u8]) -> u64 {
@@ -76,7 +134,14 @@ impl Engine for Faulty {
             _ => bag.to_vec(),
         };
         let before = run.to_vec();
-        let mut answer = reference::advance(model, run, t, &given, trace);
+        let mut answer = match (transition(self.0), self.0) {
+            (Some(mut change), _) => stays::advance_by(&mut change, model, run, t, &given, trace),
+            (None, Fault::BeginsTheStayAfreshAtAStray) => {
+                let model = stays::with_rules_for_strays(model);
+                reference::advance(&model, run, t, &given, trace)
+            }
+            (None, _) => reference::advance(model, run, t, &given, trace),
+        };
         let used = answer.trace_bytes as usize;
         match (self.0, answer.number) {
             (Fault::OnlyMovesTheOpenMoment, 0) => {
@@ -85,6 +150,9 @@ impl Engine for Faulty {
                 put_u64(run, 0, open);
             }
             (Fault::MakesUpSteps, 0) => answer.steps = answer.instants,
+            (Fault::LeavesOutAStepThatChangesNothing, 0) if run[8..] == before[8..] => {
+                answer = Advanced::refused(0);
+            }
             (Fault::DirtiesTheTraceOfAnUndoneInstant, 15) if used < trace.len() => trace[used] = 0,
             (Fault::ClearsTheRestOfTheTrace, 0) => trace[used..].fill(0),
             (Fault::KeepsTheCountOfARefusedCall, 11) => answer.instants = 1,
@@ -117,29 +185,62 @@ impl Engine for Faulty {
     }
 }
 
-/// Runs the worked table and some cases, until a difference is found.
-fn find(fault: Fault, most_cases: usize) -> Option<String> {
+/// A comparison with an engine that has this fault.
+fn comparison_with(fault: Fault) -> Comparison {
     let engine = Box::new(Faulty(fault));
     let subject = Subject { name: "faulty", engine, form: Form::AsGiven };
     let counts = Counts::new(cases::names().into_iter().chain(notice::NOTICED));
-    let mut comparison = Comparison::new(vec![subject], counts);
+    Comparison::new(vec![subject], counts)
+}
+
+/// Runs the worked table and the cases of these numbers, until a difference is found.
+fn find(fault: Fault, mut numbers: Range<usize>) -> Option<String> {
+    let mut comparison = comparison_with(fault);
     if let Err(difference) = worked::compare(&mut comparison) {
         return Some(difference);
     }
-    (0..most_cases).find_map(|number| {
+    numbers.find_map(|number| {
         let mut random = Random::for_case(1, number as u64);
         cases::case(&mut comparison, &mut random, number).err()
+    })
+}
+
+/// Runs calls on so many random models and nothing else, until a difference is found.
+fn find_on_random_models(fault: Fault, models: u64) -> Option<String> {
+    let mut comparison = comparison_with(fault);
+    (0..models).find_map(|number| {
+        cases::on_random_model(&mut comparison, &mut Random::for_case(1, number)).err()
     })
 }
 
 #[test]
 fn every_fault_is_found() {
     for fault in FAULTS {
-        assert!(find(fault, 600).is_some(), "{fault:?} was not found");
+        assert!(find(fault, 0..600).is_some(), "{fault:?} was not found");
+    }
+}
+
+#[test]
+fn random_models_alone_find_what_is_wrong_about_stays() {
+    for (fault, _, models) in FAULTS_ABOUT_STAYS {
+        assert!(find_on_random_models(fault, models).is_some(), "{fault:?} was not found");
+    }
+}
+
+#[test]
+fn rows_alone_find_what_is_wrong_about_stays() {
+    for (fault, row, _) in FAULTS_ABOUT_STAYS {
+        let found =
+            special::strays::on_each_level(&mut comparison_with(fault), &mut Random::new(1));
+        let difference = found.expect_err("a row tells the fault");
+        assert!(difference.starts_with(&format!("{row}, ")), "{fault:?} is told by {difference}");
     }
 }
 
 #[test]
 fn the_reference_itself_has_none() {
-    assert_eq!(find(Fault::None, 150), None);
+    for none in [Fault::None, Fault::NoneInTheFlatMachine] {
+        assert_eq!(find(none, 0..150), None);
+        assert_eq!(find_on_random_models(none, 150), None);
+    }
 }

@@ -16,6 +16,8 @@ pub const RESET: u16 = 200;
 pub fn chain(random: &mut Random) -> Model {
     let mut builder = Builder::new();
     let stations = random.between(1, 10) as usize;
+    // Few stations have room for shells down to the lowest level.
+    let most_levels = if stations <= 7 && random.percent(30) { 7 } else { 3 };
     let mut previous = None;
     if random.percent(70) {
         let every = random.pick(&[10, 10, 25, 40]);
@@ -23,7 +25,7 @@ pub fn chain(random: &mut Random) -> Model {
         previous = Some(source);
     }
     for _ in 0..stations {
-        let levels = random.between(1, 3) as usize;
+        let levels = random.between(1, most_levels) as usize;
         let station = station(random, &mut builder, levels);
         builder.couple(previous.unwrap_or(0), 0, station, 0);
         builder.couple(0, 1, station, 1);

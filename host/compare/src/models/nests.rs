@@ -25,6 +25,9 @@ struct Style {
     advances: [u32; 8],
     most_phases: u64,
     rows: usize,
+    /// How many components hear the one around them on port 0, beside those rows: what is given at the
+    /// root reaches the lowest levels only through a row on each.
+    hearing_percent: u64,
     highest_port: u64,
     repeat_percent: u64,
 }
@@ -44,9 +47,16 @@ fn style(random: &mut Random) -> Style {
         advances: if random.percent(85) { SHORT_ADVANCES } else { LONG_ADVANCES },
         most_phases: if random.percent(90) { 4 } else { 64 },
         rows: components * random.index(5),
+        hearing_percent: random.pick(&[0, 0, 70, 100]),
         highest_port: random.pick(&[0, 1, 1, 3]),
         repeat_percent: random.pick(&[0, 15, 60]),
     }
+}
+
+/// An atomic that rules may name, with its phases' advances.
+struct Made {
+    number: usize,
+    advances: Vec<u32>,
 }
 
 /// A random model. It keeps every line of the file's form; only a few have too many routes.
@@ -77,7 +87,9 @@ pub fn nest(random: &mut Random) -> Model {
             let phases = phases(random, &style, count);
             let initial = random.below(u64::from(count)) as u8;
             let order = random.below(2) as u8;
-            atomics.push((builder.atomic_from(around, initial, order, &phases), count));
+            let number = builder.atomic_from(around, initial, order, &phases);
+            let advances = phases.iter().map(|phase| phase.advance).collect();
+            atomics.push(Made { number, advances });
         } else {
             coupled.push(builder.coupled(around));
         }
@@ -125,19 +137,20 @@ fn outputs(random: &mut Random, style: &Style) -> Vec<(u8, u16)> {
     outputs
 }
 
-fn add_rules(random: &mut Random, builder: &mut Builder, style: &Style, atomics: &[(usize, u8)]) {
+fn add_rules(random: &mut Random, builder: &mut Builder, style: &Style, atomics: &[Made]) {
     if atomics.is_empty() {
         return;
     }
     let rules = random.index(atomics.len() * 6 + 1);
     for _ in 0..rules {
-        let (atomic, count) = random.pick(atomics);
+        let Made { number, advances } = &atomics[random.index(atomics.len())];
+        let phase = random.index(advances.len());
         let (low_value, high_value) = value_range(random);
-        let (low_elapsed, high_elapsed) = elapsed_range(random, &style.advances);
+        let (low_elapsed, high_elapsed) = elapsed_range(random, style, advances[phase]);
         builder.rule(Rule {
-            component: atomic as u8,
-            phase: random.below(u64::from(count)) as u8,
-            next_phase: random.below(u64::from(count)) as u8,
+            component: *number as u8,
+            phase: phase as u8,
+            next_phase: random.index(advances.len()) as u8,
             port: random.between(0, style.highest_port) as u8,
             low_value,
             high_value,
@@ -157,21 +170,30 @@ fn value_range(random: &mut Random) -> (u16, u16) {
     }
 }
 
-fn elapsed_range(random: &mut Random, advances: &[u32; 8]) -> (u32, u32) {
-    let mut end = || random.pick(advances).saturating_sub(random.below(2) as u32);
+/// A range of elapsed times in a phase. Order 1 searches at the end of a stay, with all of the phase's
+/// advance: some ranges begin just there.
+fn elapsed_range(random: &mut Random, style: &Style, advance: u32) -> (u32, u32) {
+    let mut end = || random.pick(&style.advances).saturating_sub(random.below(2) as u32);
     let (one, other) = (end(), end());
-    match random.below(8) {
+    match random.below(10) {
         0..=3 => (0, UNBOUNDED),
         4 => (one, one),
         5 => (0, one),
         6 => (one, UNBOUNDED),
-        _ => (one.min(other), one.max(other)),
+        7 => (one.min(other), one.max(other)),
+        8 => (advance, advance),
+        _ => (advance, UNBOUNDED),
     }
 }
 
 fn add_couplings(random: &mut Random, builder: &mut Builder, style: &Style, parent: &[usize]) {
     if parent.len() == 1 {
         return;
+    }
+    for (component, &around) in parent.iter().enumerate().skip(1) {
+        if random.percent(style.hearing_percent) {
+            builder.couple(around, 0, component, 0);
+        }
     }
     for _ in 0..style.rows {
         let component = 1 + random.index(parent.len() - 1);

@@ -3,6 +3,7 @@
 mod bags;
 mod edges;
 mod steps;
+pub mod strays;
 mod ways;
 
 use crate::call::{Answer, Call};
@@ -15,7 +16,7 @@ use reference::Advanced;
 
 pub type Special = fn(&mut Comparison, &mut Random) -> Compared<()>;
 
-pub const CASES: [Special; 17] = [
+pub const CASES: [Special; 19] = [
     bags::largest_atomic_bags,
     bags::atomic_bag_through_levels,
     bags::largest_root_bags,
@@ -30,6 +31,8 @@ pub const CASES: [Special; 17] = [
     steps::endless_with_output,
     steps::endless_after_instants,
     steps::only_zero_stays,
+    strays::on_each_level,
+    strays::steps_of_strays_alone,
     ways::divided_routes,
     ways::factors_of_the_limit,
     ways::ways_from_nothing,
@@ -37,7 +40,7 @@ pub const CASES: [Special; 17] = [
 
 /// The names of the boundaries that the cases count.
 pub fn names() -> impl Iterator<Item = &'static str> {
-    bags::NAMES.into_iter().chain(steps::NAMES).chain(ways::NAMES)
+    bags::NAMES.into_iter().chain(steps::NAMES).chain(strays::names()).chain(ways::NAMES)
 }
 
 /// Starts a model and advances it once, expecting an answer.
