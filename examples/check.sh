@@ -65,7 +65,7 @@ ran 'header as C' "$made/header"
 build_as_cpp header_as_cpp "$here/header.c" "$made/other.c"
 ran 'header as C++' "$made/header_as_cpp"
 
-# The inserter: cues that are all taken, a trace that is full again and again, and refusals.
+# The inserter: cues that are all taken, cues for which the hold has no rule, a trace that is full again and again, and refusals.
 build inserter "$here/inserter.c"
 # insert NAME STATUS MODEL CUES
 insert() {
@@ -83,6 +83,7 @@ model busy
 model jam
 model bad_rule
 insert captions 0 "$here/captions.model" captions
+insert stray 0 "$here/captions.model" stray
 insert busy 0 "$made/busy.model" busy
 insert backwards 1 "$here/captions.model" backwards
 insert crowd 1 "$here/captions.model" crowd

@@ -122,7 +122,7 @@ def largest():
 
 def captions():
     """A caption channel: a splitter tells cues 7 and 8 apart, a hold puts the caption up after 40 ms and takes it down after
-    two seconds, and a new cue replaces what stands."""
+    two seconds, and a new cue replaces what stands. A cue within those 40 ms is let pass."""
     m = Model()
     channel = m.coupled()
     splitter = m.atomic([(NEVER, 0, []), (0, 0, [(0, 7)]), (0, 0, [(0, 8), (1, 8)])], parent=channel)

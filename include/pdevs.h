@@ -18,7 +18,8 @@
  * Ports are 0 to 3.
  *
  * A saved run has PDEVS_RUN_SIZE(number of atomics) bytes: open moment (8), number of atomics (2), then for each atomic in
- * file order its phase (1) and the moment of its last transition (8). PDEVS_MAX_RUN bytes, 577, hold the run of any model.
+ * file order its phase (1) and its last moment (8), when that phase was last entered. PDEVS_MAX_RUN bytes, 577, hold the
+ * run of any model. A message for which an atomic has no rule changes neither, unless the atomic is due just then.
  *
  * A bag has 3 bytes for each message: port (1), value (2). At most 16 messages, in any order.
  *
