@@ -35,25 +35,25 @@ unfolding
     Routes.portsTo Routes.joined Routes.joinedAll Routes.rootEnds Routes.routes Decoder.accepted Decoder.checkModel Routes.endsIn
     Routes.waysFrom
     Devs.earlier Devs.remaining Devs.later Devs.sameTime Devs.ticks Devs.translateOne Devs.translate Devs.sigma Devs.leastSigma
-    Devs.outputsTo Devs.changed Devs.changedAll Devs.resultantOut Devs.resultantInt Devs.resultantExt Devs.resultantCon Devs.transition
+    Devs.outputsTo Devs.anew Devs.changed Devs.changedAll Devs.resultantOut Devs.resultantInt Devs.resultantExt Devs.resultantCon Devs.transition
     Devs.devsStep Devs.devsDue
-    Atomic.meets Atomic.withinElapsed Atomic.holds Atomic.deciding Atomic.unspent Atomic.followed Atomic.advanceOf Atomic.nextPhase
+    Atomic.meets Atomic.withinElapsed Atomic.holds Atomic.deciding Atomic.toldAs Atomic.unspent Atomic.followed Atomic.advanceOf Atomic.nextPhase
     Atomic.ruleFor Atomic.timeAdvance Atomic.internal Atomic.external Atomic.confluent
     SavedRun.noEntry SavedRun.atomicCount SavedRun.runLength SavedRun.toEntry SavedRun.toRun SavedRun.runOf SavedRun.entryBytes
     SavedRun.runBytes SavedRun.dueOf SavedRun.lookUp SavedRun.entryOf SavedRun.nextDue SavedRun.notBefore SavedRun.entryFits
     SavedRun.entriesFit SavedRun.runFits SavedRun.dueAt
-    Step.elapsed Step.assoc Step.unload Step.stepOn Step.step Step.load Step.leavesOf
+    Step.elapsed Step.assoc Step.unload Step.decidedOf Step.decidedInFileOrder Step.stepOn Step.step Step.load Step.leavesOf
     Instant.stepped Instant.isDue Instant.goesOn Instant.stepsAt Instant.instant Instant.over Instant.recordBytes Instant.traceBytes
-    Instant.recordsFrom Instant.instantTrace
+    Instant.recordsFrom Instant.instantTrace Instant.lastPart Instant.lastParts Instant.instantParts Instant.instantRules
     Advance.ended Advance.tried Advance.continued Advance.succeeded Advance.isBefore Advance.advancing Advance.advanceFrom
-    Engine.wrote Engine.startRun Engine.start Engine.toBag Engine.bagFits Engine.advanceChecks Engine.advanced Engine.advance
+    Engine.wrote Engine.startRun Engine.start Engine.toBag Engine.bagFits Engine.advanceChecks Engine.tableBytes Engine.withRules Engine.advanced Engine.advance
     Engine.dueNumber Engine.wasRead Engine.readingChecks Engine.readAt Engine.reading
     Flatten.placeIn Flatten.renumbered Flatten.flatAtomic Flatten.flatComponents Flatten.flatRule Flatten.flatRoute Flatten.flat
     Flatten.flatten
-    FlatMachine.sent FlatMachine.ledTo FlatMachine.externalPart FlatMachine.bothParts FlatMachine.dueNow FlatMachine.putOut
-    FlatMachine.reaching FlatMachine.arriving FlatMachine.movedBy FlatMachine.moved FlatMachine.movedAll FlatMachine.flatStep
+    FlatMachine.sent FlatMachine.ledTo FlatMachine.externalPart FlatMachine.bothParts FlatMachine.ruleOfBoth FlatMachine.dueNow FlatMachine.putOut
+    FlatMachine.reaching FlatMachine.arriving FlatMachine.movedBy FlatMachine.moved FlatMachine.movedAll FlatMachine.ruleAfter FlatMachine.rulesAfter FlatMachine.flatStep
     FlatMachine.anyDue FlatMachine.takeSteps FlatMachine.firstDue FlatMachine.flatDue FlatMachine.notAfter FlatMachine.placed
-    FlatMachine.inOrder FlatMachine.recorded FlatMachine.entriesIn FlatMachine.standing FlatMachine.verdictOn FlatMachine.attempt
+    FlatMachine.inOrder FlatMachine.recorded FlatMachine.entriesIn FlatMachine.tableWith FlatMachine.standing FlatMachine.verdictOn FlatMachine.copied FlatMachine.attempt
     FlatMachine.openedPast FlatMachine.orEnd FlatMachine.dueBefore FlatMachine.inTurn FlatMachine.answered FlatMachine.flatAdvance
     FlatMachine.flatStart FlatMachine.flatReading
     Calls.called Calls.runCalls Calls.engine Calls.flatMachine

@@ -7,9 +7,9 @@ use Rattle.definition.specs.Limits.{neverField}
 use Rattle.definition.specs.File.{modelBytes}
 use Rattle.definition.specs.Devs.{finite, never, sameTime}
 use Rattle.definition.specs.Flatten.{flat}
-use Rattle.definition.specs.Calls.{startCall, readingCall, startAnswer, advanceAnswer, readingAnswer, engine, flatMachine}
+use Rattle.definition.specs.Calls.{startCall, readingCall, startAnswer, readingAnswer, engine, flatMachine}
 use Rattle.definition.proofs.EdgeModels.{onValueAt, colliding, waiting, restlessHeard, counting}
-use Rattle.definition.proofs.Table.{Row, zeros, saved, advanceTo, actual, expected, tabled}
+use Rattle.definition.proofs.Table.{Row, zeros, saved, advanceTo, advancedBy, actual, expected, tabled}
 
 -- A start, and one advance with a bag.
 unfoldable pub edges : List Row
@@ -18,33 +18,33 @@ edges =
     record {
       model = colliding 0;
       calls = startCall ∷ advanceTo 10 [] [] ∷ [];
-      answers = startAnswer 0 28 ∷ advanceAnswer 0 1 1 0 [] ∷ [];
+      answers = startAnswer 0 28 ∷ advancedBy 0 1 1 0 [] ∷ [];
       run = saved 11 ((0, 10) ∷ (3, 10) ∷ []);
     }
     ∷ record {
       model = colliding 1;
       calls = startCall ∷ advanceTo 10 [] [] ∷ [];
-      answers = startAnswer 0 28 ∷ advanceAnswer 0 1 1 0 [] ∷ [];
+      answers = startAnswer 0 28 ∷ advancedBy 0 1 1 0 [] ∷ [];
       run = saved 11 ((0, 10) ∷ (0, 10) ∷ []);
     }
     -- an elapsed time past 32 bits: within a range without an end, and past the highest end there is
     ∷ record {
       model = waiting neverField;
       calls = startCall ∷ advanceTo 5000000000 (0 ∷ 7 ∷ 0 ∷ []) [] ∷ readingCall 0 ∷ [];
-      answers = startAnswer 0 19 ∷ advanceAnswer 0 1 1 0 [] ∷ readingAnswer 0 1 5000000000 5000000005 ∷ [];
+      answers = startAnswer 0 19 ∷ advancedBy 0 1 1 0 [] ∷ readingAnswer 0 1 5000000000 5000000005 ∷ [];
       run = saved 5000000001 ((1, 5000000000) ∷ []) ++ zeros 9;
     }
     ∷ record {
       model = waiting 4294967294;
       calls = startCall ∷ advanceTo 5000000000 (0 ∷ 7 ∷ 0 ∷ []) [] ∷ readingCall 0 ∷ [];
-      answers = startAnswer 0 19 ∷ advanceAnswer 0 1 1 0 [] ∷ readingAnswer 0 0 0 18446744073709551615 ∷ [];
+      answers = startAnswer 0 19 ∷ advancedBy 0 1 1 0 [] ∷ readingAnswer 0 0 0 18446744073709551615 ∷ [];
       run = saved 5000000001 ((0, 0) ∷ []) ++ zeros 9;
     }
     -- an instant that jams gets 13, also where its records overrun the trace
     ∷ record {
       model = restlessHeard;
       calls = startCall ∷ advanceTo 0 [] (zeros 14) ∷ [];
-      answers = startAnswer 0 19 ∷ advanceAnswer 13 0 0 0 (zeros 14) ∷ [];
+      answers = startAnswer 0 19 ∷ advancedBy 13 0 0 0 (zeros 14) ∷ [];
       run = saved 0 ((0, 0) ∷ []) ++ zeros 9;
     }
     ∷ []
@@ -55,13 +55,13 @@ longInstants =
     record {
       model = counting 0;
       calls = startCall ∷ advanceTo 0 [] [] ∷ [];
-      answers = startAnswer 0 28 ∷ advanceAnswer 0 1 1024 0 [] ∷ [];
+      answers = startAnswer 0 28 ∷ advancedBy 0 1 1024 0 [] ∷ [];
       run = saved 1 ((63, 0) ∷ (32, 0) ∷ []);
     }
     ∷ record {
       model = counting 63;
       calls = startCall ∷ advanceTo 0 (0 ∷ 5 ∷ 0 ∷ []) [] ∷ [];
-      answers = startAnswer 0 28 ∷ advanceAnswer 13 0 0 0 [] ∷ [];
+      answers = startAnswer 0 28 ∷ advancedBy 13 0 0 0 [] ∷ [];
       run = saved 0 ((63, 0) ∷ (0, 0) ∷ []);
     }
     ∷ []

@@ -6,9 +6,9 @@ use lib.ListN.{replicate}
 use Rattle.definition.specs.Bytes.{Bytes, ok}
 use Rattle.definition.specs.File.{modelBytes}
 use Rattle.definition.specs.Pinned.Decoder.{decode, checkModel}
-use Rattle.definition.specs.Calls.{Call, startCall, readingCall, Answer, startAnswer, advanceAnswer, readingAnswer, runCalls, engine, flatMachine}
+use Rattle.definition.specs.Calls.{Call, startCall, readingCall, Answer, startAnswer, readingAnswer, runCalls, engine, flatMachine}
 use Rattle.definition.proofs.Models.{cueSource}
-use Rattle.definition.proofs.Table.{advanceTo, single, tabled}
+use Rattle.definition.proofs.Table.{advanceTo, advancedBy, single, tabled}
 use Rattle.definition.proofs.Literals.{b2, b3, b4, b5, z, literals}
 
 unfoldable pub cueFile : Bytes
@@ -39,7 +39,7 @@ unfoldable pub cueTrace : Bytes
 cueTrace = 20 ∷ z 7 ++ b2 0 0 ++ b2 1 0 ++ b3 1 8 0 ++ 30 ∷ z 7 ++ b2 0 0 ++ b2 1 0 ++ b3 1 8 0
 
 unfoldable pub cueAnswers : List Answer
-cueAnswers = startAnswer 0 28 ∷ readingAnswer 0 0 0 10 ∷ advanceAnswer 0 3 6 30 (cueTrace ++ b2 9 9) ∷ readingAnswer 0 2 30 40 ∷ []
+cueAnswers = startAnswer 0 28 ∷ readingAnswer 0 0 0 10 ∷ advancedBy 0 3 6 30 (cueTrace ++ b2 9 9) ∷ readingAnswer 0 2 30 40 ∷ []
 
 -- open moment, atomic count, then phase and last moment of both
 unfoldable pub cueRun : Bytes

@@ -6,6 +6,7 @@ pub mod NestTable
 pub mod EdgeModels
 pub mod EdgeTable
 pub mod StrayTable
+pub mod DecidedTable
 -- literal bytes, refusals, runs, rules and flat forms: rows that fail where a definition's detail is changed
 pub mod Literals
 pub mod FileTable

@@ -4,9 +4,9 @@ use mathlib.Core.Path.{_≡_, refl}
 use mathlib.Core.List.{[], _∷_, _++_}
 use Rattle.definition.specs.File.{modelBytes}
 use Rattle.definition.specs.Flatten.{flat}
-use Rattle.definition.specs.Calls.{startCall, readingCall, startAnswer, advanceAnswer, readingAnswer, runCalls, engine, flatMachine}
+use Rattle.definition.specs.Calls.{startCall, readingCall, startAnswer, readingAnswer, runCalls, engine, flatMachine}
 use Rattle.definition.proofs.Models.{nest}
-use Rattle.definition.proofs.Table.{Row, zeros, saved, traced, advanceTo, expected, tabled}
+use Rattle.definition.proofs.Table.{Row, zeros, saved, traced, advanceTo, advancedBy, expected, tabled}
 
 unfoldable pub nestRow : Row
 nestRow = record {
@@ -16,9 +16,9 @@ nestRow = record {
       ∷ advanceTo 15 (0 ∷ 8 ∷ 0 ∷ 0 ∷ 8 ∷ 0 ∷ []) (zeros 87) ∷ readingCall 0 ∷ readingCall 3 ∷ [];
   answers =
       startAnswer 0 37
-      ∷ advanceAnswer 0 2 4 51 (traced 5 0 ((0, 7) ∷ []) ++ traced 5 1 ((0, 8) ∷ (0, 100) ∷ (1, 10) ∷ []) ++ traced 6 1 ((0, 100) ∷ []) ++ zeros 4)
+      ∷ advancedBy 0 2 4 51 (traced 5 0 ((0, 7) ∷ []) ++ traced 5 1 ((0, 8) ∷ (0, 100) ∷ (1, 10) ∷ []) ++ traced 6 1 ((0, 100) ∷ []) ++ zeros 4)
       ∷ readingAnswer 0 2 6 10
-      ∷ advanceAnswer 0 3 6 87 (traced 10 0 ((0, 7) ∷ []) ++ traced 10 1 ((0, 8) ∷ (0, 100) ∷ (1, 9) ∷ []) ++ traced 11 1 ((0, 100) ∷ [])
+      ∷ advancedBy 0 3 6 87 (traced 10 0 ((0, 7) ∷ []) ++ traced 10 1 ((0, 8) ∷ (0, 100) ∷ (1, 9) ∷ []) ++ traced 11 1 ((0, 100) ∷ [])
       ++ traced 15 0 ((0, 7) ∷ []) ++ traced 15 1 ((0, 8) ∷ (0, 100) ∷ (1, 9) ∷ []))
       ∷ readingAnswer 0 0 15 16 ∷ readingAnswer 16 0 0 0 ∷ [];
   run = saved 16 ((0, 15) ∷ (0, 15) ∷ (0, 11) ∷ []) ++ zeros 3;

@@ -5,8 +5,8 @@ use mathlib.Core.Path.{_≡_, refl}
 use Prim.Native.Nat.{ℕ, suc}
 use mathlib.Core.List.{List, [], _∷_, _++_, map}
 use Rattle.definition.specs.Bytes.{Bytes}
-use Rattle.definition.specs.Calls.{Call, Answer, advanceAnswer, Machine, called, runCalls, engine, flatMachine}
-use Rattle.definition.proofs.Table.{advanceTo, tabled}
+use Rattle.definition.specs.Calls.{Call, Answer, Machine, called, runCalls, engine, flatMachine}
+use Rattle.definition.proofs.Table.{advanceTo, advancedBy, tabled}
 use Rattle.definition.proofs.Literals.{b2, b3, b4, b5, z, endless, still, root, literals}
 
 -- component, phase, next phase, port; low and high value; least count; at any elapsed time
@@ -71,7 +71,7 @@ unfoldable pub chosenBy : Machine → (ℕ → ℕ → ℕ → Bytes) → Chosen
 chosenBy k run r = called k (run 0 0 0) (advanceTo (r .moment) (r .bag) [])
 
 unfoldable pub chosenSo : (ℕ → ℕ → ℕ → Bytes) → Chosen → Answer × Bytes
-chosenSo run r = (advanceAnswer 0 1 1 0 [], run (suc (r .moment)) (r .phase) (r .last))
+chosenSo run r = (advancedBy 0 1 1 0 [], run (suc (r .moment)) (r .phase) (r .last))
 
 -- ---- ports
 
@@ -89,7 +89,7 @@ portingCalls bag = advanceTo 0 (b3 1 7 0) [] ∷ advanceTo 5 bag (z 15) ∷ []
 -- The 9 at 5, and the phase then: a bag that comes when the atomic is due belongs to that very step, and so wakes it again.
 unfoldable pub portingSo : ℕ → List Answer × Bytes
 portingSo phase =
-    (advanceAnswer 0 1 1 0 [] ∷ advanceAnswer 0 1 1 15 (5 ∷ z 7 ++ b2 0 0 ++ b2 1 0 ++ b3 3 9 0) ∷ [], alone 6 phase 5)
+    (advancedBy 0 1 1 0 [] ∷ advancedBy 0 1 1 15 (5 ∷ z 7 ++ b2 0 0 ++ b2 1 0 ++ b3 3 9 0) ∷ [], alone 6 phase 5)
 
 -- ---- the rows
 
@@ -115,7 +115,7 @@ in-time-flat = refl
 
 -- In phase 1, of which no rule speaks, a 7 at 6 changes nothing; it is a step.
 pub stays : map (λ k. called k (alone 0 1 0) (advanceTo 6 (b3 0 7 0) [])) (engine timed ∷ flatMachine timed ∷ [])
-    ≡ (advanceAnswer 0 1 1 0 [], alone 7 1 0) ∷ (advanceAnswer 0 1 1 0 [], alone 7 1 0) ∷ []
+    ≡ (advancedBy 0 1 1 0 [], alone 7 1 0) ∷ (advancedBy 0 1 1 0 [], alone 7 1 0) ∷ []
 unfolding opened
 stays = refl
 

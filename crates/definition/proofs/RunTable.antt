@@ -7,8 +7,8 @@ use lib.ListN.{replicate}
 use Rattle.definition.specs.Bytes.{Bytes}
 use Rattle.definition.specs.Engine.{start}
 use Rattle.definition.specs.FlatMachine.{flatStart}
-use Rattle.definition.specs.Calls.{Call, readingCall, Answer, advanceAnswer, readingAnswer, Machine, called, engine, flatMachine}
-use Rattle.definition.proofs.Table.{advanceTo, tabled}
+use Rattle.definition.specs.Calls.{Call, readingCall, Answer, readingAnswer, Machine, called, engine, flatMachine}
+use Rattle.definition.proofs.Table.{advanceTo, advancedBy, tabled}
 use Rattle.definition.proofs.Literals.{b2, b3, b4, b5, z, still, root, literals}
 use Rattle.definition.proofs.FileTable.{cueFile}
 
@@ -88,12 +88,12 @@ pub record Tried : Type 0 where
 -- From a run of the phase 0 with last moment 0 and that open moment, with a trace of one byte: the number, and nothing changed.
 unfoldable pub refusesTo : Bytes → ℕ → Bytes → ℕ → Tried
 refusesTo opening t bag n =
-    record { run = run opening 0 (tick 0); call = advanceTo t bag (7 ∷ []); answer = advanceAnswer n 0 0 0 (7 ∷ []); after = run opening 0 (tick 0) }
+    record { run = run opening 0 (tick 0); call = advanceTo t bag (7 ∷ []); answer = advancedBy n 0 0 0 (7 ∷ []); after = run opening 0 (tick 0) }
 
 -- Done with so many instants and steps, and open so then.
 unfoldable pub advancesTo : Bytes → ℕ → Bytes → ℕ → Bytes → Tried
 advancesTo opening t bag steps then =
-    record { run = run opening 0 (tick 0); call = advanceTo t bag (7 ∷ []); answer = advanceAnswer 0 steps steps 0 (7 ∷ []); after = run then 0 (tick 0) }
+    record { run = run opening 0 (tick 0); call = advanceTo t bag (7 ∷ []); answer = advancedBy 0 steps steps 0 (7 ∷ []); after = run then 0 (tick 0) }
 
 -- 16 messages on all ports
 unfoldable pub sixteen : Bytes

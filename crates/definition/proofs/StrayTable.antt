@@ -12,11 +12,11 @@ use Rattle.definition.specs.Devs.{Since}
 use Rattle.definition.specs.Step.{unload}
 use Rattle.definition.specs.Advance.{advanceFrom}
 use Rattle.definition.specs.Flatten.{flat}
-use Rattle.definition.specs.Calls.{Call, startCall, readingCall, Answer, startAnswer, advanceAnswer, readingAnswer, engine, flatMachine}
+use Rattle.definition.specs.Calls.{Call, startCall, readingCall, Answer, startAnswer, readingAnswer, engine, flatMachine}
 use Rattle.definition.specs.Carrying.{carried, rootOf, initially, atStart}
 use Rattle.definition.proofs.Models.{message}
 use Rattle.definition.proofs.EdgeModels.{onValueAt, holding}
-use Rattle.definition.proofs.Table.{Row, zeros, saved, traced, advanceTo, actual, expected, tabled}
+use Rattle.definition.proofs.Table.{Row, zeros, saved, traced, advanceTo, advancedBy, actual, expected, tabled}
 
 -- To t with one message, or with none.
 unfoldable pub cueAt : ℕ → ℕ → Call
@@ -27,10 +27,10 @@ goOnTo t = advanceTo t [] (zeros 15)
 
 -- One step without a record; so many instants of one step, and the 9 at a moment.
 unfoldable pub oneStep : Answer
-oneStep = advanceAnswer 0 1 1 0 []
+oneStep = advancedBy 0 1 1 0 []
 
 unfoldable pub saysAt : ℕ → ℕ → Answer
-saysAt n moment = advanceAnswer 0 n n 15 (traced moment 0 ((0, 9) ∷ []))
+saysAt n moment = advancedBy 0 n n 15 (traced moment 0 ((0, 9) ∷ []))
 
 unfoldable pub strays : List Row
 strays =
@@ -114,7 +114,7 @@ carries =
 unfoldable pub carriedThrough : (m : Model) → ℕ → Since (rootOf m) → Bytes → List (ℕ × Bag) → Bytes × List (ℕ × ℕ)
 carriedThrough m opening q heard [] = (heard, map (λ r. (r .phase, r .last)) (unload m (q .event) (tree m) (q .state)))
 carriedThrough m opening q heard (c ∷ cs) =
-    let p = advanceFrom (carried (rootOf m)) 15 (c .0) (c .1) opening q .progress in
+    let p = advanceFrom (carried m) 15 (c .0) (c .1) opening q .progress in
     carriedThrough m (p .opening) (p .state) (p .trace) cs
 
 unfoldable pub carriedBy : Carry → Bytes × List (ℕ × ℕ)

@@ -33,8 +33,12 @@ saved opening xs = bytesOf 8 opening ++ bytesOf 2 (length xs) ++ concat (map (λ
 unfoldable pub traced : ℕ → ℕ → List (ℕ × ℕ) → Bytes
 traced moment step xs = bytesOf 8 moment ++ bytesOf 2 step ++ bytesOf 2 (length xs) ++ concat (map (λ x. bytesOf 1 (x .0) ++ bytesOf 2 (x .1)) xs)
 
+-- An advance that is lent no table of deciding rules, and what it answers.
 unfoldable pub advanceTo : ℕ → Bytes → Bytes → Call
-advanceTo t bag trace = advanceCall (record { moment = t; bag = bag; trace = trace })
+advanceTo t bag trace = advanceCall (record { moment = t; bag = bag; trace = trace; table = [] })
+
+unfoldable pub advancedBy : (number instants steps used : ℕ) → Bytes → Answer
+advancedBy number instants steps used trace = advanceAnswer number instants steps used trace []
 
 unfoldable pub single : List Coupling
 single = link 1 0 2 0 ∷ []
@@ -51,56 +55,56 @@ rows =
     record {
       model = cueSource 0 single;
       calls = startCall ∷ advanceTo 30 [] (zeros 40) ∷ [];
-      answers = startAnswer 0 28 ∷ advanceAnswer 0 3 6 30 (cue 20 ++ cue 30 ++ zeros 10) ∷ [];
+      answers = startAnswer 0 28 ∷ advancedBy 0 3 6 30 (cue 20 ++ cue 30 ++ zeros 10) ∷ [];
       run = saved 31 ((0, 30) ∷ (2, 30) ∷ []);
     }
     -- [B] component 2 with order 1: only the line for 20, steps still 6
     ∷ record {
       model = cueSource 1 single;
       calls = startCall ∷ advanceTo 30 [] (zeros 40) ∷ [];
-      answers = startAnswer 0 28 ∷ advanceAnswer 0 3 6 15 (cue 20 ++ zeros 25) ∷ [];
+      answers = startAnswer 0 28 ∷ advancedBy 0 3 6 15 (cue 20 ++ zeros 25) ∷ [];
       run = saved 31 ((0, 30) ∷ (2, 30) ∷ []);
     }
     -- [C] trace of 14 bytes: 15, instants 1, steps 2, length 0, open 11
     ∷ record {
       model = cueSource 0 single;
       calls = startCall ∷ advanceTo 30 [] (zeros 14) ∷ [];
-      answers = startAnswer 0 28 ∷ advanceAnswer 15 1 2 0 (zeros 14) ∷ [];
+      answers = startAnswer 0 28 ∷ advancedBy 15 1 2 0 (zeros 14) ∷ [];
       run = saved 11 ((0, 10) ∷ (2, 10) ∷ []);
     }
     -- [D] of 15 bytes: 15, steps 4, open 21
     ∷ record {
       model = cueSource 0 single;
       calls = startCall ∷ advanceTo 30 [] (zeros 15) ∷ [];
-      answers = startAnswer 0 28 ∷ advanceAnswer 15 2 4 15 (cue 20) ∷ [];
+      answers = startAnswer 0 28 ∷ advancedBy 15 2 4 15 (cue 20) ∷ [];
       run = saved 21 ((0, 20) ∷ (2, 20) ∷ []);
     }
     -- [E] bag (0, 5) at 0: one step, open 1, states unchanged
     ∷ record {
       model = cueSource 0 single;
       calls = startCall ∷ advanceTo 0 (0 ∷ 5 ∷ 0 ∷ []) [] ∷ [];
-      answers = startAnswer 0 28 ∷ advanceAnswer 0 1 1 0 [] ∷ [];
+      answers = startAnswer 0 28 ∷ advancedBy 0 1 1 0 [] ∷ [];
       run = saved 1 ((0, 0) ∷ (0, 0) ∷ []);
     }
     -- [F] the first coupling doubled: same records
     ∷ record {
       model = cueSource 0 (single ++ single);
       calls = startCall ∷ advanceTo 30 [] (zeros 40) ∷ [];
-      answers = startAnswer 0 28 ∷ advanceAnswer 0 3 6 30 (cue 20 ++ cue 30 ++ zeros 10) ∷ [];
+      answers = startAnswer 0 28 ∷ advancedBy 0 3 6 30 (cue 20 ++ cue 30 ++ zeros 10) ∷ [];
       run = saved 31 ((0, 30) ∷ (2, 30) ∷ []);
     }
     -- [G] one atomic of one phase, advance 0, next itself: 13, steps 0, open 0
     ∷ record {
       model = restless;
       calls = startCall ∷ advanceTo 30 [] (zeros 40) ∷ [];
-      answers = startAnswer 0 19 ∷ advanceAnswer 13 0 0 0 (zeros 40) ∷ [];
+      answers = startAnswer 0 19 ∷ advancedBy 13 0 0 0 (zeros 40) ∷ [];
       run = saved 0 ((0, 0) ∷ []) ++ zeros 9;
     }
     -- [H] t below the open moment: 11
     ∷ record {
       model = cueSource 0 single;
       calls = startCall ∷ advanceTo 30 [] (zeros 40) ∷ advanceTo 30 [] (zeros 3) ∷ [];
-      answers = startAnswer 0 28 ∷ advanceAnswer 0 3 6 30 (cue 20 ++ cue 30 ++ zeros 10) ∷ advanceAnswer 11 0 0 0 (zeros 3) ∷ [];
+      answers = startAnswer 0 28 ∷ advancedBy 0 3 6 30 (cue 20 ++ cue 30 ++ zeros 10) ∷ advancedBy 11 0 0 0 (zeros 3) ∷ [];
       run = saved 31 ((0, 30) ∷ (2, 30) ∷ []);
     }
     ∷ []
@@ -115,7 +119,7 @@ expected r = (r .answers, r .run)
 unfoldable pub tabled : Type 0
 unfolding
     computing message coupledIn atomicIn silent saying saying2 onValue link cueSource restless nest
-    zeros saved traced advanceTo single cue rows actual expected
+    zeros saved traced advanceTo advancedBy single cue rows actual expected
 tabled = Unit {0}
 
 pub engine-table : map (actual (λ m. engine (modelBytes m))) rows ≡ map expected rows

@@ -2,12 +2,13 @@
 -- own. Assumes nothing.
 use mathlib.Core.Path.{_≡_, refl}
 use Prim.Native.Nat.{ℕ}
-use mathlib.Core.List.{List, [], _∷_, _++_}
+use mathlib.Core.List.{List, [], _∷_, _++_, map}
 use mathlib.Core.Bool.{true, false}
 use lib.ListN.{replicate}
 use Rattle.definition.specs.Bytes.{Bytes, numberOf}
 use Rattle.definition.specs.Model.{Bag}
 use Rattle.definition.specs.SavedRun.{Entry, noEntry}
+use Rattle.definition.specs.Step.{Output}
 use Rattle.definition.specs.Instant.{done, over, instantTrace}
 use Rattle.definition.specs.Advance.{tried}
 use Rattle.definition.specs.FlatMachine.{recorded, verdictOn}
@@ -27,6 +28,10 @@ bagsTrace =
     44 ∷ 1 ∷ z 6 ++ b2 1 0 ++ b2 4 0 ++ b3 0 1 0 ++ b3 0 0 1 ++ b3 0 0 1 ++ b3 1 1 0
     ++ 44 ∷ 1 ∷ z 6 ++ b2 3 0 ++ b2 1 0 ++ b3 3 255 255
 
+-- A step that gave the bag, in a model without atomics.
+unfoldable pub outputOf : Bag → Output
+outputOf x = record { bag = x; decided = [] }
+
 -- ---- large bags
 
 -- A root bag of n messages in the second step of an instant.
@@ -36,20 +41,21 @@ large n = [] ∷ replicate n (message 0 0) ∷ []
 -- The numbers that they get in a trace of `room` bytes, 7 of which are taken.
 unfoldable pub engineGives : ℕ → List Bag → ℕ
 engineGives room xs =
-    numberOf (tried {S = List Entry} room 5 (record { opening = 0; state = []; instants = 1; steps = 1; trace = z 7 }) (done xs []))
+    numberOf (tried {S = List Entry} room 5 (record { opening = 0; state = []; instants = 1; steps = 1; trace = z 7; rules = [] }) (done (map outputOf xs) []))
 
 -- The same by the flat machine, where the first atomic was left in a phase since 5: phase 0 is due at 15, phase 1 at 5 already.
 unfoldable pub machineGives : ℕ → ℕ → List Bag → ℕ
 machineGives phase room xs =
-    numberOf (verdictOn (cueSource 0 single) 5 (record { state = z 28; trace = z room; instants = 1; steps = 1; used = 7 }) (xs, record { phase = phase; last = 5 } ∷ noEntry ∷ []))
+    numberOf (verdictOn (cueSource 0 single) 5 (record { state = z 28; trace = z room; table = []; instants = 1; steps = 1; used = 7 })
+    (xs, record { entries = record { phase = phase; last = 5 } ∷ noEntry ∷ []; rules = [] }))
 
 unfoldable pub tracing : Type 0
-unfolding tabled literals bags bagsTrace large engineGives machineGives
+unfolding tabled literals bags bagsTrace outputOf large engineGives machineGives
 tracing = Unit {0}
 
 -- ---- the rows
 
-pub bags-traced : instantTrace 300 bags ≡ bagsTrace
+pub bags-traced : instantTrace 300 (map outputOf bags) ≡ bagsTrace
 unfolding tracing
 bags-traced = refl
 
@@ -58,11 +64,11 @@ unfolding tracing
 bags-recorded = refl
 
 -- 4,096 messages are not too many, 4,097 are
-pub not-over : over (large 4096) ≡ false
+pub not-over : over (map outputOf (large 4096)) ≡ false
 unfolding tracing
 not-over = refl
 
-pub is-over : over (large 4097) ≡ true
+pub is-over : over (map outputOf (large 4097)) ≡ true
 unfolding tracing
 is-over = refl
 

@@ -1,6 +1,6 @@
 -- Advance: the verdict on one instant, and the instants of a call in turn; over anything that takes steps. Assumes nothing.
 use Prim.Native.Nat.{ℕ, zero, suc, _+_}
-use mathlib.Core.List.{[], _∷_, _++_}
+use mathlib.Core.List.{List, [], _∷_, _++_}
 use mathlib.Core.Bool.{Bool, false, cond}
 use lib.Dec.{ltb}
 use lib.ListN.{length}
@@ -8,15 +8,17 @@ use Rattle.definition.specs.Bytes.{Bytes, Result, ok, refused, _>>=_, re
 use Rattle.definition.specs.Model.{Bag}
 use Rattle.definition.specs.Devs.{Time, finite, never, ticks}
 use Rattle.definition.specs.Step.{Simulator}
-use Rattle.definition.specs.Instant.{Instant, done, jammed, instant, over, instantTrace}
+use Rattle.definition.specs.Instant.{Instant, done, jammed, instant, over, instantTrace, instantRules}
 
--- How far a call has come: the open moment, the state, the instants and steps done, and the trace bytes written.
+-- How far a call has come: the open moment, the state, the instants and steps done, the trace bytes written, and the rules that
+-- decided in the last instant done.
 pub record Progress (S : Type 0) : Type 0 where
   pub opening : ℕ
   pub state : S
   pub instants : ℕ
   pub steps : ℕ
   pub trace : Bytes
+  pub rules : List ℕ
 
 -- Where a call ends: its number, 0 for success, and what stands.
 pub record Ended (S : Type 0) : Type 0 where
@@ -41,6 +43,7 @@ tried room now p (done (x ∷ xs) s) = do
     instants = suc (p .instants);
     steps = p .steps + length (x ∷ xs);
     trace = p .trace ++ instantTrace now (x ∷ xs);
+    rules = instantRules (x ∷ xs);
   })
 
 -- "When an instant is left undone the open moment is one past the last instant done in this call, or as before if none."
@@ -50,7 +53,8 @@ continued on before (refused n) = ended n before
 
 -- "On success the open moment is t + 1."
 unfoldable pub succeeded : {S : Type 0} → ℕ → Progress S → Ended S
-succeeded t p = ended 0 (record { opening = suc t; state = p .state; instants = p .instants; steps = p .steps; trace = p .trace })
+succeeded t p =
+    ended 0 (record { opening = suc t; state = p .state; instants = p .instants; steps = p .steps; trace = p .trace; rules = p .rules })
 
 unfoldable pub isBefore : Time → ℕ → Bool
 isBefore (finite a) t = ltb a t
@@ -69,4 +73,4 @@ module _ {S : Type 0} (k : Simulator S) (room t : ℕ) (given : Bag) where
 
   -- The instants of a call from an open moment and a state.
   unfoldable pub advanceFrom : (opening : ℕ) → S → Ended S
-  advanceFrom opening s = advancing (suc t) (record { opening = opening; state = s; instants = 0; steps = 0; trace = [] })
+  advanceFrom opening s = advancing (suc t) (record { opening = opening; state = s; instants = 0; steps = 0; trace = []; rules = [] })

@@ -8,34 +8,34 @@ use lib.ListN.{length}
 use Rattle.definition.specs.Limits.{maxSteps}
 use Rattle.definition.specs.Model.{Bag}
 use Rattle.definition.specs.Devs.{finite}
-use Rattle.definition.specs.Step.{Simulator}
-use Rattle.definition.specs.Instant.{goesOn, over, instantTrace}
+use Rattle.definition.specs.Step.{Output, Simulator}
+use Rattle.definition.specs.Instant.{goesOn, over, instantTrace, instantRules}
 use Rattle.definition.specs.Advance.{Progress, Ended, ended, succeeded, isBefore}
 
--- The given bag belongs to the first step: what is still to be given after the steps with root bags xs.
-abbrev pub stillGiven : Bag → List Bag → Bag
+-- The given bag belongs to the first step: what is still to be given after the steps that gave xs.
+abbrev pub stillGiven : Bag → List Output → Bag
 stillGiven x [] = x
 stillGiven x (y ∷ ys) = []
 
 module _ {S : Type 0} (k : Simulator S) where
-  -- Steps in turn at `now` from s to s', with root bags xs: each was taken because something was due or the given bag was not empty.
-  abbrev pub Steps : ℕ → Bag → S → List Bag → S → Type 0
+  -- Steps in turn at `now` from s to s' that give xs: each was taken because something was due or the given bag was not empty.
+  abbrev pub Steps : ℕ → Bag → S → List Output → S → Type 0
   Steps now x s [] s' = s ≡ s'
   Steps now x s (y ∷ ys) s' = (goesOn k now x s ≡ true) × (y ≡ k .step now x s .out) × Steps now [] (k .step now x s .state) ys s'
 
   -- All steps at `now`, at most 1,024, and none is left to take.
-  pub record Whole (now : ℕ) (x : Bag) (s : S) (xs : List Bag) (s' : S) : Type 0 where
+  pub record Whole (now : ℕ) (x : Bag) (s : S) (xs : List Output) (s' : S) : Type 0 where
     pub steps : Steps now x s xs s'
     pub few : length xs ≤ maxSteps
     pub finished : goesOn k now (stillGiven x xs) s' ≡ false
 
   -- 1,024 steps at `now`, and another is left to take.
   pub record Jams (now : ℕ) (x : Bag) (s : S) : Type 0 where
-    pub bags : List Bag
+    pub outputs : List Output
     pub after : S
-    pub steps : Steps now x s bags after
-    pub many : length bags ≡ maxSteps
-    pub unfinished : goesOn k now (stillGiven x bags) after ≡ true
+    pub steps : Steps now x s outputs after
+    pub many : length outputs ≡ maxSteps
+    pub unfinished : goesOn k now (stillGiven x outputs) after ≡ true
 
   module _ (room t : ℕ) (given : Bag) where
     -- The instant to be tried next: the earliest that is due before t, without a bag, or else t with the given bag.
@@ -44,33 +44,34 @@ module _ {S : Type 0} (k : Simulator S) where
       at-end : isBefore (k .next s) t ≡ false → Next s t given
 
     -- The records of the instant pass no end, and no root bag is over its limit.
-    pub record WithinLimits (p : Progress S) (now : ℕ) (xs : List Bag) : Type 0 where
+    pub record WithinLimits (p : Progress S) (now : ℕ) (xs : List Output) : Type 0 where
       pub bags : over xs ≡ false
       pub trace : length (p .trace ++ instantTrace now xs) ≤ room
 
     -- The instant at `now` stands.
-    abbrev pub withInstant : Progress S → ℕ → List Bag → S → Progress S
+    abbrev pub withInstant : Progress S → ℕ → List Output → S → Progress S
     withInstant p now xs s' = record {
       opening = suc now;
       state = s';
       instants = suc (p .instants);
       steps = p .steps + length xs;
       trace = p .trace ++ instantTrace now xs;
+      rules = instantRules xs;
     }
 
     -- How the call ends from p on.
     pub data Ends : Progress S → Ended S → Type 0 where
       -- 13, 14 and 15: that instant is left undone whole, and what stood before it stands
       jams : (p : Progress S) (now : ℕ) (x : Bag) → Next (p .state) now x → Jams now x (p .state) → Ends p (ended 13 p)
-      oversize : (p : Progress S) (now : ℕ) (x : Bag) (xs : List Bag) (s' : S) → Next (p .state) now x → Whole now x (p .state) xs s'
+      oversize : (p : Progress S) (now : ℕ) (x : Bag) (xs : List Output) (s' : S) → Next (p .state) now x → Whole now x (p .state) xs s'
           → over xs ≡ true → Ends p (ended 14 p)
-      overruns : (p : Progress S) (now : ℕ) (x : Bag) (y : Bag) (ys : List Bag) (s' : S) → Next (p .state) now x → Whole now x (p .state) (y ∷ ys) s'
+      overruns : (p : Progress S) (now : ℕ) (x : Bag) (y : Output) (ys : List Output) (s' : S) → Next (p .state) now x → Whole now x (p .state) (y ∷ ys) s'
           → over (y ∷ ys) ≡ false → room < length (p .trace ++ instantTrace now (y ∷ ys)) → Ends p (ended 15 p)
       -- an instant before t is done, and the call goes on
-      goes-on : (p : Progress S) (u : ℕ) (xs : List Bag) (s' : S) (e : Ended S) → k .next (p .state) ≡ finite u → u < t → Whole u [] (p .state) xs s'
+      goes-on : (p : Progress S) (u : ℕ) (xs : List Output) (s' : S) (e : Ended S) → k .next (p .state) ≡ finite u → u < t → Whole u [] (p .state) xs s'
           → WithinLimits p u xs → Ends (withInstant p u xs s') e → Ends p e
       -- the instant at t is done
-      succeeds : (p : Progress S) (y : Bag) (ys : List Bag) (s' : S) → isBefore (k .next (p .state)) t ≡ false → Whole t given (p .state) (y ∷ ys) s'
+      succeeds : (p : Progress S) (y : Output) (ys : List Output) (s' : S) → isBefore (k .next (p .state)) t ≡ false → Whole t given (p .state) (y ∷ ys) s'
           → WithinLimits p t (y ∷ ys) → Ends p (succeeded t (withInstant p t (y ∷ ys) s'))
       -- nothing happens at t: "A moment without a step is no instant and is not counted."
       idle : (p : Progress S) → isBefore (k .next (p .state)) t ≡ false → goesOn k t given (p .state) ≡ false → Ends p (succeeded t p)

@@ -1,5 +1,5 @@
--- The atomic model of document 01, "One step": phases, rules and the two orders, as request (i) of document 02 mends it; and the model of
--- every component of a nest. Assumes nothing.
+-- The atomic model of document 01, "One step": phases, rules and the two orders, as requests (i) and (ii) of document 02 mend it; and the
+-- model of every component of a nest. Assumes nothing.
 use Prim.Native.Nat.{ℕ, suc, _+_}
 use mathlib.Core.List.{List, [], _∷_}
 use mathlib.Core.Option.{Option, none, some}
@@ -7,9 +7,9 @@ use mathlib.Core.Bool.{Bool, _&&_, _||_, cond}
 use lib.Dec.{leb, eqb}
 use lib.ListN.{getD}
 use Rattle.definition.specs.Lists.{count}
-use Rattle.definition.specs.Limits.{neverField}
+use Rattle.definition.specs.Limits.{neverField, noPosition}
 use Rattle.definition.specs.Model.{Message, Bag, Rule, Model, noRule, componentAt, phaseAt, outputs, Tree, Forest, leaf, node, stop, more, nameOf}
-use Rattle.definition.specs.Devs.{Time, finite, never, remaining, ticks, Devs, Part, resultant}
+use Rattle.definition.specs.Devs.{Time, finite, never, remaining, ticks, After, Devs, Part, resultant}
 
 -- ---- the deciding rule
 
@@ -30,6 +30,11 @@ holds c p e x k = eqb (k .component) c && eqb (k .phase) p && withinElapsed k e 
 unfoldable pub deciding : (Rule → Bool) → ℕ → List Rule → Option ℕ
 deciding test at [] = none
 deciding test at (k ∷ ks) = let rest = deciding test (suc at) ks in cond (test k) (some at) rest
+
+-- "The search for the deciding rule now tells its position in the file, counted in rules from 0, or 65,535 for none".
+unfoldable pub toldAs : Option ℕ → ℕ
+toldAs none = noPosition
+toldAs (some i) = i
 
 -- ---- the state of an atomic
 
@@ -67,19 +72,24 @@ module _ (m : Model) (c : ℕ) where
   unfoldable pub timeAdvance : InPhase → Time
   timeAdvance s = remaining (advanceOf (s .phase)) (s .spent)
 
-  -- δ_int
-  unfoldable pub internal : InPhase → InPhase
-  internal s = unspent (nextPhase (s .phase))
+  -- δ_int: no external part, so nothing decided
+  unfoldable pub internal : InPhase → After InPhase
+  internal s = record { state = unspent (nextPhase (s .phase)); decided = [] }
 
   -- δ_ext, an elapsed time e after the last event
-  unfoldable pub external : InPhase → ℕ → Bag → InPhase
-  external s e x = let since = s .spent + e in followed (m .rules) (s .phase) since (ruleFor (s .phase) since x)
+  unfoldable pub external : InPhase → ℕ → Bag → After InPhase
+  external s e x =
+      let since = s .spent + e in
+      let found = ruleFor (s .phase) since x in
+      record { state = followed (m .rules) (s .phase) since found; decided = record { atomic = c; position = toldAs found } ∷ [] }
 
   -- δ_con: "order 0 takes the next phase, then the external transition with elapsed time 0; order 1 the external one with elapsed time
-  -- equal to the advance, then the next phase of where it led": δ_ext adds what was spent to what is left.
-  unfoldable pub confluent : InPhase → Bag → InPhase
+  -- equal to the advance, then the next phase of where it led": δ_ext adds what was spent to what is left. Its external part passes up.
+  unfoldable pub confluent : InPhase → Bag → After InPhase
   confluent s x =
-      cond (eqb (componentAt (m .components) c .order) 0) (external (internal s) 0 x) (internal (external s (ticks (timeAdvance s)) x))
+      let part = external s (ticks (timeAdvance s)) x in
+      cond (eqb (componentAt (m .components) c .order) 0)
+      (external (internal s .state) 0 x) (record { state = internal (part .state) .state; decided = part .decided })
 
   abbrev pub atomic : Devs
   atomic = record { State = InPhase; ta = timeAdvance; out = λ s. outputs (phaseAt m c (s .phase)); int = internal; ext = external; con = confluent }

@@ -5,11 +5,12 @@ use Rattle.definition.specs.Bytes.{Bytes}
 use Rattle.definition.specs.Engine.{Wrote, Advanced, WasRead, start, advance, reading}
 use Rattle.definition.specs.FlatMachine.{flatStart, flatAdvance, flatReading}
 
--- "Each advance brings a trace buffer of any length and first bytes."
+-- "Each advance brings a trace buffer of any length and first bytes", and a table of deciding rules that "counts like a lent trace".
 pub record AdvanceCall : Type 0 where
   pub moment : ℕ
   pub bag : Bytes
   pub trace : Bytes
+  pub table : Bytes
 
 pub data Call : Type 0 where
   startCall : Call
@@ -19,21 +20,21 @@ pub data Call : Type 0 where
 -- What a call answers, the buffers that it alone was lent included.
 pub data Answer : Type 0 where
   startAnswer : (number written : ℕ) → Answer
-  advanceAnswer : (number instants steps used : ℕ) (trace : Bytes) → Answer
+  advanceAnswer : (number instants steps used : ℕ) (trace table : Bytes) → Answer
   readingAnswer : (number phase last due : ℕ) → Answer
 
 -- A machine: what each kind of call does with the run buffer.
 pub record Machine : Type 0 where
   pub starts : Bytes → Wrote
-  pub advances : Bytes → ℕ → Bytes → Bytes → Advanced
+  pub advances : Bytes → ℕ → Bytes → Bytes → Bytes → Advanced
   pub reads : Bytes → ℕ → WasRead
 
 -- The answer of one call, and the run buffer after it.
 unfoldable pub called : Machine → Bytes → Call → Answer × Bytes
 called k run startCall = let r = k .starts run in (startAnswer (r .number) (r .written), r .buffer)
 called k run (advanceCall c) =
-    let r = k .advances run (c .moment) (c .bag) (c .trace) in
-    (advanceAnswer (r .number) (r .instants) (r .steps) (r .used) (r .trace), r .run)
+    let r = k .advances run (c .moment) (c .bag) (c .trace) (c .table) in
+    (advanceAnswer (r .number) (r .instants) (r .steps) (r .used) (r .trace) (r .table), r .run)
 called k run (readingCall position) =
     let r = k .reads run position in
     (readingAnswer (r .number) (r .phase) (r .last) (r .due), run)

@@ -12,21 +12,24 @@ use Rattle.definition.specs.Model.{Model, componentAt, Tree, Forest, lea
 use Rattle.definition.specs.Devs.{Devs, Totals, Since, devsDue, devsStep}
 use Rattle.definition.specs.Atomic.{unspent, devsOf, partsOf}
 use Rattle.definition.specs.SavedRun.{Entry, noEntry, atomicCount, runLength, runOf, runBytes, entryOf, runFits}
-use Rattle.definition.specs.Step.{Simulator}
+use Rattle.definition.specs.Step.{Simulator, decidedInFileOrder}
 use Rattle.definition.specs.Advance.{Progress, Ended}
 use Rattle.definition.specs.AdvanceRelation.{Ends}
-use Rattle.definition.specs.Engine.{toBag, bagFits, dueNumber}
+use Rattle.definition.specs.Engine.{toBag, bagFits, withRules, dueNumber}
 use Rattle.definition.specs.Calls.{AdvanceCall, Call, startCall, advanceCall, readingCall, Answer, startAnswer, advanceAnswer, readingAnswer, Machine, called}
 
 -- ---- the resultant
 
--- A model carried from event to event: its state, and the moment of its last event.
-abbrev pub carried : (d : Devs) → Simulator (Since d)
-carried d = record { next = devsDue d; step = λ now x q. let r = devsStep d now x q in record { out = r .0; state = r .1 } }
-
 -- The root's resultant.
 abbrev pub rootOf : Model → Devs
 rootOf m = devsOf m (tree m)
+
+-- It is carried from event to event: its state, and the moment of its last event.
+abbrev pub carried : (m : Model) → Simulator (Since (rootOf m))
+carried m = record {
+  next = devsDue (rootOf m);
+  step = λ now x q. let r = devsStep (rootOf m) now x q in record { out = record { bag = r .0; decided = decidedInFileOrder m (r .1 .decided) }; state = r .1 .state };
+}
 
 -- "Start writes 0, the initial phases and last moments 0": every atomic in its initial phase with nothing spent, all elapsed times 0.
 unfoldable mutual
@@ -70,7 +73,7 @@ atStart m = record { opening = 0; since = record { state = initially m (tree m);
 
 -- Before the first instant of a call.
 abbrev pub begins : {S : Type 0} → ℕ → S → Progress S
-begins opening s = record { opening = opening; state = s; instants = 0; steps = 0; trace = [] }
+begins opening s = record { opening = opening; state = s; instants = 0; steps = 0; trace = []; rules = [] }
 
 -- After a call's instants.
 abbrev pub leftBy : {m : Model} → Ended (Since (rootOf m)) → BetweenCalls m
@@ -84,12 +87,12 @@ pub record InTime (opening : ℕ) (c : AdvanceCall) : Type 0 where
 -- What it answers to a call, and what it is afterwards.
 pub data Answers (m : Model) (q : BetweenCalls m) : Call → Answer → BetweenCalls m → Type 0 where
   answers-start : Answers m q startCall (startAnswer 0 (runLength (atomicCount m))) (atStart m)
-  refuses-time : (c : AdvanceCall) → (c .moment < q .opening) ⊎ (maxMoment < c .moment) → Answers m q (advanceCall c) (advanceAnswer 11 0 0 0 (c .trace)) q
-  refuses-bag : (c : AdvanceCall) → InTime (q .opening) c → bagFits (c .bag) ≡ false → Answers m q (advanceCall c) (advanceAnswer 12 0 0 0 (c .trace)) q
+  refuses-time : (c : AdvanceCall) → (c .moment < q .opening) ⊎ (maxMoment < c .moment) → Answers m q (advanceCall c) (advanceAnswer 11 0 0 0 (c .trace) (c .table)) q
+  refuses-bag : (c : AdvanceCall) → InTime (q .opening) c → bagFits (c .bag) ≡ false → Answers m q (advanceCall c) (advanceAnswer 12 0 0 0 (c .trace) (c .table)) q
   answers-advance : (c : AdvanceCall) (e : Ended (Since (rootOf m))) → InTime (q .opening) c → bagFits (c .bag) ≡ true
-      → Ends (carried (rootOf m)) (length (c .trace)) (c .moment) (toBag (c .bag)) (begins (q .opening) (q .since)) e
-      → Answers m q (advanceCall c) (advanceAnswer (e .number) (e .progress .instants) (e .progress .steps) (length (e .progress .trace)) (stored (e .progress .trace) (c .trace)))
-      (leftBy e)
+      → Ends (carried m) (length (c .trace)) (c .moment) (toBag (c .bag)) (begins (q .opening) (q .since)) e
+      → Answers m q (advanceCall c) (advanceAnswer (e .number) (e .progress .instants) (e .progress .steps) (length (e .progress .trace)) (stored (e .progress .trace) (c .trace))
+      (withRules (atomicCount m) (e .progress) (c .table))) (leftBy e)
   refuses-position : (position : ℕ) → atomicCount m ≤ position → Answers m q (readingCall position) (readingAnswer 16 0 0 0) q
   answers-reading : (position : ℕ) (rs : List Entry) → position < atomicCount m → StandsFor m (q .opening) (q .since) rs
       → Answers m q (readingCall position) (readingAnswer 0 (getD rs position noEntry .phase) (getD rs position noEntry .last) (dueNumber (devsDue (rootOf m) (q .since)))) q

@@ -3,13 +3,13 @@
 -- buffer. Assumes nothing.
 use mathlib.Core.Path.{_≡_}
 use mathlib.Core.Logic.{_⊎_}
-use Prim.Native.Nat.{ℕ, _+_, _≤_, _<_}
+use Prim.Native.Nat.{ℕ, _+_, _*_, _≤_, _<_}
 use mathlib.Core.List.{List, _++_}
 use mathlib.Core.Bool.{true, false}
 use lib.ListN.{length, take}
 use Rattle.definition.specs.Lists.{Same}
 use Rattle.definition.specs.Bytes.{Bytes, AllBytes, ok, stored}
-use Rattle.definition.specs.Limits.{maxMoment, longestModel, longestRun}
+use Rattle.definition.specs.Limits.{maxMoment, positionSize, longestModel, longestRun, longestTable}
 use Rattle.definition.specs.Model.{Bag, Model, Tree}
 use Rattle.definition.specs.File.{modelBytes}
 use Rattle.definition.specs.Pinned.Decoder.{accepted, checkModel}
@@ -22,7 +22,7 @@ use Rattle.definition.specs.Clauses.{RunFits, BagFits, Decides}
 use Rattle.definition.specs.Step.{nested}
 use Rattle.definition.specs.Advance.{Ended}
 use Rattle.definition.specs.AdvanceRelation.{Ends}
-use Rattle.definition.specs.Engine.{Wrote, Advanced, WasRead, startRun, start, toBag, bagFits, advanced, advance, readAt, reading}
+use Rattle.definition.specs.Engine.{Wrote, Advanced, WasRead, startRun, start, toBag, bagFits, withRules, advanced, advance, readAt, reading}
 use Rattle.definition.specs.Flatten.{flat, flatten}
 use Rattle.definition.specs.Calls.{Call, runCalls, engine, flatMachine}
 use Rattle.definition.specs.Carrying.{carried, rootOf, StandsFor, BetweenCalls, atStart, begins, Saved, Through}
@@ -33,8 +33,8 @@ use Rattle.definition.specs.Carrying.{carried, rootOf, StandsFor, Betwee
 abbrev pub refusedWrite : ℕ → Bytes → Wrote
 refusedWrite n buffer = record { number = n; written = 0; buffer = buffer }
 
-abbrev pub refusedAdvance : ℕ → Bytes → Bytes → Advanced
-refusedAdvance n run trace = record { number = n; instants = 0; steps = 0; used = 0; run = run; trace = trace }
+abbrev pub refusedAdvance : ℕ → Bytes → Bytes → Bytes → Advanced
+refusedAdvance n run trace table = record { number = n; instants = 0; steps = 0; used = 0; run = run; trace = trace; table = table }
 
 abbrev pub refusedReading : ℕ → WasRead
 refusedReading n = record { number = n; phase = 0; last = 0; due = 0 }
@@ -109,10 +109,10 @@ pub record Demand1 : Type 0 where
       → reading file run position ≡ refusedReading n
   pub reading-number : (file run : Bytes) (position : ℕ) → AllBytes file → 0 < reading file run position .number
       → ReadingRefusal file run position (reading file run position .number)
-  pub advance-refused : (file run : Bytes) (t : ℕ) (bag trace : Bytes) (n : ℕ) → AdvanceRefusal file run t bag n
-      → advance file run t bag trace ≡ refusedAdvance n run trace
-  pub advance-number : (file run : Bytes) (t : ℕ) (bag trace : Bytes) → AllBytes file
-      → AdvanceNumber file run t bag trace (advance file run t bag trace .number)
+  pub advance-refused : (file run : Bytes) (t : ℕ) (bag trace table : Bytes) (n : ℕ) → AdvanceRefusal file run t bag n
+      → advance file run t bag trace table ≡ refusedAdvance n run trace table
+  pub advance-number : (file run : Bytes) (t : ℕ) (bag trace table : Bytes) → AllBytes file
+      → AdvanceNumber file run t bag trace (advance file run t bag trace table .number)
   -- Everything else is accepted.
   pub start-done : (file buffer : Bytes) (m : Model) → accepted file ≡ ok m → runLength (atomicCount m) ≤ length buffer
       → start file buffer ≡ record { number = 0; written = runLength (atomicCount m); buffer = stored (runBytes (startRun m)) buffer }
@@ -122,45 +122,46 @@ pub record Demand1 : Type 0 where
       → reading file run position ≡ readAt (runOf m run .entries) position (nextDue m (runOf m run .entries))
   -- An instant that needs over 1,024 steps, or whose records overrun the lent trace, is left undone whole, and the instants before it
   -- stand: an advance that is not refused ends as `Ends` tells, and in no other way.
-  pub advance-ends : (file run : Bytes) (t : ℕ) (bag trace : Bytes) (m : Model) → AllBytes file → accepted file ≡ ok m → MayAdvance m run t bag
+  pub advance-ends : (file run : Bytes) (t : ℕ) (bag trace table : Bytes) (m : Model) → AllBytes file → accepted file ≡ ok m → MayAdvance m run t bag
       → (e : Ended (List Entry)) × Ends (nested m) (length trace) t (toBag bag) (begins (openingOf m run) (runOf m run .entries)) e
-      × (advance file run t bag trace ≡ advanced run trace (ok e))
-  pub advance-only : (file run : Bytes) (t : ℕ) (bag trace : Bytes) (m : Model) → AllBytes file → accepted file ≡ ok m → MayAdvance m run t bag
+      × (advance file run t bag trace table ≡ advanced run trace table (ok e))
+  pub advance-only : (file run : Bytes) (t : ℕ) (bag trace table : Bytes) (m : Model) → AllBytes file → accepted file ≡ ok m → MayAdvance m run t bag
       → (e : Ended (List Entry)) → Ends (nested m) (length trace) t (toBag bag) (begins (openingOf m run) (runOf m run .entries)) e
-      → advance file run t bag trace ≡ advanced run trace (ok e)
+      → advance file run t bag trace table ≡ advanced run trace table (ok e)
   -- Where no instant stands and the call did not succeed, no lent byte has changed.
-  pub nothing-done : (file run : Bytes) (t : ℕ) (bag trace : Bytes) (m : Model) → AllBytes file → AllBytes run → accepted file ≡ ok m
-      → 0 < advance file run t bag trace .number → advance file run t bag trace .instants ≡ 0
-      → (advance file run t bag trace .run ≡ run) × (advance file run t bag trace .trace ≡ trace)
+  pub nothing-done : (file run : Bytes) (t : ℕ) (bag trace table : Bytes) (m : Model) → AllBytes file → AllBytes run → accepted file ≡ ok m
+      → 0 < advance file run t bag trace table .number → advance file run t bag trace table .instants ≡ 0
+      → (advance file run t bag trace table .run ≡ run) × (advance file run t bag trace table .trace ≡ trace) × (advance file run t bag trace table .table ≡ table)
   -- A start and an advance, whatever its number, leave a run that fits.
   pub start-fits : (file buffer : Bytes) (m : Model) → AllBytes file → accepted file ≡ ok m → runLength (atomicCount m) ≤ length buffer
       → runFits m (start file buffer .buffer) ≡ true
-  pub advance-fits : (file run : Bytes) (t : ℕ) (bag trace : Bytes) (m : Model) → AllBytes file → accepted file ≡ ok m → runFits m run ≡ true
-      → runFits m (advance file run t bag trace .run) ≡ true
+  pub advance-fits : (file run : Bytes) (t : ℕ) (bag trace table : Bytes) (m : Model) → AllBytes file → accepted file ≡ ok m → runFits m run ≡ true
+      → runFits m (advance file run t bag trace table .run) ≡ true
 
 -- ---- Demand 2
 
--- The answer and both buffers of an advance are those of the carried resultant, where its instants end at e.
-pub record Shows (m : Model) (run trace : Bytes) (e : Ended (Since (rootOf m))) (a : Advanced) : Type 0 where
+-- The answer and the buffers of an advance are those of the carried resultant, where its instants end at e.
+pub record Shows (m : Model) (run trace table : Bytes) (e : Ended (Since (rootOf m))) (a : Advanced) : Type 0 where
   pub number : a .number ≡ e .number
   pub instants : a .instants ≡ e .progress .instants
   pub steps : a .steps ≡ e .progress .steps
   pub used : a .used ≡ length (e .progress .trace)
   pub whole-trace : a .trace ≡ stored (e .progress .trace) trace
+  pub whole-table : a .table ≡ withRules (atomicCount m) (e .progress) table
   pub opening : openingOf m (a .run) ≡ e .progress .opening
   pub entries : StandsFor m (e .progress .opening) (e .progress .state) (runOf m (a .run) .entries)
   pub whole-run : a .run ≡ stored (runBytes (runOf m (a .run))) run
 
 pub record Demand2 : Type 0 where
-  -- Trace, step count and saved run are those of the Parallel DEVS definition: from any state that stands for the saved run, the
+  -- Trace, step count, saved run and deciding rules are those of the Parallel DEVS definition: from any state that stands for the saved run, the
   -- root's resultant carried by its own elapsed times ends the call, and wherever it ends, that is what the advance shows.
   pub carried-ends : (file run : Bytes) (t : ℕ) (bag trace : Bytes) (m : Model) → AllBytes file → accepted file ≡ ok m → MayAdvance m run t bag
       → (q : Since (rootOf m)) → StandsFor m (openingOf m run) q (runOf m run .entries)
-      → (e : Ended (Since (rootOf m))) × Ends (carried (rootOf m)) (length trace) t (toBag bag) (begins (openingOf m run) q) e
-  pub as-defined : (file run : Bytes) (t : ℕ) (bag trace : Bytes) (m : Model) → AllBytes file → accepted file ≡ ok m → MayAdvance m run t bag
+      → (e : Ended (Since (rootOf m))) × Ends (carried m) (length trace) t (toBag bag) (begins (openingOf m run) q) e
+  pub as-defined : (file run : Bytes) (t : ℕ) (bag trace table : Bytes) (m : Model) → AllBytes file → accepted file ≡ ok m → MayAdvance m run t bag
       → (q : Since (rootOf m)) → StandsFor m (openingOf m run) q (runOf m run .entries)
-      → (e : Ended (Since (rootOf m))) → Ends (carried (rootOf m)) (length trace) t (toBag bag) (begins (openingOf m run) q) e
-      → Shows m run trace e (advance file run t bag trace)
+      → (e : Ended (Since (rootOf m))) → Ends (carried m) (length trace) t (toBag bag) (begins (openingOf m run) q) e
+      → Shows m run trace table e (advance file run t bag trace table)
   -- There is such a state: a start saves the initial phases, for which the resultant with all elapsed times 0 stands, and every run
   -- that fits has one.
   pub start-saves : (file buffer : Bytes) (m : Model) → AllBytes file → accepted file ≡ ok m → start file buffer .number ≡ 0
@@ -172,7 +173,7 @@ pub record Demand2 : Type 0 where
   pub stands-for-one : (file : Bytes) (m : Model) → AllBytes file → accepted file ≡ ok m → (opening : ℕ) (q : Since (rootOf m)) (rs qs : List Entry)
       → StandsFor m opening q rs → StandsFor m opening q qs → rs ≡ qs
   -- From call to call: through every list of calls, from any saved run, and from any successful start on, the resultant stands for the
-  -- saved run after each call and gives its answer and its trace.
+  -- saved run after each call and gives its answer, its trace and its deciding rules.
   pub through-calls : (file run : Bytes) (m : Model) → AllBytes file → accepted file ≡ ok m → (q : BetweenCalls m) → Saved m q run
       → (calls : List Call) → Through m (engine file) q run calls
   pub from-start : (file run : Bytes) (m : Model) → AllBytes file → accepted file ≡ ok m → (before calls : List Call)
@@ -181,8 +182,8 @@ pub record Demand2 : Type 0 where
   -- The search by which an atomic's external part is decided finds the first rule whose conditions all hold.
   pub rule-decides : (m : Model) (c p e : ℕ) (x : Bag) → Decides (m .rules) c p e x (ruleFor m c p e x)
   -- The order of messages in a bag changes nothing: of a given bag, and of a bag that reaches any component of a nest.
-  pub given-order : (file run : Bytes) (t : ℕ) (b c trace : Bytes) → AllBytes file → length b ≡ length c → Same (toBag b) (toBag c)
-      → advance file run t b trace ≡ advance file run t c trace
+  pub given-order : (file run : Bytes) (t : ℕ) (b c trace table : Bytes) → AllBytes file → length b ≡ length c → Same (toBag b) (toBag c)
+      → advance file run t b trace table ≡ advance file run t c trace table
   pub external-order : (m : Model) (t : Tree) (s : devsOf m t .State) (e : ℕ) (x y : Bag) → Same x y → devsOf m t .ext s e x ≡ devsOf m t .ext s e y
   pub confluent-order : (m : Model) (t : Tree) (s : devsOf m t .State) (x y : Bag) → Same x y → devsOf m t .con s x ≡ devsOf m t .con s y
 
@@ -193,8 +194,8 @@ unfoldable pub flatForm : Bytes → Bytes → Bytes
 flatForm file buffer = let w = flatten file buffer in take (w .written) (w .buffer)
 
 -- "a single claim about the whole list of calls": for every list of start, advance and reading calls, refused ones included, whatever the
--- times, bags, positions, lent traces and first bytes of the run buffer, an accepted model and its flat form give the same answers and
--- refusals in the same order, the same bytes in each lent trace and in the whole run buffer, and these are those that demands 1 and 2
+-- times, bags, positions, lent traces, lent tables and first bytes of the run buffer, an accepted model and its flat form give the same answers and
+-- refusals in the same order, the same bytes in each lent trace, each lent table and the whole run buffer, and these are those that demands 1 and 2
 -- name and those of the flat machine. The flat form is itself accepted and flattens to itself.
 pub record Alike (file flatFile : Bytes) : Type 0 where
   pub accepts : checkModel flatFile ≡ 0
@@ -212,8 +213,8 @@ Demand3 = (file buffer : Bytes) → AllBytes file → flatten file buffer .numbe
 
 -- ---- what the C header says besides
 
--- The answer of a call that goes on after another: both together are what one call answers whose trace is the first call's records and
--- then the second's trace.
+-- The answer of a call that goes on after another, lent the table that the first one left: both together are what one call answers whose
+-- trace is the first call's records and then the second's trace.
 pub record Together (a b one : Advanced) : Type 0 where
   pub number : one .number ≡ b .number
   pub instants : one .instants ≡ a .instants + b .instants
@@ -221,22 +222,24 @@ pub record Together (a b one : Advanced) : Type 0 where
   pub used : one .used ≡ a .used + b .used
   pub run : one .run ≡ b .run
   pub trace : one .trace ≡ take (a .used) (a .trace) ++ b .trace
+  pub table : one .table ≡ b .table
 
 pub record Header : Type 0 where
-  -- PDEVS_MAX_MODEL and PDEVS_MAX_RUN suffice for every model, flat ones too.
+  -- PDEVS_MAX_MODEL, PDEVS_MAX_RUN and PDEVS_MAX_RULES_TABLE suffice for every model, flat ones too.
   pub model-length : (file : Bytes) (m : Model) → AllBytes file → accepted file ≡ ok m
       → (length file ≤ longestModel) × (length (modelBytes (flat m)) ≤ longestModel)
   pub run-length : (file : Bytes) (m : Model) → AllBytes file → accepted file ≡ ok m → runLength (atomicCount m) ≤ longestRun
+  pub table-length : (file : Bytes) (m : Model) → AllBytes file → accepted file ≡ ok m → positionSize * atomicCount m ≤ longestTable
   -- After 15 the same call, with the trace anew, goes on where this one stopped.
-  pub resumes : (file run : Bytes) (t : ℕ) (bag trace anew : Bytes) (m : Model) → AllBytes file → accepted file ≡ ok m
-      → advance file run t bag trace .number ≡ 15
-      → Together (advance file run t bag trace) (advance file (advance file run t bag trace .run) t bag anew)
-      (advance file run t bag (take (advance file run t bag trace .used) (advance file run t bag trace .trace) ++ anew))
+  pub resumes : (file run : Bytes) (t : ℕ) (bag trace table anew : Bytes) (m : Model) → AllBytes file → accepted file ≡ ok m
+      → advance file run t bag trace table .number ≡ 15
+      → (let a = advance file run t bag trace table in
+      Together a (advance file (a .run) t bag anew (a .table)) (advance file run t bag (take (a .used) (a .trace) ++ anew) table))
   -- Where it did no instant, the next one needs a longer trace.
-  pub needs-longer : (file run : Bytes) (t : ℕ) (bag trace anew : Bytes) (m : Model) → AllBytes file → AllBytes run → accepted file ≡ ok m
-      → advance file run t bag trace .number ≡ 15 → advance file run t bag trace .instants ≡ 0 → length anew ≤ length trace
-      → advance file run t bag anew ≡ refusedAdvance 15 run anew
-  -- After 13 and 14 the same call is refused so again, whatever its trace.
-  pub refused-again : (file run : Bytes) (t : ℕ) (bag trace anew : Bytes) (n : ℕ) (m : Model) → AllBytes file → accepted file ≡ ok m
-      → (n ≡ 13) ⊎ (n ≡ 14) → advance file run t bag trace .number ≡ n
-      → advance file (advance file run t bag trace .run) t bag anew ≡ refusedAdvance n (advance file run t bag trace .run) anew
+  pub needs-longer : (file run : Bytes) (t : ℕ) (bag trace table anew lent : Bytes) (m : Model) → AllBytes file → AllBytes run → accepted file ≡ ok m
+      → advance file run t bag trace table .number ≡ 15 → advance file run t bag trace table .instants ≡ 0 → length anew ≤ length trace
+      → advance file run t bag anew lent ≡ refusedAdvance 15 run anew lent
+  -- After 13 and 14 the same call is refused so again, whatever its trace and its table.
+  pub refused-again : (file run : Bytes) (t : ℕ) (bag trace table anew lent : Bytes) (n : ℕ) (m : Model) → AllBytes file → accepted file ≡ ok m
+      → (n ≡ 13) ⊎ (n ≡ 14) → advance file run t bag trace table .number ≡ n
+      → advance file (advance file run t bag trace table .run) t bag anew lent ≡ refusedAdvance n (advance file run t bag trace table .run) anew lent

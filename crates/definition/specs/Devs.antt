@@ -1,5 +1,5 @@
--- Parallel DEVS as source document 001 has it: a model, the resultant of a coupled model, and a transition at a moment.
--- Assumes nothing.
+-- Parallel DEVS as source document 001 has it: a model, the resultant of a coupled model, and a transition at a moment. Each transition
+-- answers a new state and, by request (ii) of document 02, what decided in it. Assumes nothing.
 use Prim.Native.Nat.{ℕ, _+_, _-_, min}
 use mathlib.Core.List.{List, [], _∷_, _++_}
 use mathlib.Core.Bool.{Bool, true, false, _&&_, cond}
@@ -40,15 +40,27 @@ unfoldable pub ticks : Time → ℕ
 ticks (finite a) = a
 ticks never = 0
 
+-- ---- what a transition answers
+
+-- What decided the external part of an atomic: the rule's "position in the file, counted in rules from 0, or 65,535 for none".
+pub record Decided : Type 0 where
+  pub atomic : ℕ
+  pub position : ℕ
+
+-- The new state, and what decided in the transition: "each transition passes it up".
+pub record After (S : Type 0) : Type 0 where
+  pub state : S
+  pub decided : List Decided
+
 -- ---- the formalism: S, ta, λ, δ_int, δ_ext, δ_con
 
 pub record Devs : Type 1 where
   pub State : Type 0
   pub ta : State → Time
   pub out : State → Bag
-  pub int : State → State
-  pub ext : State → ℕ → Bag → State
-  pub con : State → Bag → State
+  pub int : State → After State
+  pub ext : State → ℕ → Bag → After State
+  pub con : State → Bag → After State
 
 -- ---- the coupled model: components d with their models M_d, and couplings
 
@@ -88,17 +100,24 @@ outputsTo ks to t (d ∷ ds) s =
     let mine = translate ks (d .name) to (d .model .out (s .0 .0)) in
     cond (sameTime (sigma (d .model) (s .0)) t) mine [] ++ outputsTo ks to t ds (s .1)
 
--- (s'_d, e'_d) after a time e: for d in INT, in CONF, in UN, in EXT, as it is imminent or not and its input x_d is empty or not.
-unfoldable pub changed : (d : Devs) → Bool → Bag → ℕ → d .State × ℕ → d .State × ℕ
-changed d true [] e s = (d .int (s .0), 0)
-changed d true (x ∷ xs) e s = (d .con (s .0) (x ∷ xs), 0)
-changed d false [] e s = (s .0, s .1 + e)
-changed d false (x ∷ xs) e s = (d .ext (s .0) (s .1 + e) (x ∷ xs), 0)
+-- The elapsed time of a component begins anew with its transition.
+unfoldable pub anew : {S : Type 0} → After S → After (S × ℕ)
+anew r = record { state = (r .state, 0); decided = r .decided }
 
-unfoldable pub changedAll : (Time → Bool) → (ℕ → Bag) → ℕ → (ds : List Part) → Totals ds → Totals ds
-changedAll imminent input e [] s = s
+-- (s'_d, e'_d) after a time e: for d in INT, in CONF, in UN, in EXT, as it is imminent or not and its input x_d is empty or not.
+unfoldable pub changed : (d : Devs) → Bool → Bag → ℕ → d .State × ℕ → After (d .State × ℕ)
+changed d true [] e s = anew (d .int (s .0))
+changed d true (x ∷ xs) e s = anew (d .con (s .0) (x ∷ xs))
+changed d false [] e s = record { state = (s .0, s .1 + e); decided = [] }
+changed d false (x ∷ xs) e s = anew (d .ext (s .0) (s .1 + e) (x ∷ xs))
+
+-- All components; what they pass up, the coupled model passes up.
+unfoldable pub changedAll : (Time → Bool) → (ℕ → Bag) → ℕ → (ds : List Part) → Totals ds → After (Totals ds)
+changedAll imminent input e [] s = record { state = s; decided = [] }
 changedAll imminent input e (d ∷ ds) s =
-    (changed (d .model) (imminent (sigma (d .model) (s .0))) (input (d .name)) e (s .0), changedAll imminent input e ds (s .1))
+    let r = changed (d .model) (imminent (sigma (d .model) (s .0))) (input (d .name)) e (s .0) in
+    let rest = changedAll imminent input e ds (s .1) in
+    record { state = (r .state, rest .state); decided = r .decided ++ rest .decided }
 
 -- The resultant of the coupled model n with components ds.
 module _ (ks : List Coupling) (n : ℕ) (ds : List Part) where
@@ -106,17 +125,17 @@ module _ (ks : List Coupling) (n : ℕ) (ds : List Part) where
   resultantOut s = outputsTo ks n (leastSigma ds s) ds s
 
   -- x_d = { Z_{i,d}(λ_i(s_i)) | i ∈ IMM(s) }
-  unfoldable pub resultantInt : Totals ds → Totals ds
+  unfoldable pub resultantInt : Totals ds → After (Totals ds)
   resultantInt s =
       let t = leastSigma ds s in
       changedAll (λ u. sameTime u t) (λ d. outputsTo ks d t ds s) (ticks t) ds s
 
   -- x_d = { Z_{N,d}(x) | x ∈ x^b }
-  unfoldable pub resultantExt : Totals ds → ℕ → Bag → Totals ds
+  unfoldable pub resultantExt : Totals ds → ℕ → Bag → After (Totals ds)
   resultantExt s e x = changedAll (λ u. false) (λ d. translate ks n d x) e ds s
 
   -- x_d = { Z_{i,d}(λ_i(s_i)) | i ∈ IMM(s) } ∪ { Z_{N,d}(x) | x ∈ x^b }
-  unfoldable pub resultantCon : Totals ds → Bag → Totals ds
+  unfoldable pub resultantCon : Totals ds → Bag → After (Totals ds)
   resultantCon s x =
       let t = leastSigma ds s in
       changedAll (λ u. sameTime u t) (λ d. outputsTo ks d t ds s ++ translate ks n d x) (ticks t) ds s
@@ -132,16 +151,16 @@ pub record Since (d : Devs) : Type 0 where
   pub event : ℕ
 
 -- The output, and the one of the three transitions that document 001 names, an elapsed time e after the last event.
-unfoldable pub transition : (d : Devs) → Bool → ℕ → Bag → d .State → Bag × d .State
+unfoldable pub transition : (d : Devs) → Bool → ℕ → Bag → d .State → Bag × After (d .State)
 transition d true e [] s = (d .out s, d .int s)
 transition d true e (x ∷ xs) s = (d .out s, d .con s (x ∷ xs))
 transition d false e x s = ([], d .ext s e x)
 
-unfoldable pub devsStep : (d : Devs) → ℕ → Bag → Since d → Bag × Since d
+unfoldable pub devsStep : (d : Devs) → ℕ → Bag → Since d → Bag × After (Since d)
 devsStep d now x q =
     let e = now - q .event in
     let r = transition d (sameTime (d .ta (q .state)) (finite e)) e x (q .state) in
-    (r .0, record { state = r .1; event = now })
+    (r .0, record { state = record { state = r .1 .state; event = now }; decided = r .1 .decided })
 
 -- The moment at which the model is due.
 unfoldable pub devsDue : (d : Devs) → Since d → Time

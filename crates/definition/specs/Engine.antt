@@ -5,16 +5,16 @@ use mathlib.Core.List.{List, map}
 use mathlib.Core.Bool.{Bool, _&&_, _||_, not, cond}
 use lib.Dec.{leb, ltb, eqb}
 use lib.ListN.{length, getD}
-use Rattle.definition.specs.Lists.{all}
-use Rattle.definition.specs.Bytes.{Bytes, Result, ok, refused, _>>=_, refuseIf, chunks, stored}
-use Rattle.definition.specs.Limits.{messageSize, maxGiven, maxMoment, neverMoment}
+use Rattle.definition.specs.Lists.{concat, all}
+use Rattle.definition.specs.Bytes.{Bytes, Result, ok, refused, _>>=_, refuseIf, bytesOf, chunks, stored}
+use Rattle.definition.specs.Limits.{messageSize, maxGiven, maxMoment, neverMoment, positionSize}
 use Rattle.definition.specs.Model.{Bag, Model, componentAt, atomics}
 use Rattle.definition.specs.Records.{messageAt, portFits}
 use Rattle.definition.specs.Pinned.Decoder.{accepted}
 use Rattle.definition.specs.Devs.{Time, finite, never}
 use Rattle.definition.specs.SavedRun.{Entry, Run, noEntry, atomicCount, runOf, runBytes, nextDue, runFits}
 use Rattle.definition.specs.Step.{nested}
-use Rattle.definition.specs.Advance.{Ended, advanceFrom}
+use Rattle.definition.specs.Advance.{Progress, Ended, advanceFrom}
 
 -- ---- what a call answers
 
@@ -32,6 +32,7 @@ pub record Advanced : Type 0 where
   pub used : ℕ
   pub run : Bytes
   pub trace : Bytes
+  pub table : Bytes
 
 -- "Reading gives phase, last moment, and the whole model's next due moment"
 pub record WasRead : Type 0 where
@@ -75,10 +76,19 @@ advanceChecks m run t bag = do
   _ ← refuseIf (ltb t (runOf m run .opening) || ltb maxMoment t) 11
   refuseIf (not (bagFits bag)) 12
 
+-- "After an advance a lent table holds, for each atomic in file order, the rule of its last external part in the last instant done": "two
+-- bytes an atomic".
+unfoldable pub tableBytes : List ℕ → Bytes
+tableBytes rules = concat (map (bytesOf positionSize) rules)
+
+-- "If no instant was done, or the table has under two bytes an atomic, the table stays untouched; bytes past its entries always stay."
+unfoldable pub withRules : {S : Type 0} → (atomicNumber : ℕ) → Progress S → Bytes → Bytes
+withRules n p table = cond (eqb (p .instants) 0 || ltb (length table) (positionSize * n)) table (stored (tableBytes (p .rules)) table)
+
 -- The buffers with what was written at their fronts; "Bytes past that length stay."
-unfoldable pub advanced : Bytes → Bytes → Result (Ended (List Entry)) → Advanced
-advanced run trace (refused n) = record { number = n; instants = 0; steps = 0; used = 0; run = run; trace = trace }
-advanced run trace (ok a) =
+unfoldable pub advanced : Bytes → Bytes → Bytes → Result (Ended (List Entry)) → Advanced
+advanced run trace table (refused n) = record { number = n; instants = 0; steps = 0; used = 0; run = run; trace = trace; table = table }
+advanced run trace table (ok a) =
     let p = a .progress in
     record {
       number = a .number;
@@ -87,10 +97,11 @@ advanced run trace (ok a) =
       used = length (p .trace);
       run = stored (runBytes (record { opening = p .opening; entries = p .state })) run;
       trace = stored (p .trace) trace;
+      table = withRules (length (p .state)) p table;
     }
 
-unfoldable pub advance : Bytes → Bytes → ℕ → Bytes → Bytes → Advanced
-advance file run t bag trace = advanced run trace (do
+unfoldable pub advance : Bytes → Bytes → ℕ → Bytes → Bytes → Bytes → Advanced
+advance file run t bag trace table = advanced run trace table (do
   m ← accepted file
   _ ← advanceChecks m run t bag
   ok (advanceFrom (nested m) (length trace) t (toBag bag) (runOf m run .opening) (runOf m run .entries)))

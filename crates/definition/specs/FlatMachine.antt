@@ -1,9 +1,9 @@
 -- The flat machine, from its own section of document 01, with its own steps, instants, trace records and loop over the instants. It
--- shares with the engine: the model and its acceptance; the lines for one atomic (its output, advance and next phase, its deciding rule, when
--- it is due); times and limits; the bytes of a message, of a saved run and of a given bag; the run that start writes;
--- the checks of a call's arguments; what a refused call answers, what a writer writes and what a reading shows of an entry.
+-- shares with the engine: the model and its acceptance; the lines for one atomic (its output, advance and next phase, its deciding rule and
+-- how its position is told, when it is due); times and limits; the bytes of a message, of a saved run and of a given bag; the run that
+-- start writes; the checks of a call's arguments; what a refused call answers, what a writer writes and what a reading shows of an entry.
 -- Assumes nothing.
-use Prim.Native.Nat.{ℕ, zero, suc, _+_, _-_}
+use Prim.Native.Nat.{ℕ, zero, suc, _+_, _*_, _-_}
 use mathlib.Core.List.{List, [], _∷_, _++_, map}
 use mathlib.Core.Option.{Option, none, some}
 use mathlib.Core.Bool.{Bool, true, false, _&&_, _||_, not, cond}
@@ -11,17 +11,21 @@ use lib.Dec.{leb, ltb, eqb}
 use lib.ListN.{length, take, drop, getD}
 use Rattle.definition.specs.Lists.{concat, all, isEmpty}
 use Rattle.definition.specs.Bytes.{Bytes, Result, ok, refused, _>>=_, bytesOf, stored}
-use Rattle.definition.specs.Limits.{maxSteps, maxRootBag}
+use Rattle.definition.specs.Limits.{maxSteps, maxRootBag, noPosition, positionSize}
 use Rattle.definition.specs.Model.{Message, Bag, Rule, Coupling, Model, noRule, componentAt, atomics, phaseAt, outputs}
 use Rattle.definition.specs.Records.{messageBytes}
 use Rattle.definition.specs.Pinned.Decoder.{accepted}
 use Rattle.definition.specs.Devs.{Time, finite, never, earlier, sameTime, ticks}
-use Rattle.definition.specs.Atomic.{advanceOf, nextPhase, ruleFor}
+use Rattle.definition.specs.Atomic.{toldAs, advanceOf, nextPhase, ruleFor}
 use Rattle.definition.specs.SavedRun.{Entry, runBytes, runOf, dueOf}
-use Rattle.definition.specs.Step.{Stepped}
 use Rattle.definition.specs.Engine.{Wrote, wrote, startRun, Advanced, advanceChecks, toBag, WasRead, wasRead, readingChecks, readAt}
 
 -- ---- a step
+
+-- "a copy of the state": the entries, and beside each the rule of its last external part at this moment, by its position.
+pub record Copy : Type 0 where
+  pub entries : List Entry
+  pub rules : List ℕ
 
 -- A message and the component that it leaves.
 pub record Sent : Type 0 where
@@ -46,6 +50,11 @@ module _ (m : Model) (c : ℕ) where
   bothParts p x =
       cond (eqb (componentAt (m .components) c .order) 0)
       (externalPart (nextPhase m c p) 0 x) (nextPhase m c (externalPart p (ticks (advanceOf m c p)) x))
+
+  -- The rule of the external part among the two.
+  unfoldable pub ruleOfBoth : ℕ → Bag → Option ℕ
+  ruleOfBoth p x =
+      cond (eqb (componentAt (m .components) c .order) 0) (ruleFor m c (nextPhase m c p) 0 x) (ruleFor m c p (ticks (advanceOf m c p)) x)
 
 module _ (m : Model) (now : ℕ) where
   unfoldable pub dueNow : ℕ → Entry → Bool
@@ -86,11 +95,24 @@ module _ (m : Model) (now : ℕ) where
   movedAll xs (c ∷ cs) [] = []
   movedAll xs (c ∷ cs) (r ∷ rs) = moved c (dueNow c r) (arriving c xs) r ∷ movedAll xs cs rs
 
+  -- An external or confluent transition puts the rule's position anew; an internal one, or none, leaves it.
+  unfoldable pub ruleAfter : ℕ → Bool → Bag → Entry → ℕ → ℕ
+  ruleAfter c b [] r i = i
+  ruleAfter c true (x ∷ xs) r i = toldAs (ruleOfBoth m c (r .phase) (x ∷ xs))
+  ruleAfter c false (x ∷ xs) r i = toldAs (ruleFor m c (r .phase) (now - r .last) (x ∷ xs))
+
+  unfoldable pub rulesAfter : List Sent → List ℕ → List Entry → List ℕ → List ℕ
+  rulesAfter xs [] rs is = []
+  rulesAfter xs (c ∷ cs) [] is = []
+  rulesAfter xs (c ∷ cs) (r ∷ rs) [] = []
+  rulesAfter xs (c ∷ cs) (r ∷ rs) (i ∷ is) = ruleAfter c (dueNow c r) (arriving c xs) r i ∷ rulesAfter xs cs rs is
+
   -- "What reaches an atomic is its bag; what reaches the root is the root's output bag."
-  unfoldable pub flatStep : Bag → List Entry → Stepped (List Entry)
-  flatStep x rs =
-      let xs = sent 0 x ++ putOut (atomics (m .components)) rs in
-      record { out = arriving 0 xs; state = movedAll xs (atomics (m .components)) rs }
+  unfoldable pub flatStep : Bag → Copy → Bag × Copy
+  flatStep x k =
+      let cs = atomics (m .components) in
+      let xs = sent 0 x ++ putOut cs (k .entries) in
+      (arriving 0 xs, record { entries = movedAll xs cs (k .entries); rules = rulesAfter xs cs (k .entries) (k .rules) })
 
   -- Some atomic is due now.
   unfoldable pub anyDue : List ℕ → List Entry → Bool
@@ -98,13 +120,13 @@ module _ (m : Model) (now : ℕ) where
   anyDue (c ∷ cs) [] = false
   anyDue (c ∷ cs) (r ∷ rs) = dueNow c r || anyDue cs rs
 
-  -- "Steps follow while something is due there": the root bags of at most n steps, and the entries after them.
-  unfoldable pub takeSteps : ℕ → Bag → List Entry → List Bag × List Entry
-  takeSteps zero x rs = ([], rs)
-  takeSteps (suc n) x rs =
-      let r = flatStep x rs in
-      let rest = takeSteps n [] (r .state) in
-      cond (anyDue (atomics (m .components)) rs || not (isEmpty x)) (r .out ∷ rest .0, rest .1) ([], rs)
+  -- "Steps follow while something is due there": the root bags of at most n steps, and the copy after them.
+  unfoldable pub takeSteps : ℕ → Bag → Copy → List Bag × Copy
+  takeSteps zero x k = ([], k)
+  takeSteps (suc n) x k =
+      let r = flatStep x k in
+      let rest = takeSteps n [] (r .1) in
+      cond (anyDue (atomics (m .components)) (k .entries) || not (isEmpty x)) (r .0 ∷ rest .0, rest .1) ([], k)
 
 -- The earliest moment at which an atomic is due.
 unfoldable pub firstDue : Model → List ℕ → List Entry → Time
@@ -138,10 +160,11 @@ recorded now k (x ∷ xs) =
 
 -- ---- advance
 
--- The state is the run buffer's bytes; beside it the lent trace and the counts of the instants that stand.
+-- The state is the run buffer's bytes; beside it the lent trace, the lent table of rules and the counts of the instants that stand.
 pub record Stage : Type 0 where
   pub state : Bytes
   pub trace : Bytes
+  pub table : Bytes
   pub instants : ℕ
   pub steps : ℕ
   pub used : ℕ
@@ -149,35 +172,45 @@ pub record Stage : Type 0 where
 unfoldable pub entriesIn : Model → Stage → List Entry
 entriesIn m g = runOf m (g .state) .entries
 
+-- The rules of an instant that stands go over those of the instant before, if the table has at least two bytes an atomic.
+unfoldable pub tableWith : List ℕ → Bytes → Bytes
+tableWith is table = cond (ltb (length table) (positionSize * length is)) table (stored (concat (map (bytesOf positionSize) is)) table)
+
 -- "otherwise the copy is the new state and the records are written on in the lent trace"
-unfoldable pub standing : ℕ → Stage → List Bag × List Entry → Stage
+unfoldable pub standing : ℕ → Stage → List Bag × Copy → Stage
 standing now g c =
     let new = recorded now 0 (c .0) in
     record {
-      state = stored (runBytes (record { opening = suc now; entries = c .1 })) (g .state);
+      state = stored (runBytes (record { opening = suc now; entries = c .1 .entries })) (g .state);
       trace = take (g .used) (g .trace) ++ new ++ drop (g .used + length new) (g .trace);
+      table = tableWith (c .1 .rules) (g .table);
       instants = suc (g .instants);
       steps = g .steps + length (c .0);
       used = g .used + length new;
     }
 
 -- A number from the row "each instant" "drops the copy with its records and ends the call".
-unfoldable pub verdictOn : Model → ℕ → Stage → List Bag × List Entry → Result Stage
+unfoldable pub verdictOn : Model → ℕ → Stage → List Bag × Copy → Result Stage
 verdictOn m now g c =
-    cond (anyDue m now (atomics (m .components)) (c .1)) (refused 13)
+    cond (anyDue m now (atomics (m .components)) (c .1 .entries)) (refused 13)
     (cond (isEmpty (c .0)) (ok g)
     (cond (not (all (λ x. leb (length x) maxRootBag) (c .0))) (refused 14)
     (cond (ltb (length (g .trace)) (g .used + length (recorded now 0 (c .0)))) (refused 15) (ok (standing now g c)))))
 
+-- The copy at the beginning of an instant: no atomic has had an external part.
+unfoldable pub copied : List Entry → Copy
+copied rs = record { entries = rs; rules = map (λ _. noPosition) rs }
+
 -- The instant at `now`, "on a copy of the state".
 unfoldable pub attempt : Model → ℕ → Bag → Stage → Result Stage
-attempt m now x g = verdictOn m now g (takeSteps m now maxSteps x (entriesIn m g))
+attempt m now x g = verdictOn m now g (takeSteps m now maxSteps x (copied (entriesIn m g)))
 
 -- "the open moment moves as above": one past t on success.
 unfoldable pub openedPast : Model → ℕ → Stage → Stage
 openedPast m t g = record {
   state = stored (runBytes (record { opening = suc t; entries = entriesIn m g })) (g .state);
   trace = g .trace;
+  table = g .table;
   instants = g .instants;
   steps = g .steps;
   used = g .used;
@@ -203,17 +236,17 @@ module _ (m : Model) (t : ℕ) (given : Bag) where
 
 -- "The answer counts the instants that stand, their steps and their trace bytes"; a call refused before any instant "gets that
 -- number, with zeros, and changes nothing".
-unfoldable pub answered : Bytes → Bytes → Result (ℕ × Stage) → Advanced
-answered run trace (refused n) = record { number = n; instants = 0; steps = 0; used = 0; run = run; trace = trace }
-answered run trace (ok r) =
+unfoldable pub answered : Bytes → Bytes → Bytes → Result (ℕ × Stage) → Advanced
+answered run trace table (refused n) = record { number = n; instants = 0; steps = 0; used = 0; run = run; trace = trace; table = table }
+answered run trace table (ok r) =
     let g = r .1 in
-    record { number = r .0; instants = g .instants; steps = g .steps; used = g .used; run = g .state; trace = g .trace }
+    record { number = r .0; instants = g .instants; steps = g .steps; used = g .used; run = g .state; trace = g .trace; table = g .table }
 
-unfoldable pub flatAdvance : Bytes → Bytes → ℕ → Bytes → Bytes → Advanced
-flatAdvance file run t bag trace = answered run trace (do
+unfoldable pub flatAdvance : Bytes → Bytes → ℕ → Bytes → Bytes → Bytes → Advanced
+flatAdvance file run t bag trace table = answered run trace table (do
   m ← accepted file
   _ ← advanceChecks m run t bag
-  ok (inTurn m t (toBag bag) (suc t) (record { state = run; trace = trace; instants = 0; steps = 0; used = 0 })))
+  ok (inTurn m t (toBag bag) (suc t) (record { state = run; trace = trace; table = table; instants = 0; steps = 0; used = 0 })))
 
 -- ---- start and reading
 

@@ -1,6 +1,8 @@
--- An instant, all steps at one moment, and the trace records of its steps; over anything that takes steps. Assumes nothing.
+-- An instant, all steps at one moment, the trace records of its steps and the rules that decided in it; over anything that takes steps.
+-- Assumes nothing.
 use Prim.Native.Nat.{ℕ, zero, suc}
 use mathlib.Core.List.{List, [], _∷_, _++_, map}
+use mathlib.Core.Option.{Option, none, some}
 use mathlib.Core.Bool.{Bool, _||_, not, cond}
 use lib.Dec.{leb}
 use lib.ListN.{length}
@@ -10,16 +12,17 @@ use Rattle.definition.specs.Limits.{maxSteps, maxRootBag}
 use Rattle.definition.specs.Model.{Bag, messageLe}
 use Rattle.definition.specs.Records.{messageBytes}
 use Rattle.definition.specs.Devs.{finite, sameTime}
-use Rattle.definition.specs.Step.{Simulator}
+use Rattle.definition.specs.Atomic.{toldAs}
+use Rattle.definition.specs.Step.{Output, Simulator}
 
 -- ---- steps
 
--- What an instant leaves: the root's output bags of its steps in turn and the state, or something still due after all steps.
+-- What an instant leaves: what its steps gave in turn and the state, or something still due after all steps.
 pub data Instant (S : Type 0) : Type 0 where
-  done : List Bag → S → Instant S
+  done : List Output → S → Instant S
   jammed : Instant S
 
-unfoldable pub stepped : {S : Type 0} → Bag → Instant S → Instant S
+unfoldable pub stepped : {S : Type 0} → Output → Instant S → Instant S
 stepped x (done xs s) = done (x ∷ xs) s
 stepped x jammed = jammed
 
@@ -43,8 +46,8 @@ module _ {S : Type 0} (k : Simulator S) where
   instant now x s = stepsAt maxSteps now x s
 
 -- "a step's root bag over 4,096 messages"
-unfoldable pub over : List Bag → Bool
-over xs = not (all (λ x. leb (length x) maxRootBag) xs)
+unfoldable pub over : List Output → Bool
+over xs = not (all (λ x. leb (length (x .bag)) maxRootBag) xs)
 
 -- ---- trace records
 
@@ -63,12 +66,32 @@ traceBytes rs = concat (map recordBytes rs)
 
 -- "A trace record stands for each step with output at the root", its bag "in rising order of port, then value, equal ones repeated":
 -- the records of the steps from step k on.
-unfoldable pub recordsFrom : ℕ → ℕ → List Bag → List TraceRecord
+unfoldable pub recordsFrom : ℕ → ℕ → List Output → List TraceRecord
 recordsFrom now k [] = []
 recordsFrom now k (x ∷ xs) =
     let rest = recordsFrom now (suc k) xs in
-    cond (isEmpty x) rest (record { moment = now; step = k; messages = sortBy messageLe x } ∷ rest)
+    cond (isEmpty (x .bag)) rest (record { moment = now; step = k; messages = sortBy messageLe (x .bag) } ∷ rest)
 
 -- The bytes of an instant's records.
-unfoldable pub instantTrace : ℕ → List Bag → Bytes
+unfoldable pub instantTrace : ℕ → List Output → Bytes
 instantTrace now xs = traceBytes (recordsFrom now 0 xs)
+
+-- ---- the rules that decided
+
+-- "the rule of its last external part": of two steps in turn the later one's, where the atomic has an external part in it.
+unfoldable pub lastPart : Option ℕ → Option ℕ → Option ℕ
+lastPart before none = before
+lastPart before (some i) = some i
+
+unfoldable pub lastParts : List (Option ℕ) → List (Option ℕ) → List (Option ℕ)
+lastParts [] qs = qs
+lastParts (p ∷ ps) [] = p ∷ ps
+lastParts (p ∷ ps) (q ∷ qs) = lastPart p q ∷ lastParts ps qs
+
+-- Of all steps of an instant; "with 65,535 if it had none".
+unfoldable pub instantParts : List Output → List (Option ℕ)
+instantParts [] = []
+instantParts (x ∷ xs) = lastParts (x .decided) (instantParts xs)
+
+unfoldable pub instantRules : List Output → List ℕ
+instantRules xs = map toldAs (instantParts xs)

@@ -24,3 +24,4 @@ pub mod AdvanceRelation
 pub mod Carrying
 pub mod Demands
 pub mod StrayCue
+pub mod DecidedRules

@@ -89,6 +89,13 @@ maxRootBag = 4096
 abbrev pub neverMoment : ℕ
 neverMoment = 18446744073709551615
 
+-- A rule's position, "counted in rules from 0, or 65,535 for none", and its bytes: "two bytes an atomic"
+abbrev pub noPosition : ℕ
+noPosition = 65535
+
+abbrev pub positionSize : ℕ
+positionSize = 2
+
 -- ---- lengths that suffice for every model
 -- The longest model file: four counts, 64 components, 512 phases, 1,024 rules, 1,024 couplings.
 abbrev pub longestModel : ℕ
@@ -97,3 +104,7 @@ longestModel = 32072
 -- The longest saved run: that of 63 atomics.
 abbrev pub longestRun : ℕ
 longestRun = 577
+
+-- The longest table of deciding rules: that of 63 atomics.
+abbrev pub longestTable : ℕ
+longestTable = 126

@@ -2,16 +2,22 @@
 -- back. Assumes nothing.
 use Prim.Native.Nat.{ℕ, _+_, _-_}
 use mathlib.Core.List.{List, [], _∷_, _++_, map}
+use mathlib.Core.Option.{Option, none, some}
 use mathlib.Core.Bool.{cond}
 use lib.Dec.{eqb}
 use Rattle.definition.specs.Model.{Bag, Model, atomics, Tree, Forest, leaf, node, stop, more, tree}
-use Rattle.definition.specs.Devs.{Time, Totals, devsStep}
+use Rattle.definition.specs.Devs.{Time, Decided, Totals, devsStep}
 use Rattle.definition.specs.Atomic.{unspent, devsOf, partsOf}
 use Rattle.definition.specs.SavedRun.{Entry, noEntry, entryOf, nextDue}
 
+-- What a step gives: the root's output bag, and for each atomic in file order what decided its external part, none where it had no such part.
+pub record Output : Type 0 where
+  pub bag : Bag
+  pub decided : List (Option ℕ)
+
 -- Something to run: when it is next due, and its step at a moment with a bag.
 pub record Stepped (S : Type 0) : Type 0 where
-  pub out : Bag
+  pub out : Output
   pub state : S
 
 pub record Simulator (S : Type 0) : Type 0 where
@@ -53,12 +59,20 @@ assoc (x ∷ xs) c = cond (eqb (x .0) c) (x .1) (assoc xs c)
 unfoldable pub unload : (m : Model) (now : ℕ) (t : Tree) → devsOf m t .State → List Entry
 unload m now t s = map (assoc (leavesOf m now 0 t s)) (atomics (m .components))
 
+-- What was passed up to the root from the atomic c, and from each in file order.
+unfoldable pub decidedOf : List Decided → ℕ → Option ℕ
+decidedOf [] c = none
+decidedOf (d ∷ ds) c = cond (eqb (d .atomic) c) (some (d .position)) (decidedOf ds c)
+
+unfoldable pub decidedInFileOrder : Model → List Decided → List (Option ℕ)
+decidedInFileOrder m ds = map (decidedOf ds) (atomics (m .components))
+
 -- ---- the step
 
 unfoldable pub stepOn : Model → Tree → ℕ → Bag → List Entry → Stepped (List Entry)
 stepOn m t now x rs =
     let r = devsStep (devsOf m t) now x (record { state = load m (entryOf m rs) now t; event = now }) in
-    record { out = r .0; state = unload m now t (r .1 .state) }
+    record { out = record { bag = r .0; decided = decidedInFileOrder m (r .1 .decided) }; state = unload m now t (r .1 .state .state) }
 
 unfoldable pub step : Model → ℕ → Bag → List Entry → Stepped (List Entry)
 step m now x rs = stepOn m (tree m) now x rs

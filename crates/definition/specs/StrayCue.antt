@@ -31,16 +31,16 @@ module _ (m : Model) (c now : ℕ) where
 pub record StrayCue : Type 0 where
   -- "where no rule holds, the external transition keeps both phase and last moment."
   pub keeps : (m : Model) (c now e : ℕ) (s : InPhase) (r : Entry) (x : Bag) → StandsAfter m c now e s r → DecidesFor m c now r x none
-      → StandsAfter m c now 0 (atomic m c .ext s e x) r
+      → StandsAfter m c now 0 (atomic m c .ext s e x .state) r
   -- So the hold is not lengthened: what was not due before now is due when it was.
   pub due-as-before : (m : Model) (c now e : ℕ) (s : InPhase) (r : Entry) (x : Bag) → StandsAfter m c now e s r → DecidesFor m c now r x none
-      → notBefore now (dueOf m c r) ≡ true → later now (atomic m c .ta (atomic m c .ext s e x)) ≡ dueOf m c r
+      → notBefore now (dueOf m c r) ≡ true → later now (atomic m c .ta (atomic m c .ext s e x .state)) ≡ dueOf m c r
   -- A rule sets the last moment, also where it leads into the same phase.
   pub follows : (m : Model) (c now e : ℕ) (s : InPhase) (r : Entry) (x : Bag) → StandsAfter m c now e s r → (i : ℕ) → DecidesFor m c now r x (some i)
-      → StandsAfter m c now 0 (atomic m c .ext s e x) (setAt now (getD (m .rules) i noRule .next))
+      → StandsAfter m c now 0 (atomic m c .ext s e x .state) (setAt now (getD (m .rules) i noRule .next))
   -- "A confluent transition still sets the last moment, whichever part had no rule."
   pub sets : (m : Model) (c now e : ℕ) (s : InPhase) (r : Entry) (x : Bag) → StandsAfter m c now e s r → dueNow m now c r ≡ true
-      → StandsAfter m c now 0 (atomic m c .con s x) (setAt now (bothParts m c (r .phase) x))
+      → StandsAfter m c now 0 (atomic m c .con s x .state) (setAt now (bothParts m c (r .phase) x))
   -- "nested and flat alike": the same of the flat machine, for a bag that has a message.
   pub flat-keeps : (m : Model) (c now : ℕ) (r : Entry) (y : Message) (x : Bag) → DecidesFor m c now r (y ∷ x) none → moved m now c false (y ∷ x) r ≡ r
   pub flat-follows : (m : Model) (c now : ℕ) (r : Entry) (y : Message) (x : Bag) (i : ℕ) → DecidesFor m c now r (y ∷ x) (some i)
