@@ -2,12 +2,13 @@
 use mathlib.Core.Path.{_≡_, refl, sym, ap, ap₂, _∙_}
 use Prim.Native.Nat.{ℕ, _+_}
 use mathlib.Core.List.{List, [], _∷_, _++_}
+use mathlib.Core.Option.{Option}
 use mathlib.Core.Bool.{Bool, true, false, cond}
 use native.Mathlib.Omega.{arith}
 use Rattle.definition.specs.Lists.{count, Same}
 use Rattle.definition.specs.Model.{Message, Bag, Coupling, Model, atomics, Tree, Forest, leaf, node, stop, more, nameOf}
 use Rattle.definition.specs.Routes.{endsIn}
-use Rattle.definition.specs.Devs.{Time, sameTime, ticks, Devs, Totals, translate, leastSigma, outputsTo, changed, changedAll, resultantExt, resultantCon}
+use Rattle.definition.specs.Devs.{Time, sameTime, ticks, Devs, Totals, translate, leastSigma, outputsTo, anew, changed, changedAll, resultantExt, resultantCon}
 use Rattle.definition.specs.Atomic.{devsOf, partsOf}
 use Rattle.definition.specs.SavedRun.{Entry, entryOf}
 use Rattle.definition.specs.Step.{nested}
@@ -19,9 +20,9 @@ use Rattle.law_nest.proofs.Pairs.{paired}
 use Rattle.law_nest.proofs.Components.{root}
 use Rattle.law_nest.proofs.Nest.{bagAt}
 use Rattle.law_nest.proofs.Paths.{hits, translate-sum, down-tree}
-use Rattle.law_nest.proofs.Leaves.{external-same, confluent-same, moved-same}
+use Rattle.law_nest.proofs.Leaves.{external-same, confluent-same, moved-same, part-of-same}
 use Rattle.law_nest.proofs.StepOf.{step-out}
-use Rattle.law_nest.proofs.Stepping.{ready, step-paired}
+use Rattle.law_nest.proofs.Stepping.{ready, step-paired, parts-paired}
 use Rattle.law_calls.proofs.SameBags.{empty-same}
 use Rattle.law_calls.proofs.Lift.{Agree}
 use Rattle.law_calls.proofs.Kept.{AtSame, BetweenSame, agree-entries}
@@ -43,8 +44,8 @@ part-order d e s ext con true [] [] h = refl
 part-order d e s ext con false [] [] h = refl
 part-order d e s ext con b [] (z ∷ y) h = absurd (let l = same-length [] (z ∷ y) h in omega arith)
 part-order d e s ext con b (z ∷ x) [] h = absurd (let l = same-length (z ∷ x) [] h in omega arith)
-part-order d e s ext con true (w ∷ x) (z ∷ y) h = ap (λ q. (q, 0)) (con (w ∷ x) (z ∷ y) h)
-part-order d e s ext con false (w ∷ x) (z ∷ y) h = ap (λ q. (q, 0)) (ext (s .1 + e) (w ∷ x) (z ∷ y) h)
+part-order d e s ext con true (w ∷ x) (z ∷ y) h = ap anew (con (w ∷ x) (z ∷ y) h)
+part-order d e s ext con false (w ∷ x) (z ∷ y) h = ap anew (ext (s .1 + e) (w ∷ x) (z ∷ y) h)
 
 mutual
   unfolding resultantExt resultantCon changedAll
@@ -64,7 +65,7 @@ mutual
       → changedAll imminent x e (partsOf m f) s ≡ changedAll imminent y e (partsOf m f) s
   parts-order m stop imminent x y e s h = refl
   parts-order m (more t f) imminent x y e s h =
-      ap₂ (λ a b. (a, b))
+      ap₂ (λ a b. record { state = (a .state, b .state); decided = a .decided ++ b .decided })
       (part-order (devsOf m t) e (s .0) (λ e x y h. external-order m t (s .0 .0) e x y h) (λ x y h. confluent-order m t (s .0 .0) x y h) _ (x (nameOf t)) (y (nameOf t)) (h (nameOf t)))
       (parts-order m f imminent x y e (s .1) h)
 
@@ -81,7 +82,13 @@ bag-order m at now c t x y s p =
 pub agree-order : (m : Model) (w : WellFormed m) → Agree (AtSame m w) (BetweenSame m w) Same (nested m) (nested m)
 agree-order m w =
     agree-entries m w Same (nested m) (λ p. refl) empty-same (λ now rs h. refl)
-    (λ now x y rs h s p. ap (count p) (step-out m w now x rs (ready m w now rs (h .0)) ∙ sym (step-out m w now y rs (ready m w now rs (h .0)))))
+    (λ now x y rs h s. (
+      λ p. ap (count p) (step-out m w now x rs (ready m w now rs (h .0)) ∙ sym (step-out m w now y rs (ready m w now rs (h .0)))),
+      parts-paired m w now rs (h .0) x
+          ∙ ap (λ (f : ℕ → Entry → Option ℕ). paired f (atomics (m .components)) rs)
+          (λ i c r. part-of-same m now c (dueNow m now c r) _ _ r (bag-order m (entryOf m rs) now c (root m) x y s) i)
+          ∙ sym (parts-paired m w now rs (h .0) y),
+    ))
     (λ now x y rs h s.
     step-paired m w now rs (h .0) x
     ∙ ap (λ (f : ℕ → Entry → Entry). paired f (atomics (m .components)) rs)

@@ -138,16 +138,16 @@ module _ (m : Model) (w : WellFormed m) where
         go cs (all-tail (isAtomic (m .components)) c cs h),
       )
 
-pub advance-fits : (file run : Bytes) (t : ℕ) (bag trace : Bytes) (m : Model) → AllBytes file → accepted file ≡ ok m → runFits m run ≡ true
-    → runFits m (advance file run t bag trace .run) ≡ true
+pub advance-fits : (file run : Bytes) (t : ℕ) (bag trace table : Bytes) (m : Model) → AllBytes file → accepted file ≡ ok m → runFits m run ≡ true
+    → runFits m (advance file run t bag trace table .run) ≡ true
 unfolding advance advanced stored
-advance-fits file run t bag trace m b e h = rw e (go (advanceChecks m run t bag) refl)
+advance-fits file run t bag trace table m b e h = rw e (go (advanceChecks m run t bag) refl)
   where
     w : WellFormed m
     w = accepted-sound file m b e .sound
 
     go : (r : Result (Unit {0})) → advanceChecks m run t bag ≡ r
-        → runFits m (advanced run trace (advanceChecks m run t bag >>= λ _. ok (advanceFrom (nested m) (length trace) t (toBag bag) (runOf m run .opening) (runOf m run .entries))) .run) ≡ true
+        → runFits m (advanced run trace table (advanceChecks m run t bag >>= λ _. ok (advanceFrom (nested m) (length trace) t (toBag bag) (runOf m run .opening) (runOf m run .entries))) .run) ≡ true
     go (refused n) f = rw f h
     go (ok u) f = let c = advance-ok m run t bag f in rw f (fit-written m w _ _ (advance-fit m w run t (length trace) (toBag bag) h (c .not-early) (c .not-late)) .0)
 

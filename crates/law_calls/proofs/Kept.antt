@@ -7,7 +7,7 @@ use mathlib.Core.Bool.{true, false, _&&_, _||_}
 use native.Mathlib.Omega.{arith}
 use lib.Dec.{ltb, eqb}
 use borrow.Author.Tests.{ltb-true, lt-ltb}
-use Rattle.definition.specs.Lists.{isEmpty, Same}
+use Rattle.definition.specs.Lists.{isEmpty}
 use Rattle.definition.specs.Model.{Bag, Model, componentAt, atomics}
 use Rattle.definition.specs.SavedRun.{Entry, notBefore, entryFits, nextDue}
 use Rattle.definition.specs.Step.{Simulator, step, nested}
@@ -19,6 +19,7 @@ use Rattle.law_nest.proofs.Pairs.{Pairs, pairs-if, pairs-both, pairs-paired}
 use Rattle.law_nest.proofs.Nest.{Fresh}
 use Rattle.law_nest.proofs.Stepping.{Good, step-paired, step-good, next-good, later-good, past-good}
 use Rattle.law_flat.proofs.Checks.{entry-fresh}
+use Rattle.law_calls.proofs.SameBags.{SameOutput}
 use Rattle.law_calls.proofs.Lift.{Agree}
 
 -- an atomic's entry, in a phase of its own
@@ -82,14 +83,14 @@ module _ (m : Model) (w : WellFormed m) where
   -- It agrees with the nest where one step does.
   pub agree-entries : (Fine : Bag → Bag → Type 0) (k : Simulator (List Entry)) → Fine [] [] → ((x y : Bag) → Fine x y → isEmpty x ≡ isEmpty y)
       → ((now : ℕ) (rs : List Entry) → Kept m now rs → nextDue m rs ≡ k .next rs)
-      → ((now : ℕ) (x y : Bag) (rs : List Entry) → Kept m now rs → Fine x y → Same (step m now x rs .out) (k .step now y rs .out))
+      → ((now : ℕ) (x y : Bag) (rs : List Entry) → Kept m now rs → Fine x y → SameOutput (step m now x rs .out) (k .step now y rs .out))
       → ((now : ℕ) (x y : Bag) (rs : List Entry) → Kept m now rs → Fine x y → step m now x rs .state ≡ k .step now y rs .state)
       → Agree AtSame BetweenSame Fine (nested m) k
   agree-entries Fine k none empty same-next same-out same-state = record {
     same-next = λ now rs qs h. same-next now rs (h .1) ∙ ap (k .next) (h .0);
     fine-none = none;
     fine-empty = empty;
-    same-out = λ now x y rs qs h f. subst (λ z. Same (step m now x rs .out) (k .step now y z .out)) (h .0) (same-out now x y rs (h .1) f);
+    same-out = λ now x y rs qs h f. subst (λ z. SameOutput (step m now x rs .out) (k .step now y z .out)) (h .0) (same-out now x y rs (h .1) f);
     steps = λ now x y rs qs h f. (same-state now x y rs (h .1) f ∙ ap (λ z. k .step now y z .state) (h .0), kept-step now x rs (h .1));
     early = λ o rs qs h. fit-early o rs (h .1);
     opens = λ o u rs qs h l e. (h .0, fit-opens o u rs (h .1) l e);

@@ -8,17 +8,17 @@ use native.Mathlib.Omega.{arith}
 use lib.Dec.{ltb}
 use lib.ListN.{length}
 use borrow.Author.Tests.{ltb-true, ltb-false, leb-true, le-leb}
-use Rattle.definition.specs.Lists.{isEmpty, Same}
+use Rattle.definition.specs.Lists.{isEmpty}
 use Rattle.definition.specs.Limits.{maxSteps}
 use Rattle.definition.specs.Bytes.{Result, ok, refused, refuseIf, _>>=_}
 use Rattle.definition.specs.Model.{Bag}
 use Rattle.definition.specs.Devs.{Time, finite, never, sameTime, ticks}
 use Rattle.definition.specs.SavedRun.{notBefore}
-use Rattle.definition.specs.Step.{Simulator}
+use Rattle.definition.specs.Step.{Output, Simulator}
 use Rattle.definition.specs.Instant.{Instant, done, jammed, stepped, isDue, goesOn, stepsAt, instant, over, instantTrace}
 use Rattle.definition.specs.Advance.{Progress, Ended, ended, tried, continued, succeeded, isBefore, advancing, advanceFrom}
 use Rattle.law_base.proofs.Tests.{clash}
-use Rattle.law_calls.proofs.SameBags.{SameAll, records-same, over-same, length-same}
+use Rattle.law_calls.proofs.SameBags.{SameOutput, SameAll, rules-same, records-same, over-same, length-same}
 
 -- ---- the next moment: where it lies before t, and where it does not
 
@@ -39,7 +39,7 @@ module _ {S₁ S₂ : Type 0} where
     pub same-next : (now : ℕ) (s : S₁) (q : S₂) → At now s q → k₁ .next s ≡ k₂ .next q
     pub fine-none : Fine [] []
     pub fine-empty : (x y : Bag) → Fine x y → isEmpty x ≡ isEmpty y
-    pub same-out : (now : ℕ) (x y : Bag) (s : S₁) (q : S₂) → At now s q → Fine x y → Same (k₁ .step now x s .out) (k₂ .step now y q .out)
+    pub same-out : (now : ℕ) (x y : Bag) (s : S₁) (q : S₂) → At now s q → Fine x y → SameOutput (k₁ .step now x s .out) (k₂ .step now y q .out)
     pub steps : (now : ℕ) (x y : Bag) (s : S₁) (q : S₂) → At now s q → Fine x y → At now (k₁ .step now x s .state) (k₂ .step now y q .state)
     -- nothing is due before the open moment
     pub early : (o : ℕ) (s : S₁) (q : S₂) → Between o s q → notBefore o (k₁ .next s) ≡ true
@@ -54,6 +54,7 @@ module _ {S₁ S₂ : Type 0} where
     pub instants : p .instants ≡ q .instants
     pub steps : p .steps ≡ q .steps
     pub trace : p .trace ≡ q .trace
+    pub rules : p .rules ≡ q .rules
 
   -- Two calls to t end alike.
   abbrev pub EndsAlike : (ℕ → S₁ → S₂ → Type 0) → ℕ → Ended S₁ → Ended S₂ → Type 0
@@ -73,7 +74,7 @@ module _ {S₁ S₂ : Type 0} where
     SameInstant now s₀ q₀ (done (x ∷ xs) s) (done (y ∷ ys) q) = SameAll (x ∷ xs) (y ∷ ys) × At now s q × (isDue k₁ now s ≡ false)
 
     -- a step before
-    same-stepped : (now : ℕ) (s₀ s₁ : S₁) (q₀ q₁ : S₂) (x y : Bag) (i : Instant S₁) (j : Instant S₂) → Same x y → SameInstant now s₁ q₁ i j
+    same-stepped : (now : ℕ) (s₀ s₁ : S₁) (q₀ q₁ : S₂) (x y : Output) (i : Instant S₁) (j : Instant S₂) → SameOutput x y → SameInstant now s₁ q₁ i j
         → SameInstant now s₀ q₀ (stepped x i) (stepped y j)
     unfolding stepped
     same-stepped now s₀ s₁ q₀ q₁ x y jammed jammed b h = tt
@@ -147,6 +148,7 @@ module _ {S₁ S₂ : Type 0} where
             instants = ap suc (a .instants);
             steps = ap₂ _+_ (a .steps) (length-same (x ∷ xs) (y ∷ ys) (h .0));
             trace = refl;
+            rules = rules-same (x ∷ xs) (y ∷ ys) (h .0);
           },
           omega arith,
           b,
@@ -173,7 +175,7 @@ module _ {S₁ S₂ : Type 0} where
     succeeded-alike : (t : ℕ) (p : Progress S₁) (q : Progress S₂) → Alike Between p q × (p .opening ≤ suc t) × Between (suc t) (p .state) (q .state)
         → EndsAlike Between t (succeeded t p) (succeeded t q)
     unfolding succeeded ended
-    succeeded-alike t p q h = (refl, record { opening = refl; state = h .2; instants = h .0 .instants; steps = h .0 .steps; trace = h .0 .trace }, omega arith)
+    succeeded-alike t p q h = (refl, record { opening = refl; state = h .2; instants = h .0 .instants; steps = h .0 .steps; trace = h .0 .trace; rules = h .0 .rules }, omega arith)
 
     module _ (room t : ℕ) (x y : Bag) (fine : Fine x y) where
       advancing-alike : (n : ℕ) (p : Progress S₁) (q : Progress S₂) → Alike Between p q → p .opening ≤ t
@@ -209,7 +211,7 @@ module _ {S₁ S₂ : Type 0} where
 
       pub advance-alike : (o : ℕ) (s : S₁) (q : S₂) → Between o s q → o ≤ t → EndsAlike Between t (advanceFrom k₁ room t x o s) (advanceFrom k₂ room t y o q)
       unfolding advanceFrom
-      advance-alike o s q b l = advancing-alike (suc t) _ _ (record { opening = refl; state = b; instants = refl; steps = refl; trace = refl }) l
+      advance-alike o s q b l = advancing-alike (suc t) _ _ (record { opening = refl; state = b; instants = refl; steps = refl; trace = refl; rules = refl }) l
 
 -- Where related states are equal, so are the ends.
 pub ends-equal : {S : Type 0} {Between : ℕ → S → S → Type 0} {t : ℕ} (a b : Ended S) → ((o : ℕ) (s q : S) → Between o s q → s ≡ q) → EndsAlike Between t a b → a ≡ b
@@ -218,5 +220,5 @@ ends-equal a b same h =
     let e = same (a .progress .opening) (a .progress .state) (b .progress .state) (p .state) in
     λ i. record {
       number = h .0 i;
-      progress = record { opening = p .opening i; state = e i; instants = p .instants i; steps = p .steps i; trace = p .trace i };
+      progress = record { opening = p .opening i; state = e i; instants = p .instants i; steps = p .steps i; trace = p .trace i; rules = p .rules i };
     }

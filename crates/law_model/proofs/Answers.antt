@@ -87,26 +87,26 @@ in-time m run t o l = rw (le-ltb t (runOf m run .opening) o, le-ltb maxMoment t 
 abbrev pub endOf : Model → Bytes → ℕ → Bytes → Bytes → Ended (List Entry)
 endOf m run t bag trace = advanceFrom (nested m) (length trace) t (toBag bag) (openingOf m run) (runOf m run .entries)
 
-module _ (file run : Bytes) (t : ℕ) (bag trace : Bytes) where
-  pub advance-model : (n : ℕ) → accepted file ≡ refused n → advance file run t bag trace ≡ refusedAdvance n run trace
+module _ (file run : Bytes) (t : ℕ) (bag trace table : Bytes) where
+  pub advance-model : (n : ℕ) → accepted file ≡ refused n → advance file run t bag trace table ≡ refusedAdvance n run trace table
   unfolding advance advanced
   advance-model n e = rw e
 
-  pub advance-run : (m : Model) → accepted file ≡ ok m → runFits m run ≡ false → advance file run t bag trace ≡ refusedAdvance 10 run trace
+  pub advance-run : (m : Model) → accepted file ≡ ok m → runFits m run ≡ false → advance file run t bag trace table ≡ refusedAdvance 10 run trace table
   unfolding advance advanced advanceChecks
   advance-run m e f = rw (e, f)
 
   pub advance-time : (m : Model) → accepted file ≡ ok m → runFits m run ≡ true → (t < openingOf m run) ⊎ (maxMoment < t)
-      → advance file run t bag trace ≡ refusedAdvance 11 run trace
+      → advance file run t bag trace table ≡ refusedAdvance 11 run trace table
   unfolding advance advanced advanceChecks
   advance-time m e f (inl l) = rw (e, f, or-left (ltb t (runOf m run .opening)) (ltb maxMoment t) (lt-ltb _ _ l))
   advance-time m e f (inr l) = rw (e, f, or-right (ltb t (runOf m run .opening)) (ltb maxMoment t) (lt-ltb _ _ l))
 
   pub advance-bag : (m : Model) → accepted file ≡ ok m → runFits m run ≡ true → openingOf m run ≤ t → t ≤ maxMoment → bagFits bag ≡ false
-      → advance file run t bag trace ≡ refusedAdvance 12 run trace
+      → advance file run t bag trace table ≡ refusedAdvance 12 run trace table
   unfolding advance advanced advanceChecks
   advance-bag m e f o l g = rw (e, f, in-time m run t o l, g)
 
-  pub advance-done : (m : Model) → accepted file ≡ ok m → MayAdvance m run t bag → advance file run t bag trace ≡ advanced run trace (ok (endOf m run t bag trace))
+  pub advance-done : (m : Model) → accepted file ≡ ok m → MayAdvance m run t bag → advance file run t bag trace table ≡ advanced run trace table (ok (endOf m run t bag trace))
   unfolding advance advanceChecks
   advance-done m e h = rw (e, h .run-fits, in-time m run t (h .not-early) (h .not-late), h .bag-fits)

@@ -11,3 +11,4 @@ pub mod Refusals
 pub mod RunBack
 pub mod Answers
 pub mod PhaseRange
+pub mod RuleBytes

@@ -7,10 +7,10 @@ use mathlib.Core.Option.{Option, none, some}
 use mathlib.Core.Bool.{Bool, true, false, cond}
 use lib.Dec.{eqb}
 use Rattle.definition.specs.Model.{Bag, Rule, Model, componentAt}
-use Rattle.definition.specs.Devs.{finite, sameTime, ticks}
-use Rattle.definition.specs.Atomic.{InPhase, unspent, followed, advanceOf, nextPhase, ruleFor, timeAdvance, internal, external, confluent}
+use Rattle.definition.specs.Devs.{finite, sameTime, ticks, After}
+use Rattle.definition.specs.Atomic.{InPhase, toldAs, unspent, followed, advanceOf, nextPhase, ruleFor, timeAdvance, internal, external, confluent}
 use Rattle.definition.specs.SavedRun.{Entry, dueOf}
-use Rattle.definition.specs.FlatMachine.{ledTo, externalPart, bothParts, movedBy, moved}
+use Rattle.definition.specs.FlatMachine.{ledTo, externalPart, bothParts, ruleOfBoth, movedBy, moved}
 use Rattle.law_nest.proofs.Times.{due-spent}
 
 pub data SetOrKept (now : ℕ) (r : Entry) : Entry → Type 0 where
@@ -36,6 +36,13 @@ set-or-kept m now c false (y ∷ x) r = searched m now (ruleFor m c (r .phase) (
 
 -- ---- both parts of a confluent transition
 
+-- what comes of it: the atomic is in a phase with nothing spent, and a rule's position comes up
+abbrev after : ℕ → ℕ → Option ℕ → After InPhase
+after c p o = record { state = unspent p; decided = record { atomic = c; position = toldAs o } ∷ [] }
+
+unfoldable pub both : Model → ℕ → ℕ → Bag → After InPhase
+both m c p x = after c (bothParts m c p x) (ruleOfBoth m c p x)
+
 -- a search leads to the same phase, and with nothing spent it spends nothing
 followed-phase : (ks : List Rule) (p since : ℕ) (o : Option ℕ) → followed ks p since o .phase ≡ ledTo ks p o
 unfolding followed unspent ledTo
@@ -47,29 +54,36 @@ unfolding followed unspent ledTo
 followed-unspent ks p none = refl
 followed-unspent ks p (some i) = refl
 
--- where what is left makes up the advance, δ_con comes to the phase of both parts, and nothing is spent
+-- where what is left makes up the advance, δ_con comes to the phase of both parts, nothing is spent, and the rule of the external part comes up
 confluent-both : (m : Model) (c : ℕ) (s : InPhase) (x : Bag) → s .spent + ticks (timeAdvance m c s) ≡ ticks (advanceOf m c (s .phase))
-    → confluent m c s x ≡ unspent (bothParts m c (s .phase) x)
-unfolding confluent bothParts internal external externalPart unspent
+    → confluent m c s x ≡ both m c (s .phase) x
+unfolding confluent both bothParts ruleOfBoth internal external externalPart unspent
 confluent-both m c s x whole = go (eqb (componentAt (m .components) c .order) 0)
   where
-    first : (next : ℕ) → external m c (unspent next) 0 x ≡ unspent (externalPart m c next 0 x)
-    first next = followed-unspent (m .rules) next (ruleFor m c next 0 x)
+    first : (next : ℕ) → external m c (unspent next) 0 x ≡ after c (externalPart m c next 0 x) (ruleFor m c next 0 x)
+    first next =
+        let o = ruleFor m c next 0 x in
+        ap (λ q. record { state = q; decided = record { atomic = c; position = toldAs o } ∷ [] }) (followed-unspent (m .rules) next o)
 
-    second : unspent (nextPhase m c (external m c s (ticks (timeAdvance m c s)) x .phase)) ≡ unspent (nextPhase m c (externalPart m c (s .phase) (ticks (advanceOf m c (s .phase))) x))
-    second =
-        ap (λ p. unspent (nextPhase m c p))
-        (followed-phase (m .rules) (s .phase) _ _ ∙ ap (λ e. ledTo (m .rules) (s .phase) (ruleFor m c (s .phase) e x)) whole)
+    second : (e : ℕ) → e ≡ ticks (advanceOf m c (s .phase)) → (let found = ruleFor m c (s .phase) e x in
+        record { state = unspent (nextPhase m c (followed (m .rules) (s .phase) e found .phase)); decided = record { atomic = c; position = toldAs found } ∷ [] })
+        ≡ after c (nextPhase m c (externalPart m c (s .phase) (ticks (advanceOf m c (s .phase))) x)) (ruleFor m c (s .phase) (ticks (advanceOf m c (s .phase))) x)
+    second e h =
+        let found = ruleFor m c (s .phase) e x in
+        ap (λ p. after c (nextPhase m c p) found) (followed-phase (m .rules) (s .phase) e found)
+        ∙ ap (λ e. after c (nextPhase m c (ledTo (m .rules) (s .phase) (ruleFor m c (s .phase) e x))) (ruleFor m c (s .phase) e x)) h
 
-    go : (b : Bool) → cond b (external m c (unspent (nextPhase m c (s .phase))) 0 x) (unspent (nextPhase m c (external m c s (ticks (timeAdvance m c s)) x .phase)))
-        ≡ unspent (cond b (externalPart m c (nextPhase m c (s .phase)) 0 x) (nextPhase m c (externalPart m c (s .phase) (ticks (advanceOf m c (s .phase))) x)))
+    go : (b : Bool) → cond b (external m c (unspent (nextPhase m c (s .phase))) 0 x) (let part = external m c s (ticks (timeAdvance m c s)) x in
+        record { state = unspent (nextPhase m c (part .state .phase)); decided = part .decided })
+        ≡ after c (cond b (externalPart m c (nextPhase m c (s .phase)) 0 x) (nextPhase m c (externalPart m c (s .phase) (ticks (advanceOf m c (s .phase))) x)))
+        (cond b (ruleFor m c (nextPhase m c (s .phase)) 0 x) (ruleFor m c (s .phase) (ticks (advanceOf m c (s .phase))) x))
     go true = first (nextPhase m c (s .phase))
-    go false = second
+    go false = second _ whole
 
 -- and so it is where the entry is due that the state stands for
 pub confluent-due : (m : Model) (c now e : ℕ) (s : InPhase) (r : Entry) (x : Bag) → s .phase ≡ r .phase → r .last + (s .spent + e) ≡ now
-    → sameTime (dueOf m c r) (finite now) ≡ true → confluent m c s x ≡ unspent (bothParts m c (r .phase) x)
+    → sameTime (dueOf m c r) (finite now) ≡ true → confluent m c s x ≡ both m c (r .phase) x
 unfolding dueOf timeAdvance
 confluent-due m c now e s r x p h d =
     let whole = due-spent (r .last) (s .spent) e now (advanceOf m c (r .phase)) h d in
-    confluent-both m c s x (rw p whole) ∙ ap (λ q. unspent (bothParts m c q x)) p
+    confluent-both m c s x (rw p whole) ∙ ap (λ q. both m c q x) p

@@ -10,17 +10,18 @@ use borrow.Author.Tests.{eqb-true, eq-eqb}
 use Rattle.definition.specs.Lists.{count, Same}
 use Rattle.definition.specs.Model.{Bag, Model, atomics, isAtomic, Tree, Forest, leaf, node, stop, more, nameOf}
 use Rattle.definition.specs.Devs.{Totals}
-use Rattle.definition.specs.Atomic.{InPhase, followed, ruleFor, external, confluent, devsOf, partsOf}
+use Rattle.definition.specs.Atomic.{InPhase, toldAs, followed, ruleFor, external, confluent, devsOf, partsOf}
 use Rattle.definition.specs.SavedRun.{Entry}
 use Rattle.definition.specs.Step.{leavesOf, leavesOfAll, assoc, unload}
-use Rattle.definition.specs.FlatMachine.{ledTo, externalPart, bothParts, movedBy, moved}
+use Rattle.definition.specs.FlatMachine.{ledTo, externalPart, bothParts, ruleOfBoth, movedBy, moved}
 use Rattle.definition.specs.Carrying.{Stands, StandsAll}
 use Rattle.law_base.proofs.Bags.{count-append, deciding-same, same-length}
 use Rattle.law_base.proofs.Lists.{map-cong-if, all-keep}
 use Rattle.law_base.proofs.Tests.{eqb-sym}
 use Rattle.law_nest.proofs.Occurs.{occurs}
 use Rattle.law_nest.proofs.Trees.{leavesT, leavesF}
-use Rattle.law_nest.proofs.Nest.{due, bagAt, bagAtAll}
+use Rattle.law_nest.proofs.Nest.{due, bagAt, bagAtAll, no-bag, no-bag-all}
+use Rattle.law_nest.proofs.Parts.{part}
 use Rattle.law_nest.proofs.AnySplit.{On, OnAll}
 
 -- ---- the order of a bag
@@ -39,7 +40,9 @@ both-same m c x y s p = simp (part-same m c x y s)
 
 pub external-same : (m : Model) (c : ℕ) (x y : Bag) → Same x y → (s : InPhase) (e : ℕ) → external m c s e x ≡ external m c s e y
 unfolding external
-external-same m c x y h s e = ap (followed (m .rules) (s .phase) (s .spent + e)) (rule-same m c x y h (s .phase) (s .spent + e))
+external-same m c x y h s e =
+    ap (λ o. record { state = followed (m .rules) (s .phase) (s .spent + e) o; decided = record { atomic = c; position = toldAs o } ∷ [] })
+    (rule-same m c x y h (s .phase) (s .spent + e))
 
 pub confluent-same : (m : Model) (c : ℕ) (x y : Bag) → Same x y → (s : InPhase) → confluent m c s x ≡ confluent m c s y
 unfolding confluent
@@ -54,30 +57,21 @@ moved-same m now c b (z ∷ x) [] r s = absurd (let e = same-length (z ∷ x) []
 moved-same m now c true (w ∷ x) (z ∷ y) r s = simp (both-same m c (w ∷ x) (z ∷ y) s)
 moved-same m now c false (w ∷ x) (z ∷ y) r s = ap (λ o. movedBy m now o r) (rule-same m c (w ∷ x) (z ∷ y) s (r .phase) (now - r .last))
 
+pub both-rule-same : (m : Model) (c : ℕ) (x y : Bag) → Same x y → (p : ℕ) → ruleOfBoth m c p x ≡ ruleOfBoth m c p y
+unfolding ruleOfBoth
+both-rule-same m c x y s p = simp (rule-same m c x y s)
+
+pub part-of-same : (m : Model) (now c : ℕ) (b : Bool) (x y : Bag) (r : Entry) → Same x y → part m now c b x r ≡ part m now c b y r
+unfolding part
+part-of-same m now c true [] [] r s = refl
+part-of-same m now c false [] [] r s = refl
+part-of-same m now c b [] (z ∷ y) r s = absurd (let e = same-length [] (z ∷ y) s in omega arith)
+part-of-same m now c b (z ∷ x) [] r s = absurd (let e = same-length (z ∷ x) [] s in omega arith)
+part-of-same m now c true (w ∷ x) (z ∷ y) r s = simp (both-rule-same m c (w ∷ x) (z ∷ y) s)
+part-of-same m now c false (w ∷ x) (z ∷ y) r s = simp (rule-same m c (w ∷ x) (z ∷ y) s (r .phase) (now - r .last))
+
 module _ (m : Model) (at : ℕ → Entry) (now : ℕ) where
   -- ---- one leaf, one bag
-
-  no-leaf-bag : (a c : ℕ) (x : Bag) → occurs a (c ∷ []) ≡ 0 → bagAt m at now a (leaf c) x ≡ []
-  unfolding bagAt count
-  no-leaf-bag a c x h = go (eqb a c) refl
-    where
-      go : (b : Bool) → eqb a c ≡ b → bagAt m at now a (leaf c) x ≡ []
-      go true e = absurd (let g = rw e at h in omega arith)
-      go false e = rw (eqb-sym c a, e)
-
-  -- what is no leaf gets nothing
-  mutual
-    unfolding bagAt leavesT count
-
-    pub no-bag : (a : ℕ) (t : Tree) (x : Bag) → occurs a (leavesT t) ≡ 0 → bagAt m at now a t x ≡ []
-    no-bag a (leaf c) x h = no-leaf-bag a c x h
-    no-bag a (node c f) x h = no-bag-all a f _ h
-
-    no-bag-all : (a : ℕ) (f : Forest) (input : ℕ → Bag) → occurs a (leavesF f) ≡ 0 → bagAtAll m at now a f input ≡ []
-    no-bag-all a stop input h = refl
-    no-bag-all a (more t f) input h =
-        let k = count-append (λ c. eqb a c) (leavesT t) (leavesF f) in
-        rw (no-bag a t (input (nameOf t)) (omega arith), no-bag-all a f input (omega arith))
 
   -- where each atomic is one leaf, it changes by what reaches it in the whole tree
   abbrev By : (ℕ → Entry) → ℕ → Bag → Type 0
@@ -98,9 +92,9 @@ module _ (m : Model) (at : ℕ → Entry) (now : ℕ) where
     on-forest on stop input d h = tt
     on-forest on (more t f) input d h = (
       on-tree on t (input (nameOf t)) (λ c. let k = split c in omega (arith, d c)) (λ c o. let k = split c in
-          h c (omega arith) ∙ ap (λ x. moved m now c (due m at now (leaf c)) x (at c)) (rw (no-bag-all c f input (omega (arith, d c))) (append-nil (bagAt m at now c t (input (nameOf t)))))),
+          h c (omega arith) ∙ ap (λ x. moved m now c (due m at now (leaf c)) x (at c)) (rw (no-bag-all m at now c f input (omega (arith, d c))) (append-nil (bagAt m at now c t (input (nameOf t)))))),
       on-forest on f input (λ c. let k = split c in omega (arith, d c)) (λ c o. let k = split c in
-          h c (omega arith) ∙ ap (λ x. moved m now c (due m at now (leaf c)) x (at c)) (rw (no-bag c t (input (nameOf t)) (omega (arith, d c))))),
+          h c (omega arith) ∙ ap (λ x. moved m now c (due m at now (leaf c)) x (at c)) (rw (no-bag m at now c t (input (nameOf t)) (omega (arith, d c))))),
     )
       where
         split : (c : ℕ) → occurs c (leavesT t ++ leavesF f) ≡ occurs c (leavesT t) + occurs c (leavesF f)

@@ -6,8 +6,9 @@ pub mod Times
 pub mod Trees
 pub mod Kin
 pub mod Components
-pub mod Renumber
 pub mod Nest
+pub mod Parts
+pub mod Renumber
 pub mod Entries
 pub mod AnySplit
 pub mod Leaves

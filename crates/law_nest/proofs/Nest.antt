@@ -2,13 +2,18 @@
 -- recursion over the tree of components. `AnySplit` shows that the resultant does just that. Assumes nothing.
 use mathlib.Core.Path.{_≡_, refl, sym}
 use Prim.Native.Nat.{ℕ, _≤_}
-use mathlib.Core.List.{[], _++_}
+use native.Mathlib.Omega.{arith}
+use mathlib.Core.List.{[], _∷_, _++_}
 use mathlib.Core.Bool.{Bool, true, false, cond}
 use lib.Dec.{eqb}
+use Rattle.definition.specs.Lists.{count}
 use Rattle.definition.specs.Model.{Bag, Model, phaseAt, Tree, Forest, leaf, node, stop, more, nameOf, outputs}
 use Rattle.definition.specs.Devs.{finite, sameTime, translate}
 use Rattle.definition.specs.SavedRun.{Entry, dueOf, notBefore, dueAt, dueAll}
-use Rattle.law_nest.proofs.Trees.{OnlyIn, OnlyInAll}
+use Rattle.law_base.proofs.Bags.{count-append}
+use Rattle.law_base.proofs.Tests.{eqb-sym}
+use Rattle.law_nest.proofs.Occurs.{occurs}
+use Rattle.law_nest.proofs.Trees.{OnlyIn, OnlyInAll, leavesT, leavesF}
 use Rattle.law_nest.proofs.Times.{not-due, notBefore-earlier}
 
 -- an atomic's entry was not changed after now, and it is not due before
@@ -71,6 +76,30 @@ module _ (m : Model) (at : ℕ → Entry) (now : ℕ) where
     pub bagAtAll : ℕ → Forest → (ℕ → Bag) → Bag
     bagAtAll a stop input = []
     bagAtAll a (more t f) input = bagAt a t (input (nameOf t)) ++ bagAtAll a f input
+
+  -- ---- no leaf, no bag
+
+  no-leaf-bag : (a c : ℕ) (x : Bag) → occurs a (c ∷ []) ≡ 0 → bagAt a (leaf c) x ≡ []
+  unfolding bagAt count
+  no-leaf-bag a c x h = go (eqb a c) refl
+    where
+      go : (b : Bool) → eqb a c ≡ b → bagAt a (leaf c) x ≡ []
+      go true e = absurd (let g = rw e at h in omega arith)
+      go false e = rw (eqb-sym c a, e)
+
+  -- what is no leaf gets nothing
+  mutual
+    unfolding bagAt leavesT count
+
+    pub no-bag : (a : ℕ) (t : Tree) (x : Bag) → occurs a (leavesT t) ≡ 0 → bagAt a t x ≡ []
+    no-bag a (leaf c) x h = no-leaf-bag a c x h
+    no-bag a (node c f) x h = no-bag-all a f _ h
+
+    pub no-bag-all : (a : ℕ) (f : Forest) (input : ℕ → Bag) → occurs a (leavesF f) ≡ 0 → bagAtAll a f input ≡ []
+    no-bag-all a stop input h = refl
+    no-bag-all a (more t f) input h =
+        let k = count-append (λ c. eqb a c) (leavesT t) (leavesF f) in
+        rw (no-bag a t (input (nameOf t)) (omega arith), no-bag-all a f input (omega arith))
 
   abbrev pub NoneDue : Forest → Type 0
   NoneDue stop = Unit {0}

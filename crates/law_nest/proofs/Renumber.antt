@@ -15,7 +15,7 @@ use Rattle.law_model.proofs.WellFormed.{ComponentsFit, WellFormed}
 use Rattle.definition.specs.Atomic.{withinElapsed, holds, advanceOf, nextPhase, ruleFor, deciding, meets}
 use Rattle.definition.specs.SavedRun.{Entry, dueOf}
 use Rattle.definition.specs.Flatten.{placeIn, renumbered, flatAtomic, flatComponents, flatRule, flat}
-use Rattle.definition.specs.FlatMachine.{ledTo, externalPart, bothParts, dueNow, movedBy, moved}
+use Rattle.definition.specs.FlatMachine.{ledTo, externalPart, bothParts, ruleOfBoth, dueNow, movedBy, moved}
 use Rattle.law_base.proofs.Sums.{sumOf, sum-map}
 use Rattle.law_base.proofs.Lists.{all-every, all-map, map-cong-if, sum-map-of, getD-map, take-map, all-at}
 use Rattle.law_base.proofs.Tests.{and-true, or-right}
@@ -23,6 +23,7 @@ use Rattle.law_nest.proofs.Occurs.{occurs, Distinct, kept-distinct}
 use Rattle.law_nest.proofs.Places.{place-below, place-at, place-eqb, places, up-suc, sum-to-place, take-up}
 use Rattle.law_nest.proofs.Components.{rooted, atomic-below, root-not, no-phases, atomic-once, atomics-atomic}
 use mathlib.Core.Option.{Option, none, some}
+use Rattle.law_nest.proofs.Parts.{part}
 
 keep-up : (p : ℕ → Bool) (k n : ℕ) → ((i : ℕ) → i < n → p (k + i) ≡ true) → keep p (upFrom k n) ≡ upFrom k n
 unfolding keep upFrom
@@ -216,3 +217,14 @@ module _ (m : Model) (w : WellFormed m) (c : ℕ) (e : isAtomic (m .components) 
   flat-moved now true (y ∷ x) r = rw (flat-both (r .phase) (y ∷ x))
   flat-moved now false [] r = refl
   flat-moved now false (y ∷ x) r = flat-moved-by now _ r ∙ ap (λ o. movedBy m now o r) (flat-rule (r .phase) (now - r .last) (y ∷ x))
+
+  -- and so the same rule is told
+  flat-both-rule : (p : ℕ) (x : Bag) → ruleOfBoth (flat m) (renumbered (m .components) c) p x ≡ ruleOfBoth m c p x
+  unfolding ruleOfBoth
+  flat-both-rule p x = simp (flat-order, flat-follow, flat-rule, flat-advance)
+
+  pub flat-part : (now : ℕ) (b : Bool) (x : Bag) (r : Entry) → part (flat m) now (renumbered (m .components) c) b x r ≡ part m now c b x r
+  unfolding part
+  flat-part now b [] r = refl
+  flat-part now true (y ∷ x) r = rw (flat-both-rule (r .phase) (y ∷ x))
+  flat-part now false (y ∷ x) r = rw (flat-rule (r .phase) (now - r .last) (y ∷ x))

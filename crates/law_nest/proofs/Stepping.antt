@@ -14,8 +14,9 @@ use Rattle.definition.specs.SavedRun.{Entry, notBefore, dueOf, dueAt, entryOf, 
 use Rattle.definition.specs.Step.{step}
 use Rattle.definition.specs.FlatMachine.{dueNow, moved}
 use Rattle.law_nest.proofs.Nest.{Ready, due, ready-due, Fresh, ready-in, bagAt}
+use Rattle.law_nest.proofs.Parts.{part}
 use Rattle.law_nest.proofs.Entries.{SetOrKept, set, kept, set-or-kept}
-use Rattle.law_nest.proofs.StepOf.{step-moved, entryAfter}
+use Rattle.law_nest.proofs.StepOf.{step-moved, entryAfter, step-decided, partAfter}
 use Rattle.law_model.proofs.WellFormed.{WellFormed}
 use Rattle.law_nest.proofs.Pairs.{paired, paired-lookUp, Pairs, pairs-length, pairs-lookUp, pairs-paired}
 use Rattle.law_nest.proofs.Components.{atomic-once, leaves-perm, shape, leaves, root}
@@ -69,6 +70,14 @@ module _ (m : Model) (w : WellFormed m) where
     step-paired x =
         step-moved m w now x rs ready
         ∙ paired-lookUp (λ c r. moved m now c (dueNow m now c r) (bagAt m (entryOf m rs) now c (root m) x) r) (atomics (m .components)) rs
+        (distinct-atomics (m .components)) long
+
+    pub parts-paired : (x : Bag) → step m now x rs .out .decided
+        ≡ paired (λ c r. part m now c (dueNow m now c r) (bagAt m (entryOf m rs) now c (root m) x) r) (atomics (m .components)) rs
+    unfolding due dueAt dueNow entryOf partAfter
+    parts-paired x =
+        step-decided m w now x rs ready
+        ∙ paired-lookUp (λ c r. part m now c (dueNow m now c r) (bagAt m (entryOf m rs) now c (root m) x) r) (atomics (m .components)) rs
         (distinct-atomics (m .components)) long
 
     pub step-good : (x : Bag) → Good m now (step m now x rs .state)

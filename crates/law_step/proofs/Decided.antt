@@ -13,11 +13,11 @@ use Rattle.definition.specs.Limits.{neverField}
 use Rattle.definition.specs.Model.{Bag, Phase, Rule, Model, noRule, componentAt, phaseAt}
 use Rattle.definition.specs.Devs.{finite, never, ticks}
 use Rattle.definition.specs.Atomic.{holds, deciding, advanceOf, nextPhase, ruleFor}
-use Rattle.definition.specs.FlatMachine.{ledTo, externalPart, bothParts}
+use Rattle.definition.specs.FlatMachine.{ledTo, externalPart, bothParts, ruleOfBoth}
 use Rattle.law_base.proofs.Bags.{holds-component}
 use Rattle.law_model.proofs.WellFormed.{WellFormed}
 use Rattle.run_state.specs.declared.State.{State}
-use Rattle.spec_step.specs.TableStep.{firstFrom, decidingIn, leads, phaseOr, ruleIn, phaseIn, decidedIn, confluentIn}
+use Rattle.spec_step.specs.TableStep.{firstFrom, decidingIn, leads, phaseOr, ruleIn, phaseIn, decidedIn, confluentIn, confluentRule}
 use Rattle.spec_step.specs.Tabled.{Tabled}
 use Rattle.law_step.proofs.Positions.{phase-is}
 
@@ -106,6 +106,11 @@ module _ (m : Model) (w : WellFormed m) (st : State) (t : List ℕ) (h : Tabled 
   next-is p = ap (λ (k : Phase). k .next) (phase-is m w st t h c p l)
 
   -- where the phase has an advance
+  stay : (p : ℕ) → eqb (phaseAt m c p .advance) neverField ≡ false
+      → phaseIn (m .phases) t c p .advance ≡ ticks (cond (eqb (phaseAt m c p .advance) neverField) never (finite (phaseAt m c p .advance)))
+  unfolding ticks
+  stay p e = ap (λ (k : Phase). k .advance) (phase-is m w st t h c p l) ∙ rw e
+
   pub confluent-is : (p : ℕ) (x : Bag) → eqb (phaseAt m c p .advance) neverField ≡ false → confluentIn (m .phases) t (m .rules) c p x ≡ bothParts m c p x
   unfolding confluentIn bothParts advanceOf ticks
   confluent-is p x e =
@@ -116,9 +121,13 @@ module _ (m : Model) (w : WellFormed m) (st : State) (t : List ℕ) (h : Tabled 
       first : decidedIn t (m .rules) c (phaseIn (m .phases) t c p .next) 0 x ≡ externalPart m c (nextPhase m c p) 0 x
       first = decided-is _ 0 x ∙ ap (λ q. externalPart m c q 0 x) (next-is p)
 
-      stay : phaseIn (m .phases) t c p .advance ≡ ticks (cond (eqb (phaseAt m c p .advance) neverField) never (finite (phaseAt m c p .advance)))
-      stay = ap (λ (k : Phase). k .advance) (phase-is m w st t h c p l) ∙ (unfold ticks in (rw e))
-
       second : phaseIn (m .phases) t c (decidedIn t (m .rules) c p (phaseIn (m .phases) t c p .advance) x) .next
           ≡ nextPhase m c (externalPart m c p (ticks (cond (eqb (phaseAt m c p .advance) neverField) never (finite (phaseAt m c p .advance)))) x)
-      second = next-is _ ∙ ap (nextPhase m c) (decided-is p _ x ∙ ap (λ e. externalPart m c p e x) stay)
+      second = next-is _ ∙ ap (nextPhase m c) (decided-is p _ x ∙ ap (λ e. externalPart m c p e x) (stay p e))
+
+  -- the rule of its external part
+  pub confluent-rule-is : (p : ℕ) (x : Bag) → eqb (phaseAt m c p .advance) neverField ≡ false → confluentRule (m .phases) t (m .rules) c p x ≡ ruleOfBoth m c p x
+  unfolding confluentRule ruleOfBoth advanceOf ticks
+  confluent-rule-is p x e =
+      ap (λ o. cond (eqb o 0) (ruleIn t (m .rules) c (phaseIn (m .phases) t c p .next) 0 x) (ruleIn t (m .rules) c p (phaseIn (m .phases) t c p .advance) x)) (h .orders c l)
+      ∙ ap₂ (cond (eqb (componentAt (m .components) c .order) 0)) (rule-is _ 0 x ∙ ap (λ q. ruleFor m c q 0 x) (next-is p)) (rule-is p _ x ∙ ap (λ e. ruleFor m c p e x) (stay p e))

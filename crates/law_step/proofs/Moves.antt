@@ -12,17 +12,19 @@ use lib.Seq.{getD-set-same, getD-set-other}
 use borrow.Author.Tests.{eqb-true, eqb-false}
 use Rattle.definition.specs.Limits.{neverField}
 use Rattle.definition.specs.Model.{Bag, Model, phaseAt}
+use Rattle.definition.specs.Atomic.{toldAs}
 use Rattle.definition.specs.SavedRun.{Entry}
 use Rattle.definition.specs.FlatMachine.{movedBy, moved}
 use Rattle.law_model.proofs.WellFormed.{WellFormed}
+use Rattle.law_nest.proofs.Parts.{part}
 use Rattle.run_state.specs.declared.State.{State}
 use Rattle.run_state.specs.Held.{changedAt}
 use Rattle.law_base.specs.Keys.{messageOf}
 use Rattle.spec_step.specs.Tables.{numbersAt}
-use Rattle.spec_step.specs.TableStep.{isUp, keysInto, leads, ledInto, leadBy, changedBy, changedFrom}
+use Rattle.spec_step.specs.TableStep.{isUp, keysInto, leads, ledInto, leadBy, partBy, changedBy, changedFrom, partsFrom}
 use Rattle.spec_step.specs.Tabled.{Tabled}
 use Rattle.law_step.proofs.Positions.{heldAt}
-use Rattle.law_step.proofs.Decided.{rule-is, next-is, confluent-is}
+use Rattle.law_step.proofs.Decided.{rule-is, next-is, confluent-is, confluent-rule-is}
 use Rattle.law_step.proofs.Changed.{SetAt, set-at, kept-at, set-at-or-kept}
 
 -- ---- one entry of a state
@@ -70,6 +72,15 @@ module _ (m : Model) (w : WellFormed m) (t : List ℕ) (h : Tabled m t) (now : �
   changed-own st i c false (z ∷ y) l u v timed =
       followed-own st i _ u v ∙ ap (λ o. movedBy m now o (heldAt st i)) (rule-is m w st t h c l (getD (st .phase) i 0) (now - getD (st .last) i 0) (z ∷ y))
 
+  -- what decides its external part
+  part-own : (st : State) (i c : ℕ) (b : Bool) (y : Bag) → c < length (m .components)
+      → (b ≡ true → eqb (phaseAt m c (heldAt st i .phase) .advance) neverField ≡ false)
+      → partBy (m .phases) t (m .rules) now st i c b y ≡ part m now c b y (heldAt st i)
+  unfolding partBy part
+  part-own st i c b [] l timed = refl
+  part-own st i c true (z ∷ y) l timed = ap (λ o. some (toldAs o)) (confluent-rule-is m w st t h c l (getD (st .phase) i 0) (z ∷ y) (timed refl))
+  part-own st i c false (z ∷ y) l timed = ap (λ o. some (toldAs o)) (rule-is m w st t h c l (getD (st .phase) i 0) (now - getD (st .last) i 0) (z ∷ y))
+
   changed-other : (st : State) (i j c : ℕ) (b : Bool) (y : Bag) → (j ≡ i → ⊥) → heldAt (changedBy (m .phases) t (m .rules) now st i c b y) j ≡ heldAt st j
   changed-other st i j c b y n = go (set-at-or-kept (m .phases) t (m .rules) now st i c b y)
     where
@@ -98,6 +109,9 @@ module _ (m : Model) (w : WellFormed m) (t : List ℕ) (h : Tabled m t) (now : �
 
     abbrev all-of : ℕ → ℕ → State → State
     all-of n i st = changedFrom (m .phases) t (m .rules) es fs room now x n i st
+
+    abbrev parts-of : ℕ → ℕ → State → List (Option ℕ)
+    parts-of n i st = partsFrom (m .phases) t (m .rules) es fs room now x n i st
 
     pub all-room : (n i : ℕ) (st : State) → SameRoom (all-of n i st) st
     unfolding changedFrom
@@ -139,3 +153,37 @@ module _ (m : Model) (w : WellFormed m) (t : List ℕ) (h : Tabled m t) (now : �
         go : (z : Bool) → eqb i j ≡ z → (i + 1 ≤ j → (j ≡ i → ⊥) → Own j) → Own j
         go true e ih = here (eqb-true i j e)
         go false e ih = let q = eqb-false i j e in ih (omega arith) (λ z. q (sym z))
+
+    -- the external part at position j: no change before it is seen
+    pub parts-own : (n i j : ℕ) (st : State) → i ≤ j → j < i + n → num j < length (m .components)
+        → (isUp es (num j) ≡ true → eqb (phaseAt m (num j) (heldAt st j .phase) .advance) neverField ≡ false)
+        → getD (parts-of n i st) (j - i) none ≡ part m now (num j) (isUp es (num j)) (bagOf (num j)) (heldAt st j)
+    unfolding partsFrom
+    parts-own zero i j st b l c timed = absurd (omega arith)
+    parts-own (suc n) i j st b l c timed =
+        go (eqb i j) refl
+        (λ (q : i + 1 ≤ j) (z : j ≡ i → ⊥). let same = changed-other st i j (num i) (isUp es (num i)) (bagOf (num i)) z in
+        parts-own n (i + 1) j (one i st) q (omega arith) c
+        (λ e. ap (λ (k : Entry). eqb (phaseAt m (num j) (k .phase) .advance) neverField) same ∙ timed e)
+        ∙ ap (part m now (num j) (isUp es (num j)) (bagOf (num j))) same)
+      where
+        row : List (Option ℕ)
+        row = partBy (m .phases) t (m .rules) now st i (num i) (isUp es (num i)) (bagOf (num i)) ∷ parts-of n (i + 1) (one i st)
+
+        Own : Type 0
+        Own = getD row (j - i) none ≡ part m now (num j) (isUp es (num j)) (bagOf (num j)) (heldAt st j)
+
+        here : i ≡ j → Own
+        here e =
+            let z : j - i ≡ 0 = omega (arith, e) in
+            ap (λ k. getD row k none) z
+            ∙ ap (λ k. partBy (m .phases) t (m .rules) now st k (num k) (isUp es (num k)) (bagOf (num k))) e
+            ∙ part-own st j (num j) (isUp es (num j)) (bagOf (num j)) c timed
+
+        behind : i + 1 ≤ j → getD (parts-of n (i + 1) (one i st)) (j - (i + 1)) none ≡ part m now (num j) (isUp es (num j)) (bagOf (num j)) (heldAt st j) → Own
+        behind q e = let z : j - i ≡ suc (j - (i + 1)) = omega arith in ap (λ k. getD row k none) z ∙ e
+
+        go : (z : Bool) → eqb i j ≡ z
+            → (i + 1 ≤ j → (j ≡ i → ⊥) → getD (parts-of n (i + 1) (one i st)) (j - (i + 1)) none ≡ part m now (num j) (isUp es (num j)) (bagOf (num j)) (heldAt st j)) → Own
+        go true e ih = here (eqb-true i j e)
+        go false e ih = let q = eqb-false i j e in behind (omega arith) (ih (omega arith) (λ z. q (sym z)))

@@ -2,9 +2,11 @@
 -- definition's step and puts out its bag in another order. The bags' room is enough where it is 16 messages a route. Assumes nothing.
 use mathlib.Core.Path.{_≡_, refl, sym, ap, ap₂, _∙_}
 use Prim.Native.Nat.{ℕ, zero, suc, _+_, _*_, _≤_, _<_}
-use mathlib.Core.List.{List, _∷_, map}
+use mathlib.Core.List.{List, _∷_, map, map-id}
 use mathlib.Core.Bool.{Bool, true, false, cond}
+use mathlib.Core.Option.{none}
 use native.Mathlib.Omega.{arith}
+use native.Mathlib.Nat.{sub-zero}
 use lib.Dec.{eqb}
 use lib.ListN.{length, getD, take, length-map}
 use lib.Seq.{take-all, take-length}
@@ -25,8 +27,9 @@ use Rattle.law_nest.proofs.Places.{take-up}
 use Rattle.law_nest.proofs.Pairs.{pairs-lookUp}
 use Rattle.law_nest.proofs.Components.{atomic-below, atomic-once, root}
 use Rattle.law_nest.proofs.Nest.{Fresh, Ready, due, bagAt}
-use Rattle.law_nest.proofs.Leaves.{moved-same}
-use Rattle.law_nest.proofs.StepOf.{entryAfter, step-moved, step-out}
+use Rattle.law_nest.proofs.Parts.{part}
+use Rattle.law_nest.proofs.Leaves.{moved-same, part-of-same}
+use Rattle.law_nest.proofs.StepOf.{entryAfter, step-moved, partAfter, step-decided, step-out}
 use Rattle.law_nest.proofs.Stepping.{Good, ready}
 use Rattle.law_nest.proofs.Capacity.{atomic-bag, root-bag}
 use Rattle.clock.specs.Times.{latest}
@@ -41,7 +44,8 @@ use Rattle.law_step.proofs.Ends.{ready-all, root-same, pulled-same}
 use Rattle.law_step.proofs.Positions.{heldAt, entries, atEntry, atomicAtPlace, atomic-at, place-entry}
 use Rattle.law_step.proofs.Flagged.{es, fs, up-due, flagged}
 use Rattle.law_step.proofs.TablePull.{keys-into, root-keys}
-use Rattle.law_step.proofs.Moves.{SameRoom, all-room, all-own}
+use Rattle.law_step.proofs.Moves.{SameRoom, all-room, all-own, parts-own}
+use Rattle.law_step.proofs.Changed.{parts-length}
 
 map-up : {A : Type 0} (f g : ℕ → A) (k n : ℕ) → ((j : ℕ) → k ≤ j → j < k + n → f j ≡ g j) → map f (upFrom k n) ≡ map g (upFrom k n)
 unfolding upFrom
@@ -141,8 +145,41 @@ module _ (m : Model) (w : WellFormed m) (t : List ℕ) (h : Tabled m t) (st : St
           ∙ ap (map (entryAfter m now x (entries m w st))) (take-length (atomics (m .components)))
           ∙ sym (step-moved m w now x (entries m w st) is-ready)
 
+      -- what decides its external part
+      part-after : (j : ℕ) → j < length (atomics (m .components)) → getD (after .out .decided) j none ≡ partAfter m now x (entries m w st) (atomicAtPlace m w st j)
+      unfolding tableStep partAfter due dueAt
+      part-after j l =
+          let c = atomicAtPlace m w st j in
+          let e = atomic-at m w st j l in
+          let q : getD t (numbersAt + j) 0 ≡ c = h .numbers j l in
+          let r = place-entry m w st j l in
+          let b = up-due m w st t h now (k .soon) c e in
+          let whole : take room (keysInto (m .phases) t marked flags x c) ≡ keysInto (m .phases) t marked flags x c = take-all room _ (omega (arith, bag-length c e)) in
+          ap (λ i. getD (after .out .decided) i none) (sym (sub-zero j))
+          ∙ parts-own m w t h now marked flags room x (length (atomics (m .components))) 0 j st (omega arith) (omega arith)
+          (omega (arith, q, atomic-below (m .components) c e))
+          (λ u. ap (λ d. eqb (phaseAt m d (heldAt st j .phase) .advance) neverField) q
+          ∙ due-timed m c now (heldAt st j) (ap (λ r. sameTime (dueOf m c r) (finite now)) (sym r) ∙ sym b ∙ ap (isUp marked) (sym q) ∙ u))
+          ∙ ap (λ d. part m now d (isUp marked d) (map messageOf (take room (keysInto (m .phases) t marked flags x d))) (heldAt st j)) q
+          ∙ ap (λ z. part m now c (isUp marked c) (map messageOf z) (heldAt st j)) whole
+          ∙ ap (λ z. part m now c z (map messageOf (keysInto (m .phases) t marked flags x c)) (heldAt st j)) b
+          ∙ part-of-same m now c _ _ (bagAt m at now c (root m) x) (heldAt st j) (bag-same c e)
+          ∙ ap (part m now c (due m at now (leaf c)) (bagAt m at now c (root m) x)) (sym r)
+
+      pub table-decided : after .out .decided ≡ step m now x (entries m w st) .out .decided
+      unfolding tableStep
+      table-decided =
+          let n = length (atomics (m .components)) in
+          let row = after .out .decided in
+          let long = parts-length (m .phases) t (m .rules) marked flags room now x n 0 st in
+          sym (map-id row) ∙ ap (map (λ p. p)) (sym (take-all n row (omega (arith, long)))) ∙ take-up (λ p. p) row none n (omega (arith, long))
+          ∙ map-up (λ j. getD row j none) (λ j. partAfter m now x (entries m w st) (atomicAtPlace m w st j)) 0 n (λ j a b. part-after j (omega arith))
+          ∙ sym (take-up (partAfter m now x (entries m w st)) (atomics (m .components)) 0 n (omega arith))
+          ∙ ap (map (partAfter m now x (entries m w st))) (take-length (atomics (m .components)))
+          ∙ sym (step-decided m w now x (entries m w st) is-ready)
+
       -- the root's whole bag, which has at most 4 messages a route
-      root-whole : Same (map messageOf (rootKeys (m .phases) t marked flags)) (step m now x (entries m w st) .out)
+      root-whole : Same (map messageOf (rootKeys (m .phases) t marked flags)) (step m now x (entries m w st) .out .bag)
       root-whole p =
           ap (λ l. count p (map messageOf l)) (root-keys m w t h (m .phases) marked flags x _ (flagged m w st t h now (k .soon) x)) ∙ root-same m w (m .phases) at now (ready-all m w at now fresh) (sent-values m w at now) p
           ∙ ap (count p) (sym (step-out m w now x (entries m w st) is-ready))
@@ -152,12 +189,12 @@ module _ (m : Model) (w : WellFormed m) (t : List ℕ) (h : Tabled m t) (st : St
           omega (
             arith,
             length-map (rootKeys (m .phases) t marked flags) messageOf,
-            same-length (map messageOf (rootKeys (m .phases) t marked flags)) (step m now x (entries m w st) .out) root-whole,
+            same-length (map messageOf (rootKeys (m .phases) t marked flags)) (step m now x (entries m w st) .out .bag) root-whole,
             ap length (step-out m w now x (entries m w st) is-ready),
             root-bag m w at now is-ready,
           )
 
-      pub table-out : Same (after .out) (step m now x (entries m w st) .out)
+      pub table-out : Same (after .out .bag) (step m now x (entries m w st) .out .bag)
       unfolding tableStep
       table-out p =
           let whole : take (rootRoom room) (rootKeys (m .phases) t marked flags) ≡ rootKeys (m .phases) t marked flags = take-all (rootRoom room) _ (omega (arith, root-few)) in
@@ -168,11 +205,11 @@ module _ (m : Model) (w : WellFormed m) (t : List ℕ) (h : Tabled m t) (st : St
       table-room = all-room m w t h now _ _ room x (length (atomics (m .components))) 0 st
 
       -- the root's bag has at most 4 messages a route
-      pub table-few : length (after .out) ≤ maxOutputs * length (routes m)
+      pub table-few : length (after .out .bag) ≤ maxOutputs * length (routes m)
       table-few =
           omega (
             arith,
-            same-length (after .out) (step m now x (entries m w st) .out) table-out,
+            same-length (after .out .bag) (step m now x (entries m w st) .out .bag) table-out,
             ap length (step-out m w now x (entries m w st) is-ready),
             root-bag m w at now is-ready,
           )

@@ -46,7 +46,7 @@ module _ (m : Model) (w : WellFormed m) (t : List ℕ) (h : Tabled m t) (room : 
       let p = e .1 in
       λ i. record {
         number = e .0 i;
-        progress = record { opening = p .opening i; state = p .state .0 .entries i; instants = p .instants i; steps = p .steps i; trace = p .trace i };
+        progress = record { opening = p .opening i; state = p .state .0 .entries i; instants = p .instants i; steps = p .steps i; trace = p .trace i; rules = p .rules i };
       }
 
   -- an advance on the tables, from entries that fit at the open moment

@@ -2,13 +2,13 @@
 -- holds stands for the definition's entries. The step's law, lifted through instants and calls. Assumes nothing.
 use mathlib.Core.Path.{_≡_, refl, sym, ap, _∙_, subst}
 use Prim.Native.Nat.{ℕ, _+_, _*_, _≤_, _<_}
-use mathlib.Core.List.{List, []}
+use mathlib.Core.List.{List}
 use mathlib.Core.Bool.{Bool, true, false, cond}
 use native.Mathlib.Omega.{arith}
 use lib.Dec.{leb}
 use lib.ListN.{length, getD}
 use borrow.Author.Tests.{leb-true}
-use Rattle.definition.specs.Lists.{all, count, isEmpty, Same}
+use Rattle.definition.specs.Lists.{all, count, isEmpty}
 use Rattle.definition.specs.Limits.{maxGiven, maxAdvance, maxMoment}
 use Rattle.definition.specs.Model.{Bag, Model, atomics}
 use Rattle.definition.specs.Records.{portFits}
@@ -22,6 +22,7 @@ use Rattle.law_nest.proofs.Pairs.{pairs-if}
 use Rattle.law_nest.proofs.Nest.{Fresh}
 use Rattle.law_nest.proofs.Stepping.{Good}
 use Rattle.law_flat.proofs.Checks.{entry-fresh}
+use Rattle.law_calls.proofs.SameBags.{SameOutput}
 use Rattle.law_calls.proofs.Lift.{Agree, EndsAlike, advance-alike}
 use Rattle.law_calls.proofs.Kept.{Kept, Fit, kept-step, fit-early, fit-opens, kept-closes}
 use Rattle.clock.specs.Times.{latest}
@@ -30,9 +31,9 @@ use Rattle.run_state.specs.Held.{entriesOf}
 use Rattle.spec_step.specs.TableStep.{tableNext, tableStep, tableSim}
 use Rattle.spec_step.specs.Tabled.{Tabled}
 use Rattle.law_step.proofs.Values.{hasValue}
-use Rattle.law_step.proofs.StepLaw.{Holds, soon-at, table-state, table-out, table-room}
+use Rattle.law_step.proofs.StepLaw.{Holds, soon-at, table-state, table-decided, table-out, table-room}
 use Rattle.law_step.proofs.NextLaw.{table-next}
-use Rattle.law_tables.proofs.Until.{until, advance-until}
+use Rattle.law_tables.proofs.Until.{nothing, until, advance-until}
 
 -- A given bag as the checks let it through.
 pub record Given (x y : Bag) : Type 0 where
@@ -73,10 +74,13 @@ module _ (m : Model) (w : WellFormed m) (t : List ℕ) (h : Tabled m t) (room : 
     abbrev next : Stepped State
     next = tableStep (m .phases) t (m .rules) (length (atomics (m .components))) room now x st
 
-    step-out : Same (step m now x rs .out) (next .out)
-    step-out p =
-        ap (λ rs. count p (step m now x rs .out)) (a .0 .entries)
-        ∙ sym (table-out m w t h st now (holds now rs st a) x (g .few) (g .ports) (g .values) room enough p)
+    step-out : SameOutput (step m now x rs .out) (next .out)
+    step-out = (
+      λ p. ap (λ rs. count p (step m now x rs .out .bag)) (a .0 .entries)
+          ∙ sym (table-out m w t h st now (holds now rs st a) x (g .few) (g .ports) (g .values) room enough p),
+      ap (λ rs. step m now x rs .out .decided) (a .0 .entries)
+          ∙ sym (table-decided m w t h st now (holds now rs st a) x (g .few) (g .ports) (g .values) room enough),
+    )
 
     step-entries : step m now x rs .state ≡ held (next .state)
     step-entries =
@@ -106,10 +110,10 @@ module _ (m : Model) (w : WellFormed m) (t : List ℕ) (h : Tabled m t) (room : 
       fine-none = record { same = refl; few = omega arith; ports = refl; values = refl };
       fine-empty = λ x y g. ap isEmpty (g .same);
       same-out = λ now x y rs st a g. subst
-          (λ y. Same (cond (leb now limit) (step m now x rs) (record { out = []; state = rs }) .out) (cond (leb now limit) (sim .step now y st) (record { out = []; state = st }) .out))
+          (λ y. SameOutput (cond (leb now limit) (step m now x rs) (record { out = nothing; state = rs }) .out) (cond (leb now limit) (sim .step now y st) (record { out = nothing; state = st }) .out))
           (g .same) (out-by (leb now limit) now x rs st a (own g));
       steps = λ now x y rs st a g. subst
-          (λ y. AtTables now (cond (leb now limit) (step m now x rs) (record { out = []; state = rs }) .state) (cond (leb now limit) (sim .step now y st) (record { out = []; state = st }) .state))
+          (λ y. AtTables now (cond (leb now limit) (step m now x rs) (record { out = nothing; state = rs }) .state) (cond (leb now limit) (sim .step now y st) (record { out = nothing; state = st }) .state))
           (g .same) (stood-by now (leb now limit) refl x rs st a (own g));
       early = λ o rs st b. fit-early m w o rs (b .1);
       opens = λ o u rs st b l e. (b .0, fit-opens m w o u rs (b .1) l e);
@@ -120,12 +124,12 @@ module _ (m : Model) (w : WellFormed m) (t : List ℕ) (h : Tabled m t) (room : 
         own g = record { same = refl; few = g .few; ports = g .ports; values = g .values }
 
         out-by : (b : Bool) (now : ℕ) (x : Bag) (rs : List Entry) (st : State) → AtTables now rs st → Given x x
-            → Same (cond b (step m now x rs) (record { out = []; state = rs }) .out) (cond b (sim .step now x st) (record { out = []; state = st }) .out)
+            → SameOutput (cond b (step m now x rs) (record { out = nothing; state = rs }) .out) (cond b (sim .step now x st) (record { out = nothing; state = st }) .out)
         out-by true now x rs st a g = step-out now x rs st a g
-        out-by false now x rs st a g = λ p. refl
+        out-by false now x rs st a g = (λ p. refl, refl)
 
         stood-by : (now : ℕ) (b : Bool) → leb now limit ≡ b → (x : Bag) (rs : List Entry) (st : State) → AtTables now rs st → Given x x
-            → AtTables now (cond b (step m now x rs) (record { out = []; state = rs }) .state) (cond b (sim .step now x st) (record { out = []; state = st }) .state)
+            → AtTables now (cond b (step m now x rs) (record { out = nothing; state = rs }) .state) (cond b (sim .step now x st) (record { out = nothing; state = st }) .state)
         stood-by now true e x rs st a g = step-stood now x rs st a g (omega (arith, leb-true now limit e))
         stood-by now false e x rs st a g = a
 

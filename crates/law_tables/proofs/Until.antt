@@ -11,14 +11,18 @@ use Rattle.definition.specs.Bytes.{Result, ok, refused}
 use Rattle.definition.specs.Limits.{maxSteps}
 use Rattle.definition.specs.Model.{Bag}
 use Rattle.definition.specs.Devs.{Time, finite, never, ticks}
-use Rattle.definition.specs.Step.{Simulator}
+use Rattle.definition.specs.Step.{Output, Simulator}
 use Rattle.definition.specs.Instant.{goesOn, isDue, stepsAt, instant}
 use Rattle.definition.specs.Advance.{Progress, Ended, tried, continued, succeeded, isBefore, advancing, advanceFrom}
 use Rattle.law_base.proofs.Tests.{clash}
 
+-- what a step gives in which nothing happens
+abbrev pub nothing : Output
+nothing = record { bag = []; decided = [] }
+
 -- a simulator that stands still after a limit
 abbrev pub until : {S : Type 0} → ℕ → Simulator S → Simulator S
-until limit k = record { next = k .next; step = λ now x s. cond (leb now limit) (k .step now x s) (record { out = []; state = s }) }
+until limit k = record { next = k .next; step = λ now x s. cond (leb now limit) (k .step now x s) (record { out = nothing; state = s }) }
 
 module _ {S : Type 0} (limit : ℕ) (k : Simulator S) where
   steps-until : (n now : ℕ) (x : Bag) (s : S) → now ≤ limit → stepsAt (until limit k) n now x s ≡ stepsAt k n now x s

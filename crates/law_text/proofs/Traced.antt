@@ -15,19 +15,19 @@ use Rattle.definition.specs.Model.{Bag, messageLe}
 use Rattle.definition.specs.Pinned.Decoder.{accepted}
 use Rattle.definition.specs.Devs.{ticks}
 use Rattle.definition.specs.SavedRun.{Entry, runOf}
-use Rattle.definition.specs.Step.{Simulator, nested}
+use Rattle.definition.specs.Step.{Output, Simulator, nested}
 use Rattle.definition.specs.Instant.{Instant, done, jammed, instant, over, TraceRecord, traceBytes, recordsFrom, instantTrace}
 use Rattle.definition.specs.Advance.{Progress, Ended, ended, tried, continued, succeeded, isBefore, advancing, advanceFrom}
 use Rattle.definition.specs.Engine.{Advanced, toBag, advanceChecks, advanced, advance}
 use Rattle.law_base.proofs.Lists.{all-append, all-head, all-tail, all-cons, length-perm, sort-permutes}
 use Rattle.law_base.proofs.Turns.{traces-append}
 
--- A bag, and a record, of at most 4,096 messages.
-abbrev pub smallBag : Bag → Bool
-smallBag x = leb (length x) maxRootBag
+-- A root bag, and a record, of at most 4,096 messages.
+abbrev smallBag : Output → Bool
+smallBag x = leb (length (x .bag)) maxRootBag
 
 abbrev pub smallRecord : TraceRecord → Bool
-smallRecord r = smallBag (r .messages)
+smallRecord r = leb (length (r .messages)) maxRootBag
 
 -- Trace bytes that are whole records.
 pub record Traced (room : ℕ) (trace : Bytes) : Type 0 where
@@ -42,18 +42,18 @@ traced-none room = record { records = []; bytes = refl; small = refl; within = o
 
 -- ---- an instant
 
-records-small : (now k : ℕ) (xs : List Bag) → all smallBag xs ≡ true → all smallRecord (recordsFrom now k xs) ≡ true
+records-small : (now k : ℕ) (xs : List Output) → all smallBag xs ≡ true → all smallRecord (recordsFrom now k xs) ≡ true
 unfolding recordsFrom all
 records-small now k [] h = refl
-records-small now k (x ∷ xs) h = go (isEmpty x) (records-small now (suc k) xs (all-tail smallBag x xs h))
+records-small now k (x ∷ xs) h = go (isEmpty (x .bag)) (records-small now (suc k) xs (all-tail smallBag x xs h))
   where
     sorted : TraceRecord
-    sorted = record { moment = now; step = k; messages = sortBy messageLe x }
+    sorted = record { moment = now; step = k; messages = sortBy messageLe (x .bag) }
 
     go : (b : Bool) → all smallRecord (recordsFrom now (suc k) xs) ≡ true
         → all smallRecord (cond b (recordsFrom now (suc k) xs) (sorted ∷ recordsFrom now (suc k) xs)) ≡ true
     go true i = i
-    go false i = all-cons smallRecord sorted (recordsFrom now (suc k) xs) (ap (λ n. leb n maxRootBag) (length-perm (sort-permutes messageLe x)) ∙ all-head smallBag x xs h) i
+    go false i = all-cons smallRecord sorted (recordsFrom now (suc k) xs) (ap (λ n. leb n maxRootBag) (length-perm (sort-permutes messageLe (x .bag))) ∙ all-head smallBag x xs h) i
 
 module _ {S : Type 0} (room : ℕ) where
   -- What stands, if anything does, is whole records.
@@ -133,13 +133,13 @@ answers-bind : {A : Type 0} (room : ℕ) (r : Result A) (f : A → Result (Ended
 answers-bind room (ok a) f h = h a
 answers-bind room (refused n) f h = tt
 
-advanced-traced : (run trace : Bytes) (r : Result (Ended (List Entry))) → Answers (length trace) r → Traced (length trace) (written (advanced run trace r))
+advanced-traced : (run trace table : Bytes) (r : Result (Ended (List Entry))) → Answers (length trace) r → Traced (length trace) (written (advanced run trace table r))
 unfolding advanced stored
-advanced-traced run trace (refused n) h = traced-none (length trace)
-advanced-traced run trace (ok e) h = subst (Traced (length trace)) (sym (take-append-seam (e .progress .trace) (drop (length (e .progress .trace)) trace))) h
+advanced-traced run trace table (refused n) h = traced-none (length trace)
+advanced-traced run trace table (ok e) h = subst (Traced (length trace)) (sym (take-append-seam (e .progress .trace) (drop (length (e .progress .trace)) trace))) h
 
-pub advance-traced : (file run : Bytes) (t : ℕ) (bag trace : Bytes) → Traced (length trace) (written (advance file run t bag trace))
+pub advance-traced : (file run : Bytes) (t : ℕ) (bag trace table : Bytes) → Traced (length trace) (written (advance file run t bag trace table))
 unfolding advance
-advance-traced file run t bag trace =
-    advanced-traced run trace _
+advance-traced file run t bag trace table =
+    advanced-traced run trace table _
     (answers-bind (length trace) (accepted file) _ (λ m. answers-bind (length trace) (advanceChecks m run t bag) _ (λ _. advance-from-traced (length trace) (nested m) t (toBag bag) (runOf m run .opening) (runOf m run .entries))))

@@ -10,7 +10,7 @@ use Rattle.definition.specs.Lists.{isEmpty}
 use Rattle.definition.specs.Limits.{maxComponents, maxAncestors, portCount, neverField}
 use Rattle.definition.specs.Model.{Bag, Phase, Rule, noPhase, noRule, outputs}
 use Rattle.definition.specs.Devs.{Time, finite, never, earlier, sameTime}
-use Rattle.definition.specs.Atomic.{holds}
+use Rattle.definition.specs.Atomic.{toldAs, holds}
 use Rattle.definition.specs.Step.{Stepped, Simulator}
 use Rattle.clock.specs.Times.{latest}
 use Rattle.run_state.specs.declared.State.{State}
@@ -192,6 +192,16 @@ module _ (ps : List Phase) (t : List ℕ) where
     leadBy now st i c false [] = none
     leadBy now st i c false (y ∷ x) = leads rs (ruleIn t rs c (getD (st .phase) i 0) (now - getD (st .last) i 0) (y ∷ x))
 
+    -- What decides its external part: nothing where it has none.
+    unfoldable pub confluentRule : ℕ → ℕ → Bag → Option ℕ
+    confluentRule c p x =
+        cond (eqb (getD t (ordersAt + c) 0) 0) (ruleIn t rs c (phaseIn c p .next) 0 x) (ruleIn t rs c p (phaseIn c p .advance) x)
+
+    unfoldable pub partBy : ℕ → State → ℕ → ℕ → Bool → Bag → Option ℕ
+    partBy now st i c due [] = none
+    partBy now st i c true (y ∷ x) = some (toldAs (confluentRule c (getD (st .phase) i 0) (y ∷ x)))
+    partBy now st i c false (y ∷ x) = some (toldAs (ruleIn t rs c (getD (st .phase) i 0) (now - getD (st .last) i 0) (y ∷ x)))
+
     unfoldable pub changedBy : ℕ → State → ℕ → ℕ → Bool → Bag → State
     changedBy now st i c due x = ledInto now st i (leadBy now st i c due x)
 
@@ -203,12 +213,23 @@ module _ (ps : List Phase) (t : List ℕ) where
         let c = getD t (numbersAt + i) 0 in
         changedFrom es fs room now x n (i + 1) (changedBy now st i c (isUp es c) (map messageOf (take room (keysInto es fs x c))))
 
+    -- What decides in each of them.
+    unfoldable pub partsFrom : List ℕ → List ℕ → ℕ → ℕ → Bag → ℕ → ℕ → State → List (Option ℕ)
+    partsFrom es fs room now x zero i st = []
+    partsFrom es fs room now x (suc n) i st =
+        let c = getD t (numbersAt + i) 0 in
+        let bag = map messageOf (take room (keysInto es fs x c)) in
+        partBy now st i c (isUp es c) bag ∷ partsFrom es fs room now x n (i + 1) (changedBy now st i c (isUp es c) bag)
+
     -- The step of n atomics, where an atomic's bag has room for so many messages.
     unfoldable pub tableStep : ℕ → ℕ → ℕ → Bag → State → Stepped State
     tableStep n room now x st =
         let es = marks n now st in
         let fs = reached t es x in
-        record { out = map messageOf (take (rootRoom room) (rootKeys es fs)); state = changedFrom es fs room now x n 0 st }
+        record {
+          out = record { bag = map messageOf (take (rootRoom room) (rootKeys es fs)); decided = partsFrom es fs room now x n 0 st };
+          state = changedFrom es fs room now x n 0 st;
+        }
 
     abbrev pub tableSim : ℕ → ℕ → Simulator State
     tableSim n room = record { next = tableNext; step = tableStep n room }

@@ -107,9 +107,9 @@ module _ (file run : Bytes) (at : ℕ) where
 
 -- ---- advance, before any instant
 
-module _ (file run : Bytes) (t : ℕ) (given trace : Bytes) where
-  pub advance-refused : (n : ℕ) → AdvanceRefusal file run t given n → advance file run t given trace ≡ refusedAdvance n run trace
-  advance-refused n (advance-refuses-model k l j) = advance-model file run t given trace k (by-row file k l j)
-  advance-refused n (advance-refuses-run m e f) = advance-run file run t given trace m e f
-  advance-refused n (advance-refuses-time m e f l) = advance-time file run t given trace m e f l
-  advance-refused n (advance-refuses-bag m e f o l g) = advance-bag file run t given trace m e f o l g
+module _ (file run : Bytes) (t : ℕ) (given trace table : Bytes) where
+  pub advance-refused : (n : ℕ) → AdvanceRefusal file run t given n → advance file run t given trace table ≡ refusedAdvance n run trace table
+  advance-refused n (advance-refuses-model k l j) = advance-model file run t given trace table k (by-row file k l j)
+  advance-refused n (advance-refuses-run m e f) = advance-run file run t given trace table m e f
+  advance-refused n (advance-refuses-time m e f l) = advance-time file run t given trace table m e f l
+  advance-refused n (advance-refuses-bag m e f o l g) = advance-bag file run t given trace table m e f o l g

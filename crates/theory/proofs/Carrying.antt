@@ -5,7 +5,7 @@ use Prim.Native.Nat.{ℕ, _+_, _-_, _≤_}
 use mathlib.Core.List.{List}
 use mathlib.Core.Bool.{true}
 use native.Mathlib.Omega.{arith}
-use Rattle.definition.specs.Lists.{count, isEmpty}
+use Rattle.definition.specs.Lists.{isEmpty}
 use Rattle.definition.specs.Model.{Bag, Model, tree}
 use Rattle.definition.specs.Devs.{finite, sameTime, later, Since, devsDue, devsStep}
 use Rattle.definition.specs.SavedRun.{Entry, notBefore, dueAt, atomicCount, entryOf, nextDue}
@@ -19,6 +19,7 @@ use Rattle.law_nest.proofs.Nest.{Ready, ready-due}
 use Rattle.law_nest.proofs.AnySplit.{pass-stands, ta-stands}
 use Rattle.law_nest.proofs.StepOf.{any-split}
 use Rattle.law_nest.proofs.Stepping.{Good, long, ready}
+use Rattle.law_calls.proofs.SameBags.{equal-output}
 use Rattle.law_calls.proofs.Lift.{Agree}
 use Rattle.law_calls.proofs.Kept.{Kept, Fit, kept-step, fit-early, fit-opens, kept-closes}
 
@@ -29,7 +30,7 @@ agree-self {k₁ = k₁} {k₂ = k₂} a = record {
   same-next = λ now s s′ h. ap (k₁ .next) (h .0);
   fine-none = refl;
   fine-empty = λ x y e. ap isEmpty e;
-  same-out = λ now x y s s′ h e p. ap₂ (λ z r. count p (k₁ .step now z r .out)) e (h .0);
+  same-out = λ now x y s s′ h e. equal-output _ _ (ap₂ (λ z r. k₁ .step now z r .out) e (h .0));
   steps = λ now x y s s′ h e. (ap₂ (λ z r. k₁ .step now z r .state) e (h .0), k₂ .step now x (h .1) .state, a .steps now x x s (h .1) (h .2) refl);
   early = λ o s s′ h. a .early o s (h .1) (h .2);
   opens = λ o u s s′ h l e. (h .0, h .1, a .opens o u s (h .1) (h .2) l e);
@@ -72,7 +73,7 @@ module _ (m : Model) (w : WellFormed m) where
   due-between o q rs h = due-carried o q rs (opened o o q rs h (omega arith) (fit-early m w o rs (h .1)))
 
   -- a step leads to a state that stands for the new entries
-  carried-step : (now : ℕ) (x : Bag) (q : Since (rootOf m)) (rs : List Entry) → AtStands now q rs → AtStands now (carried (rootOf m) .step now x q .state) (step m now x rs .state)
+  carried-step : (now : ℕ) (x : Bag) (q : Since (rootOf m)) (rs : List Entry) → AtStands now q rs → AtStands now (carried m .step now x q .state) (step m now x rs .state)
   unfolding devsStep atomicCount
   carried-step now x q rs h =
       let k = kept-step m w now x rs (h .1) in (
@@ -84,14 +85,14 @@ module _ (m : Model) (w : WellFormed m) where
         k,
       )
 
-  pub agree-carried : Agree AtStands BetweenStands _≡_ (carried (rootOf m)) (nested m)
+  pub agree-carried : Agree AtStands BetweenStands _≡_ (carried m) (nested m)
   unfolding isDue
   agree-carried = record {
     same-next = due-carried;
     fine-none = refl;
     fine-empty = λ x y e. ap isEmpty e;
-    same-out = λ now x y q rs h e p. ap (count p) (any-split m w now x rs (ready m w now rs (h .1 .0)) q (stands-now now q rs (h .0)) .0 ∙ ap (λ z. step m now z rs .out) e);
-    steps = λ now x y q rs h e. subst (λ z. AtStands now (carried (rootOf m) .step now x q .state) (step m now z rs .state)) e (carried-step now x q rs h);
+    same-out = λ now x y q rs h e. equal-output _ _ (any-split m w now x rs (ready m w now rs (h .1 .0)) q (stands-now now q rs (h .0)) .0 ∙ ap (λ z. step m now z rs .out) e);
+    steps = λ now x y q rs h e. subst (λ z. AtStands now (carried m .step now x q .state) (step m now z rs .state)) e (carried-step now x q rs h);
     early = λ o q rs h. ap (notBefore o) (due-between o q rs h) ∙ fit-early m w o rs (h .1);
     opens = λ o u q rs h l e. opened o u q rs h l (ap (notBefore u) (sym (due-between o q rs h)) ∙ e);
     closes = λ now q rs h e. (

@@ -20,7 +20,7 @@ use Rattle.definition.specs.SavedRun.{Entry, atomicCount, runOf, runBytes, runF
 use Rattle.definition.specs.Step.{nested}
 use Rattle.definition.specs.Advance.{Progress, Ended, advanceFrom}
 use Rattle.definition.specs.AdvanceRelation.{Ends}
-use Rattle.definition.specs.Engine.{Advanced, wrote, toBag, bagFits, advanceChecks, advanced, advance}
+use Rattle.definition.specs.Engine.{Advanced, wrote, toBag, bagFits, advanceChecks, withRules, advanced, advance}
 use Rattle.definition.specs.Flatten.{flat, flatten}
 use Rattle.definition.specs.Carrying.{begins}
 use Rattle.definition.specs.Demands.{openingOf, MayAdvance, AdvanceRefusal, AdvanceNumber, by-row, by-instants, Demand1, advance-refuses-model, advance-refuses-run, advance-refuses-time, advance-refuses-bag}
@@ -52,51 +52,52 @@ module _ (run : Bytes) (t : ℕ) (bag trace : Bytes) (m : Model) (w : WellFormed
   advance-only e r = only (agree-order m w) (length trace) t (toBag bag) r (suc t) (refl, fits-run m run fit .0 .0) early (omega arith)
 
   -- where no instant stands, the buffers are as they were
-  as-before : AllBytes run → 0 < endOf m run t bag trace .number → endOf m run t bag trace .progress .instants ≡ 0
-      → (advanced run trace (ok (endOf m run t bag trace)) .run ≡ run) × (advanced run trace (ok (endOf m run t bag trace)) .trace ≡ trace)
-  unfolding advanced stored runOf
-  as-before b n i = go (undone advance-ends)
+  as-before : (table : Bytes) → AllBytes run → 0 < endOf m run t bag trace .number → endOf m run t bag trace .progress .instants ≡ 0
+      → (let a = advanced run trace table (ok (endOf m run t bag trace)) in (a .run ≡ run) × (a .trace ≡ trace) × (a .table ≡ table))
+  unfolding advanced stored runOf withRules
+  as-before table b n i = go (undone advance-ends)
     where
       e : Ended (List Entry)
       e = endOf m run t bag trace
 
       go : (e .number ≡ 0) ⊎ ((e .progress ≡ begins (openingOf m run) (runOf m run .entries)) ⊎ (0 < e .progress .instants))
-          → (advanced run trace (ok e) .run ≡ run) × (advanced run trace (ok e) .trace ≡ trace)
+          → (let a = advanced run trace table (ok e) in (a .run ≡ run) × (a .trace ≡ trace) × (a .table ≡ table))
       go (inl z) = absurd (omega arith)
       go (inr (inl z)) =
           let f = fits-run m run fit in (
             ap (λ (p : Progress (List Entry)). stored (runBytes (record { opening = p .opening; entries = p .state })) run) z ∙ run-written (atomicCount m) (f .1) (f .2) b,
             ap (λ (p : Progress (List Entry)). stored (p .trace) trace) z,
+            ap (λ (p : Progress (List Entry)). withRules (length (p .state)) p table) z,
           )
       go (inr (inr z)) = absurd (omega arith)
 
-nothing-done : (file run : Bytes) (t : ℕ) (bag trace : Bytes) (m : Model) → AllBytes file → AllBytes run → accepted file ≡ ok m
-    → 0 < advance file run t bag trace .number → advance file run t bag trace .instants ≡ 0
-    → (advance file run t bag trace .run ≡ run) × (advance file run t bag trace .trace ≡ trace)
+nothing-done : (file run : Bytes) (t : ℕ) (bag trace table : Bytes) (m : Model) → AllBytes file → AllBytes run → accepted file ≡ ok m
+    → 0 < advance file run t bag trace table .number → advance file run t bag trace table .instants ≡ 0
+    → (advance file run t bag trace table .run ≡ run) × (advance file run t bag trace table .trace ≡ trace) × (advance file run t bag trace table .table ≡ table)
 unfolding advance advanced
-nothing-done file run t bag trace m bf br e = rw e (go (advanceChecks m run t bag) refl)
+nothing-done file run t bag trace table m bf br e = rw e (go (advanceChecks m run t bag) refl)
   where
     all : Advanced
-    all = advanced run trace (advanceChecks m run t bag >>= λ _. ok (endOf m run t bag trace))
+    all = advanced run trace table (advanceChecks m run t bag >>= λ _. ok (endOf m run t bag trace))
 
-    go : (r : Result (Unit {0})) → advanceChecks m run t bag ≡ r → 0 < all .number → all .instants ≡ 0 → (all .run ≡ run) × (all .trace ≡ trace)
-    go (refused n) f = rw f (λ u v. (refl, refl))
+    go : (r : Result (Unit {0})) → advanceChecks m run t bag ≡ r → 0 < all .number → all .instants ≡ 0 → (all .run ≡ run) × (all .trace ≡ trace) × (all .table ≡ table)
+    go (refused n) f = rw f (λ u v. (refl, refl, refl))
     go (ok z) f =
         let c = advance-ok m run t bag f in
-        rw f (as-before run t bag trace m (accepted-sound file m bf e .sound) (c .run-fits) (c .not-early) br)
+        rw f (as-before run t bag trace m (accepted-sound file m bf e .sound) (c .run-fits) (c .not-early) table br)
 
 -- ---- the number of any advance
 
-module _ (file run : Bytes) (t : ℕ) (bag trace : Bytes) (b : AllBytes file) where
-  number-by : (n : ℕ) → advance file run t bag trace .number ≡ n → AdvanceNumber file run t bag trace n → AdvanceNumber file run t bag trace (advance file run t bag trace .number)
+module _ (file run : Bytes) (t : ℕ) (bag trace table : Bytes) (b : AllBytes file) where
+  number-by : (n : ℕ) → advance file run t bag trace table .number ≡ n → AdvanceNumber file run t bag trace n → AdvanceNumber file run t bag trace (advance file run t bag trace table .number)
   number-by n e h = subst (AdvanceNumber file run t bag trace) (sym e) h
 
-  number-row : (n : ℕ) → AdvanceRefusal file run t bag n → AdvanceNumber file run t bag trace (advance file run t bag trace .number)
-  number-row n r = number-by n (ap (λ a. a .number) (advance-refused file run t bag trace n r)) (by-row n r)
+  number-row : (n : ℕ) → AdvanceRefusal file run t bag n → AdvanceNumber file run t bag trace (advance file run t bag trace table .number)
+  number-row n r = number-by n (ap (λ a. a .number) (advance-refused file run t bag trace table n r)) (by-row n r)
 
   -- a model that is accepted: its rows one after the other
   number-rows : (m : Model) → accepted file ≡ ok m → (r : Bool) → runFits m run ≡ r → (u : Bool) → ltb t (runOf m run .opening) ≡ u → (v : Bool) → ltb maxMoment t ≡ v
-      → (g : Bool) → bagFits bag ≡ g → AdvanceNumber file run t bag trace (advance file run t bag trace .number)
+      → (g : Bool) → bagFits bag ≡ g → AdvanceNumber file run t bag trace (advance file run t bag trace table .number)
   unfolding advanced
   number-rows m e false f u h v i g k = number-row 10 (advance-refuses-run m e f)
   number-rows m e true f true h v i g k = number-row 11 (advance-refuses-time m e f (inl (ltb-true _ _ h)))
@@ -105,12 +106,12 @@ module _ (file run : Bytes) (t : ℕ) (bag trace : Bytes) (b : AllBytes file) wh
   number-rows m e true f false h false i true k =
       let may : MayAdvance m run t bag = record { run-fits = f; not-early = ltb-false t (runOf m run .opening) h; not-late = ltb-false maxMoment t i; bag-fits = k } in
       let w = accepted-sound file m b e .sound in
-      number-by (endOf m run t bag trace .number) (ap (λ a. a .number) (advance-done file run t bag trace m e may)) (by-instants m (endOf m run t bag trace) e may (advance-ends run t bag trace m w f (may .not-early)))
+      number-by (endOf m run t bag trace .number) (ap (λ a. a .number) (advance-done file run t bag trace table m e may)) (by-instants m (endOf m run t bag trace) e may (advance-ends run t bag trace m w f (may .not-early)))
 
-  advance-number : AdvanceNumber file run t bag trace (advance file run t bag trace .number)
+  advance-number : AdvanceNumber file run t bag trace (advance file run t bag trace table .number)
   advance-number = go (accepted file) refl
     where
-      go : (r : Result Model) → accepted file ≡ r → AdvanceNumber file run t bag trace (advance file run t bag trace .number)
+      go : (r : Result Model) → accepted file ≡ r → AdvanceNumber file run t bag trace (advance file run t bag trace table .number)
       go (refused n) e = let h = row-of file n b e in number-row n (advance-refuses-model n (h .0) (h .1))
       go (ok m) e = number-rows m e (runFits m run) refl (ltb t (runOf m run .opening)) refl (ltb maxMoment t) refl (bagFits bag) refl
 
@@ -136,11 +137,11 @@ demand1 = record {
   start-done = start-done;
   flatten-done = flatten-done;
   reading-done = reading-done;
-  advance-ends = λ file run t bag trace m b e h.
+  advance-ends = λ file run t bag trace table m b e h.
       let w = accepted-sound file m b e .sound in
-      (endOf m run t bag trace, advance-ends run t bag trace m w (h .run-fits) (h .not-early), advance-done file run t bag trace m e h);
-  advance-only = λ file run t bag trace m b e h r s.
-      advance-done file run t bag trace m e h ∙ ap (λ z. advanced run trace (ok z)) (advance-only run t bag trace m (accepted-sound file m b e .sound) (h .run-fits) (h .not-early) r s);
+      (endOf m run t bag trace, advance-ends run t bag trace m w (h .run-fits) (h .not-early), advance-done file run t bag trace table m e h);
+  advance-only = λ file run t bag trace table m b e h r s.
+      advance-done file run t bag trace table m e h ∙ ap (λ z. advanced run trace table (ok z)) (advance-only run t bag trace m (accepted-sound file m b e .sound) (h .run-fits) (h .not-early) r s);
   nothing-done = nothing-done;
   start-fits = start-fits;
   advance-fits = advance-fits;

@@ -39,10 +39,10 @@ unfolding bagFits
 bag-fits b c e s =
     ap₂ (λ (n : ℕ) (t : Bool). eqb (n % messageSize) 0 && leb n (messageSize * maxGiven) && t) e (all-perm portFits (message-perm (toBag b) (toBag c) s))
 
-given-order : (file run : Bytes) (t : ℕ) (b c trace : Bytes) → AllBytes file → length b ≡ length c → Same (toBag b) (toBag c)
-    → advance file run t b trace ≡ advance file run t c trace
+given-order : (file run : Bytes) (t : ℕ) (b c trace table : Bytes) → AllBytes file → length b ≡ length c → Same (toBag b) (toBag c)
+    → advance file run t b trace table ≡ advance file run t c trace table
 unfolding advance
-given-order file run t b c trace bytes e s = accept (accepted file) refl
+given-order file run t b c trace table bytes e s = accept (accepted file) refl
   where
     same-checks : (m : Model) → advanceChecks m run t b ≡ advanceChecks m run t c
     same-checks m = unfold advanceChecks in (rw (bag-fits b c e s))
@@ -55,11 +55,11 @@ given-order file run t b c trace bytes e s = accept (accepted file) refl
         (refl, fits-run m run (k .run-fits) .0 .0) (k .not-early))
 
     check : (m : Model) → WellFormed m → (r : Result (Unit {0})) → advanceChecks m run t c ≡ r
-        → advanced run trace (advanceChecks m run t c >>= λ _. ok (endOf m run t b trace)) ≡ advanced run trace (advanceChecks m run t c >>= λ _. ok (endOf m run t c trace))
+        → advanced run trace table (advanceChecks m run t c >>= λ _. ok (endOf m run t b trace)) ≡ advanced run trace table (advanceChecks m run t c >>= λ _. ok (endOf m run t c trace))
     check m w (refused n) h = rw h
-    check m w (ok u) h = rw h (ap (λ z. advanced run trace (ok z)) (same-end m w h))
+    check m w (ok u) h = rw h (ap (λ z. advanced run trace table (ok z)) (same-end m w h))
 
-    accept : (r : Result Model) → accepted file ≡ r → advance file run t b trace ≡ advance file run t c trace
+    accept : (r : Result Model) → accepted file ≡ r → advance file run t b trace table ≡ advance file run t c trace table
     accept (refused n) f = rw f
     accept (ok m) f = rw (f, same-checks m) (check m (accepted-sound file m bytes f .sound) (advanceChecks m run t c) refl)
 

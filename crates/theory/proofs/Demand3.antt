@@ -53,9 +53,9 @@ module _ (file : Bytes) (m : Model) (e : accepted file ≡ ok m) (a : Accepted m
   start-same run = rw (e, f, same-start m w)
 
   -- both are advances of the flat step on the flat form
-  advance-same : (run : Bytes) (t : ℕ) (bag trace : Bytes) → advance file run t bag trace ≡ advance (modelBytes (flat m)) run t bag trace
+  advance-same : (run : Bytes) (t : ℕ) (bag trace table : Bytes) → advance file run t bag trace table ≡ advance (modelBytes (flat m)) run t bag trace table
   unfolding advance
-  advance-same run t bag trace = rw (e, f, same-checks m w run t bag, same-run m w run) (go (advanceChecks m run t bag) refl)
+  advance-same run t bag trace table = rw (e, f, same-checks m w run t bag, same-run m w run) (go (advanceChecks m run t bag) refl)
     where
       rs : List Entry
       rs = runOf m run .entries
@@ -64,14 +64,14 @@ module _ (file : Bytes) (m : Model) (e : accepted file ≡ ok m) (a : Accepted m
       o = runOf m run .opening
 
       go : (r : Result (Unit {0})) → advanceChecks m run t bag ≡ r
-          → advanced run trace (advanceChecks m run t bag >>= λ _. ok (advanceFrom (nested m) (length trace) t (toBag bag) o rs))
-          ≡ advanced run trace (advanceChecks m run t bag >>= λ _. ok (advanceFrom (nested (flat m)) (length trace) t (toBag bag) o rs))
+          → advanced run trace table (advanceChecks m run t bag >>= λ _. ok (advanceFrom (nested m) (length trace) t (toBag bag) o rs))
+          ≡ advanced run trace table (advanceChecks m run t bag >>= λ _. ok (advanceFrom (nested (flat m)) (length trace) t (toBag bag) o rs))
       go (refused n) h = rw h
       go (ok u) h =
           let c = advance-ok m run t bag h in
           let ports = bag-fine bag (c .bag-fits) in
           let fit = subst (λ r. Fit (flat m) (r .opening) (r .entries)) (same-run m w run) (fits-run (flat m) run (same-fits m w run ∙ c .run-fits) .0 .0) in
-          rw h (ap (λ x. advanced run trace (ok x))
+          rw h (ap (λ x. advanced run trace table (ok x))
           (lifted m w o rs (length trace) t (toBag bag) (fits-run m run (c .run-fits) .0 .0) (c .not-early) ports
           ∙ sym (lifted (flat m) v o rs (length trace) t (toBag bag) fit (c .not-early) ports ∙ ap (λ k. advanceFrom (levelled k) (length trace) t (toBag bag) o rs) twice)))
 
@@ -90,7 +90,7 @@ module _ (file : Bytes) (m : Model) (e : accepted file ≡ ok m) (a : Accepted m
   unfolding engine
   engine-same = λ i. record {
     starts = λ run. start-same run i;
-    advances = λ run t bag trace. advance-same run t bag trace i;
+    advances = λ run t bag trace table. advance-same run t bag trace table i;
     reads = λ run position. reading-same run position i;
   }
 

@@ -13,7 +13,7 @@ use Rattle.definition.specs.Bytes.{Result, ok, refused}
 use Rattle.definition.specs.Model.{Bag}
 use Rattle.definition.specs.Devs.{Time, finite, never, sameTime, ticks}
 use Rattle.definition.specs.SavedRun.{notBefore}
-use Rattle.definition.specs.Step.{Simulator}
+use Rattle.definition.specs.Step.{Output, Simulator}
 use Rattle.definition.specs.Instant.{Instant, done, jammed, isDue, goesOn, instant, over, instantTrace}
 use Rattle.definition.specs.Advance.{Progress, Ended, ended, tried, continued, succeeded, isBefore, advancing}
 use Rattle.definition.specs.AdvanceRelation.{Whole, Next, before, at-end, withInstant, Ends, jams, oversize, overruns, goes-on, succeeds, idle}
@@ -33,7 +33,7 @@ module _ {S : Type 0} (k : Simulator S) where
   goes-due u s e = rw (e, eq-eqb u u refl)
 
   -- where something is due, a step is taken
-  some-step : (u : ℕ) (s s′ : S) → k .next s ≡ finite u → Whole k u [] s [] s′ → ⊥
+  pub some-step : (u : ℕ) (s s′ : S) → k .next s ≡ finite u → Whole k u [] s [] s′ → ⊥
   some-step u s s′ e h = clash (goes-due u s e) (ap (goesOn k u []) (h .steps) ∙ h .finished)
 
   module _ (room t : ℕ) (x : Bag) where
@@ -60,10 +60,10 @@ module _ {S : Type 0} (k : Simulator S) where
 
 module _ {S : Type 0} {At Between : ℕ → S → S → Type 0} {Fine : Bag → Bag → Type 0} {k : Simulator S} (a : Agree At Between Fine k k) (room t : ℕ) (x : Bag) where
   -- what an instant leaves is kept
-  after : (now : ℕ) (y : Bag) (s s′ : S) (xs : List Bag) → Fine y y → At now s s → instant k now y s ≡ done xs s′ → Between (suc now) s′ s′
+  after : (now : ℕ) (y : Bag) (s s′ : S) (xs : List Output) → Fine y y → At now s s → instant k now y s ≡ done xs s′ → Between (suc now) s′ s′
   after now y s s′ xs f h e = go xs (subst (λ i. SameInstant a now s s i i) e (instant-same a now y y s s h f))
     where
-      go : (xs : List Bag) → SameInstant a now s s (done xs s′) (done xs s′) → Between (suc now) s′ s′
+      go : (xs : List Output) → SameInstant a now s s (done xs s′) (done xs s′) → Between (suc now) s′ s′
       go [] h = a .closes now s′ s′ (h .2) (h .3)
       go (z ∷ zs) h = a .closes now s′ s′ (h .1) (h .2)
 
@@ -75,7 +75,7 @@ module _ {S : Type 0} {At Between : ℕ → S → S → Type 0} {Fine : Bag → 
       (l, a .opens (p .opening) u (p .state) (p .state) b l (ap (notBefore u) e ∙ le-leb u u (omega arith)))
 
   -- what stands where the instant at u is done
-  pub kept-on : (p : Progress S) (u : ℕ) (s′ : S) (xs : List Bag) → Between (p .opening) (p .state) (p .state) → k .next (p .state) ≡ finite u → Whole k u [] (p .state) xs s′
+  pub kept-on : (p : Progress S) (u : ℕ) (s′ : S) (xs : List Output) → Between (p .opening) (p .state) (p .state) → k .next (p .state) ≡ finite u → Whole k u [] (p .state) xs s′
       → (p .opening ≤ u) × Between (suc u) s′ s′
   kept-on p u s′ xs b e w = let h = opened p u b e in (h .0, after u [] (p .state) s′ xs (a .fine-none) (h .1) (whole-instant k u [] (p .state) s′ xs w))
 

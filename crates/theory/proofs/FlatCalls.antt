@@ -1,6 +1,7 @@
 -- On a model that is its own flat form the engine and the flat machine answer every list of calls alike, over every run buffer of bytes.
 -- Assumes nothing.
 use mathlib.Core.Path.{_≡_, refl, sym, ap, _∙_}
+use mathlib.Core.Logic.{inl}
 use Prim.Native.Nat.{ℕ, suc, _≤_}
 use mathlib.Core.List.{List, [], _∷_, map}
 use mathlib.Core.Bool.{Bool, true, false, cond}
@@ -15,7 +16,7 @@ use Rattle.definition.specs.Pinned.Decoder.{accepted}
 use Rattle.definition.specs.SavedRun.{Entry, Run, entryBytes, runBytes, runOf, atomicCount}
 use Rattle.definition.specs.Step.{nested}
 use Rattle.definition.specs.Advance.{Progress, Ended, advanceFrom}
-use Rattle.definition.specs.Engine.{WasRead, Wrote, startRun, start, wrote, Advanced, advanceChecks, advanced, advance, toBag, reading}
+use Rattle.definition.specs.Engine.{WasRead, Wrote, startRun, start, wrote, Advanced, advanceChecks, withRules, advanced, advance, toBag, reading}
 use Rattle.definition.specs.Flatten.{flat}
 use Rattle.definition.specs.FlatMachine.{inTurn, answered, flatAdvance, flatStart, flatReading}
 use Rattle.definition.specs.Calls.{advanceAnswer, readingAnswer, Call, startCall, advanceCall, readingCall, called, runCalls, engine, flatMachine}
@@ -62,54 +63,54 @@ start-bytes file run h = go (accepted file)
         pick true = h
         pick false = stored-bytes (runBytes (startRun m)) run (run-bytes (startRun m)) h
 
-advance-bytes : (file run : Bytes) (t : ℕ) (bag trace : Bytes) → AllBytes run → AllBytes (advance file run t bag trace .run)
+advance-bytes : (file run : Bytes) (t : ℕ) (bag trace table : Bytes) → AllBytes run → AllBytes (advance file run t bag trace table .run)
 unfolding advance advanced
-advance-bytes file run t bag trace h =
+advance-bytes file run t bag trace table h =
     go (accepted file >>= λ m. advanceChecks m run t bag >>= λ _. ok (advanceFrom (nested m) (length trace) t (toBag bag) (runOf m run .opening) (runOf m run .entries)))
   where
-    go : (r : Result (Ended (List Entry))) → AllBytes (advanced run trace r .run)
+    go : (r : Result (Ended (List Entry))) → AllBytes (advanced run trace table r .run)
     go (refused n) = h
     go (ok a) = stored-bytes _ run (run-bytes _) h
 
 module _ (file : Bytes) (m : Model) (e : accepted file ≡ ok m) (w : WellFormed m) (self : flat m ≡ m) where
   -- ---- one call
 
-  module _ (run : Bytes) (t : ℕ) (bag trace : Bytes) (b : AllBytes run) (h : advanceChecks m run t bag ≡ ok tt) where
+  module _ (run : Bytes) (t : ℕ) (bag trace table : Bytes) (b : AllBytes run) (h : advanceChecks m run t bag ≡ ok tt) where
     abbrev first : Progress (List Entry)
-    first = record { opening = runOf m run .opening; state = runOf m run .entries; instants = 0; steps = 0; trace = [] }
+    first = record { opening = runOf m run .opening; state = runOf m run .entries; instants = 0; steps = 0; trace = []; rules = [] }
 
     -- the lent buffers are the first stage
-    first-stage : toStage m w self run trace first ≡ record { state = run; trace = trace; instants = 0; steps = 0; used = 0 }
-    unfolding toStage stored runOf
+    first-stage : toStage m w self run trace table first ≡ record { state = run; trace = trace; table = table; instants = 0; steps = 0; used = 0 }
+    unfolding toStage stored runOf withRules
     first-stage =
         let f = fits-run m run (advance-ok m run t bag h .run-fits) in
-        λ i. record { state = run-written (atomicCount m) (f .1) (f .2) b i; trace = trace; instants = 0; steps = 0; used = 0 }
+        λ i. record { state = run-written (atomicCount m) (f .1) (f .2) b i; trace = trace; table = table; instants = 0; steps = 0; used = 0 }
 
-    own-loops : inTurn m t (toBag bag) (suc t) (record { state = run; trace = trace; instants = 0; steps = 0; used = 0 })
-        ≡ answer m w self run trace (advanceFrom (nested m) (length trace) t (toBag bag) (runOf m run .opening) (runOf m run .entries))
+    own-loops : inTurn m t (toBag bag) (suc t) (record { state = run; trace = trace; table = table; instants = 0; steps = 0; used = 0 })
+        ≡ answer m w self run trace table (advanceFrom (nested m) (length trace) t (toBag bag) (runOf m run .opening) (runOf m run .entries))
     unfolding advanceFrom
     own-loops =
         let c = advance-ok m run t bag h in
         let ports = bag-fine bag (c .bag-fits) in
         let f = fits-run m run (c .run-fits) .0 .0 in
         ap (inTurn m t (toBag bag) (suc t)) (sym first-stage)
-        ∙ in-turn m w self run trace t (c .not-late) (toBag bag) ports (suc t) first (f, c .not-early, omega arith)
-        ∙ ap (answer m w self run trace) (sym (lifted m w (runOf m run .opening) (runOf m run .entries) (length trace) t (toBag bag) f (c .not-early) ports
+        ∙ in-turn m w self run trace table t (c .not-late) (toBag bag) ports (suc t) first (f, c .not-early, omega arith, inl refl)
+        ∙ ap (answer m w self run trace table) (sym (lifted m w (runOf m run .opening) (runOf m run .entries) (length trace) t (toBag bag) f (c .not-early) ports
         ∙ ap (λ k. advanceFrom (levelled k) (length trace) t (toBag bag) (runOf m run .opening) (runOf m run .entries)) self))
 
-  answers : (run trace : Bytes) (a : Ended (List Entry)) → answered run trace (ok (answer m w self run trace a)) ≡ advanced run trace (ok a)
+  answers : (run trace table : Bytes) (a : Ended (List Entry)) → answered run trace table (ok (answer m w self run trace table a)) ≡ advanced run trace table (ok a)
   unfolding answered advanced toStage
-  answers run trace a = refl
+  answers run trace table a = refl
 
-  advance-self : (run : Bytes) (t : ℕ) (bag trace : Bytes) → AllBytes run → advance file run t bag trace ≡ flatAdvance file run t bag trace
+  advance-self : (run : Bytes) (t : ℕ) (bag trace table : Bytes) → AllBytes run → advance file run t bag trace table ≡ flatAdvance file run t bag trace table
   unfolding advance flatAdvance
-  advance-self run t bag trace b = rw e (go (advanceChecks m run t bag) refl)
+  advance-self run t bag trace table b = rw e (go (advanceChecks m run t bag) refl)
     where
       go : (r : Result (Unit {0})) → advanceChecks m run t bag ≡ r
-          → advanced run trace (advanceChecks m run t bag >>= λ _. ok (advanceFrom (nested m) (length trace) t (toBag bag) (runOf m run .opening) (runOf m run .entries)))
-          ≡ answered run trace (advanceChecks m run t bag >>= λ _. ok (inTurn m t (toBag bag) (suc t) (record { state = run; trace = trace; instants = 0; steps = 0; used = 0 })))
+          → advanced run trace table (advanceChecks m run t bag >>= λ _. ok (advanceFrom (nested m) (length trace) t (toBag bag) (runOf m run .opening) (runOf m run .entries)))
+          ≡ answered run trace table (advanceChecks m run t bag >>= λ _. ok (inTurn m t (toBag bag) (suc t) (record { state = run; trace = trace; table = table; instants = 0; steps = 0; used = 0 })))
       go (refused n) h = rw h (unfold answered advanced in refl)
-      go (ok u) h = rw (h, own-loops run t bag trace b h) (sym (answers run trace _))
+      go (ok u) h = rw (h, own-loops run t bag trace table b h) (sym (answers run trace table _))
 
   reading-self : (run : Bytes) (position : ℕ) → reading file run position ≡ flatReading file run position
   unfolding reading flatReading
@@ -119,14 +120,14 @@ module _ (file : Bytes) (m : Model) (e : accepted file ≡ ok m) (w : WellFormed
   unfolding called engine flatMachine
   called-self run startCall h = unfold start flatStart in refl
   called-self run (advanceCall c) h =
-      ap (λ (r : Advanced). (advanceAnswer (r .number) (r .instants) (r .steps) (r .used) (r .trace), r .run)) (advance-self run (c .moment) (c .bag) (c .trace) h)
+      ap (λ (r : Advanced). (advanceAnswer (r .number) (r .instants) (r .steps) (r .used) (r .trace) (r .table), r .run)) (advance-self run (c .moment) (c .bag) (c .trace) (c .table) h)
   called-self run (readingCall position) h =
       ap (λ (r : WasRead). (readingAnswer (r .number) (r .phase) (r .last) (r .due), run)) (reading-self run position)
 
   pub call-bytes : (run : Bytes) (c : Call) → AllBytes run → AllBytes (called (engine file) run c .1)
   unfolding called engine
   call-bytes run startCall h = start-bytes file run h
-  call-bytes run (advanceCall c) h = advance-bytes file run (c .moment) (c .bag) (c .trace) h
+  call-bytes run (advanceCall c) h = advance-bytes file run (c .moment) (c .bag) (c .trace) (c .table) h
   call-bytes run (readingCall position) h = h
 
   -- ---- every list of calls

@@ -1,34 +1,41 @@
 -- The flat machine's own advance, on a model that is its own flat form, ends with the buffers that the generic advance of its step describes:
 -- its stage is at every turn the progress written into the lent buffers. Assumes nothing.
 use mathlib.Core.Path.{_≡_, refl, sym, ap, _∙_, subst}
+use mathlib.Core.Logic.{_⊎_, inl, inr}
 use Prim.Native.Nat.{ℕ, zero, suc, _+_, _≤_}
-use mathlib.Core.List.{List, [], _∷_, _++_}
+use mathlib.Core.List.{List, [], _∷_, _++_, map}
 use mathlib.Core.Bool.{Bool, true, false, not, cond}
 use native.Mathlib.Omega.{arith}
 use lib.Dec.{leb, ltb}
-use lib.ListN.{length, drop, length-append, length-drop}
+use lib.ListN.{length, drop, length-append, length-drop, length-map}
 use borrow.Author.Tests.{ltb-false}
 use Rattle.definition.specs.Lists.{all, isEmpty}
 use Rattle.definition.specs.Bytes.{Bytes, Result, ok, refused, refuseIf, _>>=_, stored}
-use Rattle.definition.specs.Limits.{maxMoment, maxSteps, maxRootBag}
+use Rattle.definition.specs.Limits.{maxMoment, maxSteps, maxRootBag, noPosition}
 use Rattle.definition.specs.Model.{Bag, Model, atomics}
 use Rattle.definition.specs.Records.{portFits}
 use Rattle.definition.specs.Devs.{Time, finite, never, ticks}
 use Rattle.definition.specs.SavedRun.{Entry, Run, runLength, runBytes, notBefore, nextDue}
-use Rattle.definition.specs.Step.{nested}
-use Rattle.definition.specs.Instant.{Instant, done, jammed, instant, over, instantTrace}
+use Rattle.definition.specs.Atomic.{toldAs}
+use Rattle.definition.specs.Step.{Output, nested}
+use Rattle.definition.specs.Instant.{Instant, done, jammed, instant, over, instantTrace, instantParts, instantRules}
 use Rattle.definition.specs.Advance.{Progress, Ended, ended, tried, continued, succeeded, isBefore, advancing}
+use Rattle.definition.specs.Engine.{withRules}
 use Rattle.definition.specs.Flatten.{flat}
-use Rattle.definition.specs.FlatMachine.{anyDue, takeSteps, flatDue, Stage, entriesIn, standing, verdictOn, attempt, openedPast, orEnd, dueBefore, inTurn}
+use Rattle.definition.specs.FlatMachine.{Copy, anyDue, copied, takeSteps, tableWith, flatDue, Stage, entriesIn, standing, verdictOn, attempt, openedPast, orEnd, dueBefore, inTurn}
 use Rattle.law_model.proofs.WellFormed.{WellFormed}
 use Rattle.law_model.proofs.RunBack.{length-run}
 use Rattle.law_nest.proofs.Pairs.{pairs-length}
 use Rattle.law_calls.proofs.Lift.{before-t, not-before-t, Agree, AlikeAfter, tried-alike, instant-same}
 use Rattle.law_calls.proofs.Kept.{Kept, Fit, AtSame, BetweenSame, fit-opens, fit-early}
 use Rattle.theory.proofs.Agreement.{levelled, OnPorts}
+use Rattle.law_base.proofs.Turns.{stood}
+use Rattle.law_base.proofs.Lists.{all-map}
+use Rattle.theory.proofs.RuleTables.{Long, written, with-written, over-written}
 use Rattle.theory.proofs.Buffers.{stored-again, written-on}
 use Rattle.theory.proofs.FlatTrace.{written-trace}
-use Rattle.theory.proofs.FlatLoops.{settled, agree-self, no-ports, settles, kept-steps}
+use Rattle.theory.proofs.FlatLoops.{settled, taken, agree-self, no-ports, settles, kept-steps}
+use Rattle.theory.proofs.FlatRules.{afterSteps, takes, taken-row, copy-rules, table-with}
 use Rattle.law_calls.proofs.Fitting.{fit-written}
 
 -- the next moment, by the flat machine's own names
@@ -37,7 +44,7 @@ unfolding dueBefore isBefore
 same-before (finite a) t = refl
 same-before never t = refl
 
-module _ (m : Model) (w : WellFormed m) (self : flat m ≡ m) (run₀ trace₀ : Bytes) where
+module _ (m : Model) (w : WellFormed m) (self : flat m ≡ m) (run₀ trace₀ table₀ : Bytes) where
   -- ---- the stage that a progress stands for
 
   abbrev runIn : Progress (List Entry) → Run
@@ -47,6 +54,7 @@ module _ (m : Model) (w : WellFormed m) (self : flat m ≡ m) (run₀ trace₀ :
   toStage p = record {
     state = stored (runBytes (runIn p)) run₀;
     trace = stored (p .trace) trace₀;
+    table = withRules (length (p .state)) p table₀;
     instants = p .instants;
     steps = p .steps;
     used = length (p .trace);
@@ -72,39 +80,57 @@ module _ (m : Model) (w : WellFormed m) (self : flat m ≡ m) (run₀ trace₀ :
 
   -- ---- the verdict
 
-  judged-tried : (now : ℕ) (p : Progress (List Entry)) (c : List Bag × List Entry) → length (c .1) ≡ length (p .state) → length (p .trace) ≤ room
-      → verdictOn m now (toStage p) c ≡ staged (tried room now p (settled (anyDue m now (atomics (m .components)) (c .1)) c))
+  -- what decided in the instant is told of each atomic, if it has a step
+  abbrev RowOf : List Output → ℕ → Type 0
+  RowOf [] n = Unit {0}
+  RowOf (x ∷ xs) n = length (instantParts (x ∷ xs)) ≡ n
+
+  rules-length : (xs : List Output) (n : ℕ) → length (instantParts xs) ≡ n → length (instantRules xs) ≡ n
+  unfolding instantRules
+  rules-length xs n e = length-map (instantParts xs) toldAs ∙ e
+
+  -- the copy of the flat machine after steps that began at some entries
+  abbrev copy : List Entry → List Output × List Entry → List Bag × Copy
+  copy rs c = afterSteps m w self 0 (map (λ _. noPosition) rs) c
+
+  judged-tried : (now : ℕ) (p : Progress (List Entry)) (c : List Output × List Entry) → length (c .1) ≡ length (p .state) → length (p .trace) ≤ room
+      → Long (length (p .state)) p → RowOf (c .0) (length (p .state))
+      → verdictOn m now (toStage p) (copy (p .state) c) ≡ staged (tried room now p (settled (anyDue m now (atomics (m .components)) (c .1)) c))
   unfolding verdictOn tried settled toStage isEmpty over
-  judged-tried now p c e l = rw (same-room p l, written-trace now (c .0)) (go (anyDue m now (atomics (m .components)) (c .1)) (c .0))
+  judged-tried now p c e l long row = rw (same-room p l, written-trace now (c .0), all-map (λ y. leb (length y) maxRootBag) (λ x. x .bag) (c .0)) (go (anyDue m now (atomics (m .components)) (c .1)) (c .0) row)
     where
-      go : (b : Bool) (xs : List Bag)
-          → (let d : List Bag × List Entry = (xs, c .1) in
-          cond b (refused 13) (cond (isEmpty xs) (ok (toStage p)) (cond (not (all (λ x. leb (length x) maxRootBag) xs)) (refused 14)
-          (cond (ltb room (length (p .trace) + length (instantTrace now xs))) (refused 15) (ok (standing now (toStage p) d)))))
+      go : (b : Bool) (xs : List Output) → RowOf xs (length (p .state))
+          → (let d : List Output × List Entry = (xs, c .1) in
+          cond b (refused 13) (cond (isEmpty (map (λ x. x .bag) xs)) (ok (toStage p)) (cond (not (all (λ x. leb (length (x .bag)) maxRootBag) xs)) (refused 14)
+          (cond (ltb room (length (p .trace) + length (instantTrace now xs))) (refused 15) (ok (standing now (toStage p) (copy (p .state) d))))))
           ≡ staged (tried room now p (cond b jammed (done xs (c .1)))))
-      go true xs = refl
-      go false [] = refl
-      go false (x ∷ xs) = rw (length-append (p .trace) (instantTrace now (x ∷ xs))) (ends (over (x ∷ xs)) (ltb room (length (p .trace) + length (instantTrace now (x ∷ xs)))))
+      go true xs row = refl
+      go false [] row = refl
+      go false (x ∷ xs) row = rw (length-append (p .trace) (instantTrace now (x ∷ xs))) (ends (over (x ∷ xs)) (ltb room (length (p .trace) + length (instantTrace now (x ∷ xs)))))
         where
           new : Progress (List Entry)
-          new = record {
-            opening = suc now;
-            state = c .1;
-            instants = suc (p .instants);
-            steps = p .steps + length (x ∷ xs);
-            trace = p .trace ++ instantTrace now (x ∷ xs);
-          }
+          new = stood room now p (x ∷ xs) (c .1)
 
-          same : standing now (toStage p) (x ∷ xs, c .1) ≡ toStage new
-          same = unfold standing in (rw (written-trace now (x ∷ xs)) (λ i. record {
+          rules : tableWith (copy (p .state) (x ∷ xs, c .1) .1 .rules) (toStage p .table) ≡ toStage new .table
+          rules = unfold toStage in
+              (ap (λ is. tableWith is (withRules (length (p .state)) p table₀)) (copy-rules (p .state) (x ∷ xs) row)
+              ∙ table-with (length (p .state)) (instantRules (x ∷ xs)) (withRules (length (p .state)) p table₀) (rules-length (x ∷ xs) (length (p .state)) row)
+              ∙ over-written (length (p .state)) p (instantRules (x ∷ xs)) table₀ long (rules-length (x ∷ xs) (length (p .state)) row)
+              ∙ ap (λ n. written n (instantRules (x ∷ xs)) table₀) (sym e)
+              ∙ sym (with-written (length (c .1)) new table₀ (λ z. omega arith)))
+
+          same : standing now (toStage p) (copy (p .state) (x ∷ xs, c .1)) ≡ toStage new
+          same = unfold standing in (rw (written-trace now (x ∷ xs), length-map (x ∷ xs) (λ (y : Output). y .bag)) (λ i. record {
             state = stored-again (runBytes (runIn new)) (runBytes (runIn p)) run₀ (same-run-length (runIn new) (runIn p) e) i;
             trace = written-on (p .trace) (instantTrace now (x ∷ xs)) trace₀ i;
+            table = rules i;
             instants = suc (p .instants);
             steps = p .steps + length (x ∷ xs);
             used = sym (length-append (p .trace) (instantTrace now (x ∷ xs))) i;
           }))
 
-          ends : (a b : Bool) → cond a (refused 14) (cond b (refused 15) (ok (standing now (toStage p) (x ∷ xs, c .1)))) ≡ staged (refuseIf a 14 >>= λ _. refuseIf b 15 >>= λ _. ok new)
+          ends : (a b : Bool) → cond a (refused 14) (cond b (refused 15) (ok (standing now (toStage p) (copy (p .state) (x ∷ xs, c .1)))))
+              ≡ staged (refuseIf a 14 >>= λ _. refuseIf b 15 >>= λ _. ok new)
           ends true b = refl
           ends false true = refl
           ends false false = ap ok same
@@ -113,7 +139,7 @@ module _ (m : Model) (w : WellFormed m) (self : flat m ≡ m) (run₀ trace₀ :
 
   module _ (t : ℕ) (last : t ≤ maxMoment) where
     abbrev pub Sits : ℕ → Progress (List Entry) → Type 0
-    Sits now p = Fit m (p .opening) (p .state) × (p .opening ≤ now) × (length (p .trace) ≤ room)
+    Sits now p = Fit m (p .opening) (p .state) × (p .opening ≤ now) × (length (p .trace) ≤ room) × Long (length (p .state)) p
 
     abbrev SitsAfter : ℕ → Result (Progress (List Entry)) → Type 0
     SitsAfter now (ok p) = Sits now p
@@ -134,50 +160,84 @@ module _ (m : Model) (w : WellFormed m) (self : flat m ≡ m) (run₀ trace₀ :
     in-room now p (done (x ∷ xs) s) l = go (over (x ∷ xs)) (ltb room (length (p .trace ++ instantTrace now (x ∷ xs)))) refl
       where
         go : (b c : Bool) → ltb room (length (p .trace ++ instantTrace now (x ∷ xs))) ≡ c
-            → InRoom (refuseIf b 14 >>= λ _. refuseIf c 15 >>= λ _. ok (record {
-              opening = suc now;
-              state = s;
-              instants = suc (p .instants);
-              steps = p .steps + length (x ∷ xs);
-              trace = p .trace ++ instantTrace now (x ∷ xs);
-            }))
+            → InRoom (refuseIf b 14 >>= λ _. refuseIf c 15 >>= λ _. ok (stood room now p (x ∷ xs) s))
         go true c e = tt
         go false true e = tt
         go false false e = ltb-false room _ e
+
+    abbrev LongAfter : Result (Progress (List Entry)) → Type 0
+    LongAfter (ok p) = Long (length (p .state)) p
+    LongAfter (refused n) = Unit {0}
+
+    long-tried : (now : ℕ) (p : Progress (List Entry)) (b : Bool) (c : List Output × List Entry) → length (c .1) ≡ length (p .state) → RowOf (c .0) (length (p .state))
+        → Long (length (p .state)) p → LongAfter (tried room now p (settled b c))
+    unfolding tried settled
+    long-tried now p b c e row h = go b (c .0) row
+      where
+        stands : (xs : List Output) → length (instantParts xs) ≡ length (p .state) → (a b : Bool) → LongAfter (refuseIf a 14 >>= λ _. refuseIf b 15 >>= λ _. ok (stood room now p xs (c .1)))
+        stands xs row true b = tt
+        stands xs row false true = tt
+        stands xs row false false = inr (rules-length xs (length (p .state)) row ∙ sym e)
+
+        go : (b : Bool) (xs : List Output) → RowOf xs (length (p .state)) → LongAfter (tried room now p (cond b jammed (done xs (c .1))))
+        go true xs row = tt
+        go false [] row = h
+        go false (x ∷ xs) row = stands (x ∷ xs) row (over (x ∷ xs)) (ltb room (length (p .trace ++ instantTrace now (x ∷ xs))))
 
     module _ (now : ℕ) (y : Bag) (p : Progress (List Entry)) (ports : all portFits y ≡ true) (h : Sits (suc t) p) (o : p .opening ≤ now) (kept : Kept m now (p .state)) where
       -- the progress with the instant at `now`, or its number
       abbrev verdict : Result (Progress (List Entry))
       verdict = tried room now p (instant (levelled m) now y (p .state))
 
+      -- as many entries after the steps, and what decided is told of each
+      abbrev steps : List Output × List Entry
+      steps = taken m now maxSteps y (p .state)
+
+      each : length (p .state) ≡ length (atomics (m .components))
+      each = pairs-length _ (atomics (m .components)) (p .state) (kept .0)
+
+      as-many : length (steps .1) ≡ length (p .state)
+      as-many = pairs-length _ (atomics (m .components)) (steps .1) (kept-steps m w self maxSteps now y (p .state) ports kept .0) ∙ sym each
+
+      rows : RowOf (steps .0) (length (p .state))
+      rows = go (steps .0) (taken-row m w self now maxSteps y (p .state) ports kept)
+        where
+          go : (xs : List Output) → (length (instantParts xs) ≡ length (atomics (m .components))) ⊎ (xs ≡ []) → RowOf xs (length (p .state))
+          go [] h = tt
+          go (x ∷ xs) (inl h) = h ∙ sym each
+          go (x ∷ xs) (inr h) = absurd (omega (arith, ap length h))
+
       attempted : attempt m now y (toStage p) ≡ staged verdict
-      unfolding attempt
+      unfolding attempt copied
       attempted =
-          let L = atomics (m .components) in
-          let c = takeSteps m now maxSteps y (p .state) in
-          ap (λ rs. verdictOn m now (toStage p) (takeSteps m now maxSteps y rs)) (entries-in p h)
-          ∙ judged-tried now p c (pairs-length _ L (c .1) (kept-steps m w self maxSteps now y (p .state) ports kept .0) ∙ sym (pairs-length _ L (p .state) (kept .0))) (h .2)
+          ap (λ rs. verdictOn m now (toStage p) (takeSteps m now maxSteps y (copied rs))) (entries-in p h)
+          ∙ ap (verdictOn m now (toStage p)) (takes m w self now maxSteps y (p .state) (map (λ _. noPosition) (p .state)) ports kept (length-map (p .state) (λ _. noPosition) ∙ each))
+          ∙ judged-tried now p steps as-many (h .2) (h .3) rows
           ∙ ap (λ i. staged (tried room now p i)) (sym (settles m w self now y (p .state) ports kept))
+
+      long-on : LongAfter verdict
+      long-on = subst (λ i. LongAfter (tried room now p i)) (sym (settles m w self now y (p .state) ports kept)) (long-tried now p _ steps as-many rows (h .3))
 
       sits-on : SitsAfter (suc now) verdict
       sits-on =
           go (tried room now p (instant (nested m) now y (p .state))) verdict
           (tried-alike k room now p p (instant (nested m) now y (p .state)) (instant (levelled m) now y (p .state))
-          (record { opening = refl; state = (refl, h .0); instants = refl; steps = refl; trace = refl }) o (instant-same k now y y (p .state) (p .state) (refl, kept) (refl, ports)))
-          (in-room now p (instant (levelled m) now y (p .state)) (h .2))
+          (record { opening = refl; state = (refl, h .0); instants = refl; steps = refl; trace = refl; rules = refl }) o (instant-same k now y y (p .state) (p .state) (refl, kept) (refl, ports)))
+          (in-room now p (instant (levelled m) now y (p .state)) (h .2)) long-on
         where
           k : Agree (AtSame m w) (BetweenSame m w) OnPorts (nested m) (levelled m)
           k = agree-self m w self
 
-          go : (r₁ r₂ : Result (Progress (List Entry))) → AlikeAfter k now r₁ r₂ → InRoom r₂ → SitsAfter (suc now) r₂
-          go (ok p₁) (ok p₂) h l = (
+          go : (r₁ r₂ : Result (Progress (List Entry))) → AlikeAfter k now r₁ r₂ → InRoom r₂ → LongAfter r₂ → SitsAfter (suc now) r₂
+          go (ok p₁) (ok p₂) h l long = (
             subst (λ n. Fit m n (p₂ .state)) (h .0 .opening) (subst (Fit m (p₁ .opening)) (h .0 .state .0) (h .0 .state .1)),
             omega (arith, h .0 .opening, h .1),
             l,
+            long,
           )
-          go (ok p₁) (refused n) h l = tt
-          go (refused n) (ok p₂) h l = absurd h
-          go (refused n) (refused j) h l = tt
+          go (ok p₁) (refused n) h l long = tt
+          go (refused n) (ok p₂) h l long = absurd h
+          go (refused n) (refused j) h l long = tt
 
     -- ---- the instants in turn
 
@@ -188,12 +248,13 @@ module _ (m : Model) (w : WellFormed m) (self : flat m ≡ m) (run₀ trace₀ :
     goes-on n f g p (ok q) h e = e q h
 
     opened-past : (q : Progress (List Entry)) → Sits (suc t) q → (0, openedPast m t (toStage q)) ≡ answer (succeeded t q)
-    unfolding openedPast succeeded ended toStage
+    unfolding openedPast succeeded ended toStage withRules
     opened-past q h = λ i. (
       0,
       record {
         state = (ap (λ es. stored (runBytes (record { opening = suc t; entries = es })) (toStage q .state)) (entries-in q h) ∙ again) i;
         trace = toStage q .trace;
+        table = toStage q .table;
         instants = q .instants;
         steps = q .steps;
         used = length (q .trace);
@@ -214,7 +275,7 @@ module _ (m : Model) (w : WellFormed m) (self : flat m ≡ m) (run₀ trace₀ :
           u = flatDue m (p .state)
 
           wide : Sits (suc t) p
-          wide = (h .0, omega (arith, h .1), h .2)
+          wide = (h .0, omega (arith, h .1), h .2, h .3)
 
           next : nextDue m (p .state) ≡ u
           next = agree-self m w self .same-next (p .opening) (p .state) (p .state) (refl, fit-opens m w (p .opening) (p .opening) (p .state) (h .0) (omega arith) (fit-early m w (p .opening) (p .state) (h .0)))
@@ -228,7 +289,7 @@ module _ (m : Model) (w : WellFormed m) (self : flat m ≡ m) (run₀ trace₀ :
               let kept = fit-opens m w (p .opening) (ticks u) (p .state) (h .0) (b .0) (ap (notBefore (ticks u)) next ∙ b .2) in
               ap (orEnd (λ h. inTurn m t x n h) (toStage p)) (attempted (ticks u) [] p no-ports wide (b .0) kept)
               ∙ goes-on (suc (ticks u)) _ _ p (verdict (ticks u) [] p no-ports wide (b .0) kept) (sits-on (ticks u) [] p no-ports wide (b .0) kept)
-              (λ q k. ih q (k .0, omega (arith, k .1, b .1), k .2))
+              (λ q k. ih q (k .0, omega (arith, k .1, b .1), k .2, k .3))
           go false e ih =
               let kept = fit-opens m w (p .opening) t (p .state) (h .0) (h .1) (ap (notBefore t) next ∙ not-before-t t u e) in
               ap (orEnd (λ h. (0, openedPast m t h)) (toStage p)) (attempted t x p ports wide (h .1) kept)

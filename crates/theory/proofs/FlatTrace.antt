@@ -12,6 +12,7 @@ use Rattle.definition.specs.Lists.{concat, isEmpty, lexLe, insertBy, sortBy}
 use Rattle.definition.specs.Bytes.{bytesOf}
 use Rattle.definition.specs.Model.{Message, Bag, messageLe}
 use Rattle.definition.specs.Records.{messageBytes}
+use Rattle.definition.specs.Step.{Output}
 use Rattle.definition.specs.Instant.{recordBytes, traceBytes, recordsFrom, instantTrace}
 use Rattle.definition.specs.FlatMachine.{notAfter, placed, inOrder, recorded}
 
@@ -52,21 +53,21 @@ unfolding inOrder
 order-length [] = refl
 order-length (x ∷ xs) = placed-length x (inOrder xs) ∙ ap suc (order-length xs)
 
-written-from : (now k : ℕ) (xs : List Bag) → recorded now k xs ≡ traceBytes (recordsFrom now k xs)
+written-from : (now k : ℕ) (xs : List Output) → recorded now k (map (λ x. x .bag) xs) ≡ traceBytes (recordsFrom now k xs)
 unfolding recorded traceBytes recordsFrom concat
 written-from now k [] = refl
-written-from now k (x ∷ xs) = rw (written-from now (suc k) xs) (go (isEmpty x))
+written-from now k (x ∷ xs) = rw (written-from now (suc k) xs) (go (isEmpty (x .bag)))
   where
-    one : bytesOf 8 now ++ bytesOf 2 k ++ bytesOf 2 (length x) ++ concat (map messageBytes (inOrder x)) ≡ recordBytes (record { moment = now; step = k; messages = sortBy messageLe x })
+    one : bytesOf 8 now ++ bytesOf 2 k ++ bytesOf 2 (length (x .bag)) ++ concat (map messageBytes (inOrder (x .bag))) ≡ recordBytes (record { moment = now; step = k; messages = sortBy messageLe (x .bag) })
     one = unfold recordBytes in
-        (rw (← in-order x, order-length x))
+        (rw (← in-order (x .bag), order-length (x .bag)))
 
-    go : (b : Bool) → cond b [] (bytesOf 8 now ++ bytesOf 2 k ++ bytesOf 2 (length x) ++ concat (map messageBytes (inOrder x))) ++ concat (map recordBytes (recordsFrom now (suc k) xs))
-        ≡ concat (map recordBytes (cond b (recordsFrom now (suc k) xs) (record { moment = now; step = k; messages = sortBy messageLe x } ∷ recordsFrom now (suc k) xs)))
+    go : (b : Bool) → cond b [] (bytesOf 8 now ++ bytesOf 2 k ++ bytesOf 2 (length (x .bag)) ++ concat (map messageBytes (inOrder (x .bag)))) ++ concat (map recordBytes (recordsFrom now (suc k) xs))
+        ≡ concat (map recordBytes (cond b (recordsFrom now (suc k) xs) (record { moment = now; step = k; messages = sortBy messageLe (x .bag) } ∷ recordsFrom now (suc k) xs)))
     go true = refl
     go false = ap (λ z. z ++ concat (map recordBytes (recordsFrom now (suc k) xs))) one
 
 -- The records of an instant.
-pub written-trace : (now : ℕ) (xs : List Bag) → recorded now 0 xs ≡ instantTrace now xs
+pub written-trace : (now : ℕ) (xs : List Output) → recorded now 0 (map (λ x. x .bag) xs) ≡ instantTrace now xs
 unfolding instantTrace
 written-trace now xs = written-from now 0 xs

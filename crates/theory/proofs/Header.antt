@@ -6,18 +6,18 @@ use Prim.Native.Nat.{ℕ, _+_, _≤_, _<_}
 use mathlib.Core.List.{List, _++_}
 use mathlib.Core.Bool.{Bool, true, false}
 use native.Mathlib.Omega.{arith}
-use lib.Dec.{ltb}
-use lib.ListN.{length, take, drop, length-append}
-use borrow.Author.Tests.{ltb-true, ltb-false}
+use lib.Dec.{ltb, eqb}
+use lib.ListN.{length, take, drop, length-append, length-map}
+use borrow.Author.Tests.{ltb-true, ltb-false, eqb-true, eqb-false}
 use Rattle.definition.specs.Bytes.{Bytes, AllBytes, ok, stored}
 use Rattle.definition.specs.Limits.{maxMoment, longestModel}
 use Rattle.definition.specs.Model.{Model, atomics}
 use Rattle.definition.specs.Pinned.Decoder.{accepted}
 use Rattle.definition.specs.SavedRun.{Entry, Run, runLength, atomicCount, runOf, runBytes, runFits}
-use Rattle.definition.specs.Step.{nested}
+use Rattle.definition.specs.Step.{decidedInFileOrder, stepOn, step, nested}
 use Rattle.definition.specs.Advance.{Ended, ended}
 use Rattle.definition.specs.AdvanceRelation.{Ends}
-use Rattle.definition.specs.Engine.{toBag, bagFits, Advanced, advanced, advance}
+use Rattle.definition.specs.Engine.{toBag, bagFits, Advanced, withRules, advanced, advance}
 use Rattle.definition.specs.Flatten.{flat}
 use Rattle.definition.specs.Carrying.{begins}
 use Rattle.definition.specs.Demands.{refusedAdvance, openingOf, MayAdvance, AdvanceRefusal, advance-refuses-run, advance-refuses-time, advance-refuses-bag, Together, Header}
@@ -29,15 +29,16 @@ use Rattle.law_nest.proofs.Pairs.{pairs-length}
 use Rattle.theory.proofs.Buffers.{stored-again, stored-front, stored-behind}
 use Rattle.law_calls.proofs.Fitting.{FitRun, fits-run, fit-written, advance-fit}
 use Rattle.law_model.proofs.Answers.{endOf, advance-done}
+use Rattle.theory.proofs.RuleTables.{same-rules, Long, written, with-written, with-none, over-written, long-ends}
 use Rattle.theory.proofs.CallRows.{advance-refused}
 use Rattle.theory.proofs.Demand1.{advance-ends, advance-only}
-use Rattle.theory.proofs.Lengths.{model-long, run-long}
+use Rattle.theory.proofs.Lengths.{model-long, run-long, table-long}
 use Rattle.law_refusals.proofs.Judged.{accepted-sound as sound-of}
 use Rattle.theory.proofs.Resuming.{undone-open, undone-again, overrun-again, countedEnd, one-call}
 
-module _ (file run : Bytes) (t : ℕ) (bag trace : Bytes) (m : Model) (b : AllBytes file) (e : accepted file ≡ ok m) where
+module _ (file run : Bytes) (t : ℕ) (bag trace table : Bytes) (m : Model) (b : AllBytes file) (e : accepted file ≡ ok m) where
   abbrev a : Advanced
-  a = advance file run t bag trace
+  a = advance file run t bag trace table
 
   sound : WellFormed m
   sound = accepted-sound file m b e .sound
@@ -45,7 +46,7 @@ module _ (file run : Bytes) (t : ℕ) (bag trace : Bytes) (m : Model) (b : AllBy
   -- ---- a number that comes from an instant
 
   no-row : (n : ℕ) → 12 < a .number → AdvanceRefusal file run t bag n → n ≤ 12 → ⊥
-  no-row n l r h = omega (arith, l, h, ap (λ (z : Advanced). z .number) (advance-refused file run t bag trace n r))
+  no-row n l r h = omega (arith, l, h, ap (λ (z : Advanced). z .number) (advance-refused file run t bag trace table n r))
 
   may : 12 < a .number → MayAdvance m run t bag
   may l = go (runFits m run) refl (ltb t (openingOf m run)) refl (ltb maxMoment t) refl (bagFits bag) refl
@@ -69,8 +70,8 @@ module _ (file run : Bytes) (t : ℕ) (bag trace : Bytes) (m : Model) (b : AllBy
     ends : Ends (nested m) (length trace) t (toBag bag) (begins (openingOf m run) (runOf m run .entries)) end
     ends = advance-ends run t bag trace m sound (h .run-fits) (h .not-early)
 
-    is : a ≡ advanced run trace (ok end)
-    is = advance-done file run t bag trace m e h
+    is : a ≡ advanced run trace table (ok end)
+    is = advance-done file run t bag trace table m e h
 
     number-is : a .number ≡ end .number
     unfolding advanced
@@ -96,6 +97,10 @@ module _ (file run : Bytes) (t : ℕ) (bag trace : Bytes) (m : Model) (b : AllBy
     unfolding advanced
     trace-is = ap (λ (z : Advanced). z .trace) is
 
+    table-is : a .table ≡ withRules (length (left .entries)) (end .progress) table
+    unfolding advanced
+    table-is = ap (λ (z : Advanced). z .table) is
+
     -- its records, at the front of its trace
     records-are : take (a .used) (a .trace) ≡ end .progress .trace
     records-are = ap₂ (λ (n : ℕ) (s : Bytes). take n s) used-is trace-is ∙ stored-front (end .progress .trace) trace
@@ -117,13 +122,13 @@ module _ (file run : Bytes) (t : ℕ) (bag trace : Bytes) (m : Model) (b : AllBy
     }
 
     -- the second call, by where its instants end
-    second : 0 < end .number → (next : Bytes) (z : Ended (List Entry))
+    second : 0 < end .number → (next lent : Bytes) (z : Ended (List Entry))
         → Ends (nested m) (length next) t (toBag bag) (begins (left .opening) (left .entries)) z
-        → advance file (a .run) t bag next ≡ advanced (a .run) next (ok z)
-    second l next z r =
+        → advance file (a .run) t bag next lent ≡ advanced (a .run) next lent (ok z)
+    second l next lent z r =
         let k = again l in
-        advance-done file (a .run) t bag next m e k
-        ∙ ap (λ (y : Ended (List Entry)). advanced (a .run) next (ok y))
+        advance-done file (a .run) t bag next lent m e k
+        ∙ ap (λ (y : Ended (List Entry)). advanced (a .run) next lent (ok y))
         (advance-only (a .run) t bag next m sound (k .run-fits) (k .not-early) z
         (subst (λ (q : Run). Ends (nested m) (length next) t (toBag bag) (begins (q .opening) (q .entries)) z) (sym (back .1)) r))
 
@@ -133,14 +138,15 @@ module _ (file run : Bytes) (t : ℕ) (bag trace : Bytes) (m : Model) (b : AllBy
 
     -- ---- after 13 and 14
 
-    pub refused-again : (n : ℕ) → (n ≡ 13) ⊎ (n ≡ 14) → a .number ≡ n → 0 < n → (next : Bytes) → advance file (a .run) t bag next ≡ refusedAdvance n (a .run) next
-    unfolding advanced stored ended
-    refused-again n u q l next =
+    pub refused-again : (n : ℕ) → (n ≡ 13) ⊎ (n ≡ 14) → a .number ≡ n → 0 < n → (next lent : Bytes)
+        → advance file (a .run) t bag next lent ≡ refusedAdvance n (a .run) next lent
+    unfolding advanced stored ended withRules
+    refused-again n u q l next lent =
         let k : end .number ≡ n = sym number-is ∙ q in
-        second (omega (arith, k)) next (ended n (begins (left .opening) (left .entries)))
+        second (omega (arith, k)) next lent (ended n (begins (left .opening) (left .entries)))
         (subst (λ i. Ends (nested m) (length next) t (toBag bag) (begins (left .opening) (left .entries)) (ended i (begins (left .opening) (left .entries)))) k
         (undone-again (nested m) t (toBag bag) (length trace) ends (subst (λ i. (i ≡ 13) ⊎ (i ≡ 14)) (sym k) u) (length next) (begins (left .opening) (left .entries)) refl))
-        ∙ ap (λ (s : Bytes). refusedAdvance n s next) same-run
+        ∙ ap (λ (s : Bytes). refusedAdvance n s next lent) same-run
 
     -- ---- after 15
 
@@ -160,22 +166,22 @@ module _ (file run : Bytes) (t : ℕ) (bag trace : Bytes) (m : Model) (b : AllBy
           subst (λ (q : Run). Ends (nested m) (length next) t (toBag bag) (begins (q .opening) (q .entries)) then) (back .1)
           (advance-ends (a .run) t bag next m sound (ready .run-fits) (ready .not-early))
 
-      then-is : advance file (a .run) t bag next ≡ advanced (a .run) next (ok then)
-      then-is = advance-done file (a .run) t bag next m e ready
+      then-is : advance file (a .run) t bag next (a .table) ≡ advanced (a .run) next (a .table) (ok then)
+      then-is = advance-done file (a .run) t bag next (a .table) m e ready
 
       -- both as one call with the longer trace
       abbrev both : Ended (List Entry)
-      both = countedEnd (nested m) t (toBag bag) (end .progress .instants) (end .progress .steps) old then
+      both = countedEnd (nested m) t (toBag bag) (end .progress .instants) (end .progress .steps) old (end .progress .rules) then
 
       both-ends : Ends (nested m) (length (old ++ next)) t (toBag bag) (begins (openingOf m run) (runOf m run .entries)) both
       both-ends =
           subst (λ (n : ℕ). Ends (nested m) n t (toBag bag) (begins (openingOf m run) (runOf m run .entries)) both) (sym (length-append old next))
           (one-call (nested m) t (toBag bag) (length trace) ends full (length next) then then-ends)
 
-      both-is : advance file run t bag (old ++ next) ≡ advanced run (old ++ next) (ok both)
+      both-is : advance file run t bag (old ++ next) table ≡ advanced run (old ++ next) table (ok both)
       both-is =
-          advance-done file run t bag (old ++ next) m e h
-          ∙ ap (λ (y : Ended (List Entry)). advanced run (old ++ next) (ok y)) (advance-only run t bag (old ++ next) m sound (h .run-fits) (h .not-early) both both-ends)
+          advance-done file run t bag (old ++ next) table m e h
+          ∙ ap (λ (y : Ended (List Entry)). advanced run (old ++ next) table (ok y)) (advance-only run t bag (old ++ next) m sound (h .run-fits) (h .not-early) both both-ends)
 
       then-fit : FitRun m (record { opening = then .progress .opening; entries = then .progress .state })
       then-fit = advance-fit m sound (a .run) t (length next) (toBag bag) (ready .run-fits) (ready .not-early) (ready .not-late)
@@ -185,7 +191,37 @@ module _ (file run : Bytes) (t : ℕ) (bag trace : Bytes) (m : Model) (b : AllBy
           let L = atomics (m .components) in
           length-run _ ∙ ap runLength (pairs-length _ L (then .progress .state) (then-fit .0) ∙ sym (pairs-length _ L (left .entries) (fit .0))) ∙ sym (length-run left)
 
-      resumes-old : Together a (advance file (a .run) t bag next) (advance file run t bag (old ++ next))
+      -- the second call's rules stand over the first one's, or it has none
+      as-many : length (left .entries) ≡ length (then .progress .state)
+      as-many = let L = atomics (m .components) in pairs-length _ L (left .entries) (fit .0) ∙ sym (pairs-length _ L (then .progress .state) (then-fit .0))
+
+      long : (r : Bytes) {e : Ended (List Entry)} (o : ℕ) (rs : List Entry) → Ends (nested m) (length r) t (toBag bag) (begins o rs) e → Long (length (left .entries)) (e .progress)
+      unfolding step stepOn decidedInFileOrder
+      long r o rs h =
+          long-ends (nested m) (length (left .entries)) (λ now x s. length-map (atomics (m .components)) _ ∙ sym (pairs-length _ (atomics (m .components)) (left .entries) (fit .0)))
+          (length r) t (toBag bag) h (inl refl)
+
+      rules-on : withRules (length (then .progress .state)) (both .progress) table ≡ withRules (length (then .progress .state)) (then .progress) (a .table)
+      rules-on = go (eqb (then .progress .instants) 0) refl (long next (left .opening) (left .entries) then-ends)
+        where
+          n : ℕ
+          n = length (left .entries)
+
+          go : (b : Bool) → eqb (then .progress .instants) 0 ≡ b → Long n (then .progress)
+              → withRules (length (then .progress .state)) (both .progress) table ≡ withRules (length (then .progress .state)) (then .progress) (a .table)
+          go true z h =
+              let none = eqb-true (then .progress .instants) 0 z in
+              same-rules _ n (both .progress) (end .progress) table (sym as-many) (omega (arith, none)) (rw z) ∙ sym (with-none _ (then .progress) (a .table) none ∙ table-is)
+          go false z (inl h) = absurd (eqb-false (then .progress .instants) 0 z h)
+          go false z (inr h) =
+              let some = eqb-false (then .progress .instants) 0 z in
+              let ps = then .progress .rules in
+              with-written _ (both .progress) table (λ q. some (omega (arith, q)))
+              ∙ ap₂ (λ k rs. written k rs table) (sym as-many) (let r : both .progress .rules ≡ ps = rw z in r)
+              ∙ sym (with-written _ (then .progress) (a .table) some ∙ ap₂ (λ k s. written k ps s) (sym as-many) table-is
+              ∙ over-written n (end .progress) ps table (long trace (openingOf m run) (runOf m run .entries) ends) h)
+
+      resumes-old : Together a (advance file (a .run) t bag next (a .table)) (advance file run t bag (old ++ next) table)
       unfolding advanced
       resumes-old = record {
         number = ap (λ (z : Advanced). z .number) both-is ∙ sym (ap (λ (z : Advanced). z .number) then-is);
@@ -198,23 +234,25 @@ module _ (file run : Bytes) (t : ℕ) (bag trace : Bytes) (m : Model) (b : AllBy
         trace =
             ap (λ (z : Advanced). z .trace) both-is ∙ stored-behind old (then .progress .trace) next
             ∙ sym (ap₂ _++_ records-are (ap (λ (z : Advanced). z .trace) then-is));
+        table = ap (λ (z : Advanced). z .table) both-is ∙ rules-on ∙ sym (ap (λ (z : Advanced). z .table) then-is);
       }
 
-    pub resumes : a .number ≡ 15 → (next : Bytes) → Together a (advance file (a .run) t bag next) (advance file run t bag (take (a .used) (a .trace) ++ next))
+    pub resumes : a .number ≡ 15 → (next : Bytes) → Together a (advance file (a .run) t bag next (a .table)) (advance file run t bag (take (a .used) (a .trace) ++ next) table)
     resumes q next =
-        subst (λ (s : Bytes). Together a (advance file (a .run) t bag next) (advance file run t bag (s ++ next))) (sym records-are)
+        subst (λ (s : Bytes). Together a (advance file (a .run) t bag next (a .table)) (advance file run t bag (s ++ next) table)) (sym records-are)
         (resumes-old (sym number-is ∙ q) next)
 
     -- where it did no instant
-    pub needs-longer : a .number ≡ 15 → a .instants ≡ 0 → AllBytes run → (next : Bytes) → length next ≤ length trace → advance file run t bag next ≡ refusedAdvance 15 run next
-    unfolding advanced stored ended runOf
-    needs-longer q i r next l =
+    pub needs-longer : a .number ≡ 15 → a .instants ≡ 0 → AllBytes run → (next lent : Bytes) → length next ≤ length trace
+        → advance file run t bag next lent ≡ refusedAdvance 15 run next lent
+    unfolding advanced stored ended runOf withRules
+    needs-longer q i r next lent l =
         let f = fits-run m run (h .run-fits) in
-        advance-done file run t bag next m e h
-        ∙ ap (λ (y : Ended (List Entry)). advanced run next (ok y))
+        advance-done file run t bag next lent m e h
+        ∙ ap (λ (y : Ended (List Entry)). advanced run next lent (ok y))
         (advance-only run t bag next m sound (h .run-fits) (h .not-early) (ended 15 (begins (openingOf m run) (runOf m run .entries)))
         (overrun-again (nested m) t (toBag bag) (length trace) ends (sym number-is ∙ q) (sym instants-is ∙ i) (length next) l))
-        ∙ ap (λ (s : Bytes). refusedAdvance 15 s next) (run-written (atomicCount m) (f .1) (f .2) r)
+        ∙ ap (λ (s : Bytes). refusedAdvance 15 s next lent) (run-written (atomicCount m) (f .1) (f .2) r)
 
 pub header : Header
 header = record {
@@ -222,11 +260,13 @@ header = record {
       let s = accepted-sound file m b e in
       (subst (λ (z : Bytes). length z ≤ longestModel) (sym (sound-of file m b e .1)) (model-long m (s .sound)), model-long (flat m) (flat-sound m (s .sound) (s .few-routes)));
   run-length = λ file m b e. run-long m (accepted-sound file m b e .sound);
-  resumes = λ file run t bag trace next m b e q. resumes file run t bag trace m b e (may file run t bag trace m b e (omega arith)) q next;
-  needs-longer = λ file run t bag trace next m b r e q i l. needs-longer file run t bag trace m b e (may file run t bag trace m b e (omega arith)) q i r next l;
-  refused-again = λ file run t bag trace next n m b e u q.
+  table-length = λ file m b e. table-long m (accepted-sound file m b e .sound);
+  resumes = λ file run t bag trace table next m b e q. resumes file run t bag trace table m b e (may file run t bag trace table m b e (omega arith)) q next;
+  needs-longer = λ file run t bag trace table next lent m b r e q i l.
+      needs-longer file run t bag trace table m b e (may file run t bag trace table m b e (omega arith)) q i r next lent l;
+  refused-again = λ file run t bag trace table next lent n m b e u q.
       let l : 12 < n = go n u in
-      refused-again file run t bag trace m b e (may file run t bag trace m b e (omega (arith, q))) n u q (omega arith) next;
+      refused-again file run t bag trace table m b e (may file run t bag trace table m b e (omega (arith, q))) n u q (omega arith) next lent;
 }
   where
     go : (n : ℕ) → (n ≡ 13) ⊎ (n ≡ 14) → 12 < n

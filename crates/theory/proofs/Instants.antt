@@ -8,11 +8,11 @@ use native.Mathlib.Omega.{arith}
 use lib.ListN.{length}
 use Rattle.definition.specs.Limits.{maxSteps}
 use Rattle.definition.specs.Model.{Bag}
-use Rattle.definition.specs.Step.{Simulator}
+use Rattle.definition.specs.Step.{Output, Simulator}
 use Rattle.definition.specs.Instant.{Instant, done, jammed, stepped, goesOn, stepsAt, instant}
 use Rattle.definition.specs.AdvanceRelation.{stillGiven, Steps, Whole, Jams}
 
-nothing-given : (xs : List Bag) → stillGiven [] xs ≡ []
+nothing-given : (xs : List Output) → stillGiven [] xs ≡ []
 nothing-given [] = refl
 nothing-given (y ∷ ys) = refl
 
@@ -22,7 +22,7 @@ module _ {S : Type 0} (k : Simulator S) where
   -- What at most n steps come to.
   abbrev Outcome : ℕ → ℕ → Bag → S → Instant S → Type 0
   Outcome n now x s (done xs s′) = Steps k now x s xs s′ × (length xs ≤ n) × (goesOn k now (stillGiven x xs) s′ ≡ false)
-  Outcome n now x s jammed = (xs : List Bag) × (s′ : S) × Steps k now x s xs s′ × (length xs ≡ n) × (goesOn k now (stillGiven x xs) s′ ≡ true)
+  Outcome n now x s jammed = (xs : List Output) × (s′ : S) × Steps k now x s xs s′ × (length xs ≡ n) × (goesOn k now (stillGiven x xs) s′ ≡ true)
 
   one-more : (n now : ℕ) (x : Bag) (s : S) (i : Instant S) → goesOn k now x s ≡ true → Outcome n now [] (k .step now x s .state) i
       → Outcome (suc n) now x s (stepped (k .step now x s .out) i)
@@ -57,11 +57,11 @@ module _ {S : Type 0} (k : Simulator S) where
     where
       go : (i : Instant S) → Outcome maxSteps now x s i → Settled now x s i
       go (done xs s′) h = record { steps = h .0; few = h .1; finished = h .2 }
-      go jammed h = record { bags = h .0; after = h .1; steps = h .2; many = h .3; unfinished = h .4 }
+      go jammed h = record { outputs = h .0; after = h .1; steps = h .2; many = h .3; unfinished = h .4 }
 
   -- ---- and nothing else
 
-  steps-done : (n now : ℕ) (x : Bag) (s s′ : S) (xs : List Bag) → Steps k now x s xs s′ → length xs ≤ n → goesOn k now (stillGiven x xs) s′ ≡ false
+  steps-done : (n now : ℕ) (x : Bag) (s s′ : S) (xs : List Output) → Steps k now x s xs s′ → length xs ≤ n → goesOn k now (stillGiven x xs) s′ ≡ false
       → stepsAt k n now x s ≡ done xs s′
   unfolding stepsAt
   steps-done zero now x s s′ [] h l e = rw (h, e)
@@ -71,7 +71,7 @@ module _ {S : Type 0} (k : Simulator S) where
       rw (h .0, steps-done n now [] (k .step now x s .state) s′ ys (h .2) (omega arith) (ap (λ z. goesOn k now z s′) (nothing-given ys) ∙ e), ← h .1)
       (unfold stepped in refl)
 
-  steps-jam : (n now : ℕ) (x : Bag) (s s′ : S) (xs : List Bag) → Steps k now x s xs s′ → length xs ≡ n → goesOn k now (stillGiven x xs) s′ ≡ true
+  steps-jam : (n now : ℕ) (x : Bag) (s s′ : S) (xs : List Output) → Steps k now x s xs s′ → length xs ≡ n → goesOn k now (stillGiven x xs) s′ ≡ true
       → stepsAt k n now x s ≡ jammed
   unfolding stepsAt
   steps-jam zero now x s s′ [] h l e = rw (h, e)
@@ -81,10 +81,10 @@ module _ {S : Type 0} (k : Simulator S) where
       rw (h .0, steps-jam n now [] (k .step now x s .state) s′ ys (h .2) (omega arith) (ap (λ z. goesOn k now z s′) (nothing-given ys) ∙ e))
       (unfold stepped in refl)
 
-  pub whole-instant : (now : ℕ) (x : Bag) (s s′ : S) (xs : List Bag) → Whole k now x s xs s′ → instant k now x s ≡ done xs s′
+  pub whole-instant : (now : ℕ) (x : Bag) (s s′ : S) (xs : List Output) → Whole k now x s xs s′ → instant k now x s ≡ done xs s′
   unfolding instant
   whole-instant now x s s′ xs h = steps-done maxSteps now x s s′ xs (h .steps) (h .few) (h .finished)
 
   pub jams-instant : (now : ℕ) (x : Bag) (s : S) → Jams k now x s → instant k now x s ≡ jammed
   unfolding instant
-  jams-instant now x s h = steps-jam maxSteps now x s (h .after) (h .bags) (h .steps) (h .many) (h .unfinished)
+  jams-instant now x s h = steps-jam maxSteps now x s (h .after) (h .outputs) (h .steps) (h .many) (h .unfinished)

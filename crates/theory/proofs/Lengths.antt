@@ -1,10 +1,10 @@
--- The longest model file and the longest saved run: each section's count is within its limit and its records have one size, and the root is
--- no atomic. Assumes nothing.
-use Prim.Native.Nat.{_≤_}
+-- The longest model file, the longest saved run and the longest table of deciding rules: each section's count is within its limit and its
+-- records have one size, and the root is no atomic. Assumes nothing.
+use Prim.Native.Nat.{_*_, _≤_}
 use mathlib.Core.List.{_++_}
 use native.Mathlib.Omega.{arith}
 use lib.ListN.{length, length-append}
-use Rattle.definition.specs.Limits.{componentSize, phaseSize, ruleSize, couplingSize, longestModel, longestRun}
+use Rattle.definition.specs.Limits.{componentSize, phaseSize, ruleSize, couplingSize, positionSize, longestModel, longestRun, longestTable}
 use Rattle.definition.specs.Model.{Model}
 use Rattle.definition.specs.Records.{componentBytes, phaseBytes, ruleBytes, couplingBytes}
 use Rattle.definition.specs.File.{sectionBytes, modelBytes}
@@ -39,3 +39,7 @@ module _ (m : Model) (w : WellFormed m) where
   pub run-long : runLength (atomicCount m) ≤ longestRun
   unfolding runLength atomicCount
   run-long = omega (arith, few-atomics m w, w .components .few)
+
+  pub table-long : positionSize * atomicCount m ≤ longestTable
+  unfolding atomicCount
+  table-long = omega (arith, few-atomics m w, w .components .few)

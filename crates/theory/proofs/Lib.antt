@@ -4,6 +4,7 @@ pub mod Agreement
 pub mod Carrying
 pub mod Instants
 pub mod Ending
+pub mod RuleTables
 pub mod CallRows
 pub mod Demand1
 pub mod Lengths
@@ -16,9 +17,13 @@ pub mod StandsOnce
 pub mod Through
 pub mod NeverOverdue
 pub mod StrayCue
+pub mod EachAtomic
+pub mod LastParts
+pub mod DecidedRules
 pub mod Demand2
 pub mod FlatTrace
 pub mod FlatLoops
+pub mod FlatRules
 pub mod FlatStages
 pub mod FlatCalls
 pub mod Demand3

@@ -4,12 +4,15 @@ use mathlib.Core.Path.{_≡_, refl, sym, ap, _∙_, subst}
 use mathlib.Core.Logic.{_⊎_, inl, inr}
 use Prim.Native.Nat.{ℕ, suc, _+_, _≤_, _<_}
 use mathlib.Core.List.{List, _∷_, _++_, append-assoc, append-nil}
+use mathlib.Core.Bool.{cond}
 use native.Mathlib.Omega.{arith}
+use lib.Dec.{eqb}
+use borrow.Author.Tests.{ne-eqb}
 use lib.ListN.{length, length-append}
 use Rattle.definition.specs.Bytes.{Bytes}
 use Rattle.definition.specs.Model.{Bag}
-use Rattle.definition.specs.Step.{Simulator}
-use Rattle.definition.specs.Instant.{instantTrace}
+use Rattle.definition.specs.Step.{Output, Simulator}
+use Rattle.definition.specs.Instant.{instantTrace, instantRules}
 use Rattle.definition.specs.Advance.{Progress, Ended, ended, succeeded, isBefore}
 use Rattle.definition.specs.AdvanceRelation.{Whole, Jams, Next, before, at-end, WithinLimits, withInstant, Ends, jams, oversize, overruns, goes-on, succeeds, idle}
 use Rattle.definition.specs.Carrying.{begins}
@@ -95,15 +98,22 @@ module _ {S : Type 0} (k : Simulator S) (t : ℕ) (x : Bag) where
 
   -- ---- counted on
 
-  -- A progress that counts on from instants, steps and a trace that stand already.
-  module _ (i n : ℕ) (tr : Bytes) where
+  -- A progress that counts on from instants, steps, a trace and rules that stand already.
+  module _ (i n : ℕ) (tr : Bytes) (rs : List ℕ) where
     abbrev pub counted : Progress S → Progress S
-    counted p = record { opening = p .opening; state = p .state; instants = i + p .instants; steps = n + p .steps; trace = tr ++ p .trace }
+    counted p = record {
+      opening = p .opening;
+      state = p .state;
+      instants = i + p .instants;
+      steps = n + p .steps;
+      trace = tr ++ p .trace;
+      rules = cond (eqb (p .instants) 0) rs (p .rules);
+    }
 
     abbrev pub countedEnd : Ended S → Ended S
     countedEnd e = record { number = e .number; progress = counted (e .progress) }
 
-    counted-with : (r : ℕ) (p : Progress S) (now : ℕ) (xs : List Bag) (s : S)
+    counted-with : (r : ℕ) (p : Progress S) (now : ℕ) (xs : List Output) (s : S)
         → withInstant k (length tr + r) t x (counted p) now xs s ≡ counted (withInstant k r t x p now xs s)
     counted-with r p now xs s = λ j. record {
       opening = suc now;
@@ -111,12 +121,13 @@ module _ {S : Type 0} (k : Simulator S) (t : ℕ) (x : Bag) where
       instants = (let q : suc (i + p .instants) ≡ i + suc (p .instants) = omega arith in q) j;
       steps = (let q : (n + p .steps) + length xs ≡ n + (p .steps + length xs) = omega arith in q) j;
       trace = append-assoc tr (p .trace) (instantTrace now xs) j;
+      rules = ap (λ b. cond b rs (instantRules xs)) (sym (ne-eqb (suc (p .instants)) 0 (λ z. omega arith))) j;
     }
 
-    longer : (r : ℕ) (p : Progress S) (now : ℕ) (xs : List Bag) → length ((tr ++ p .trace) ++ instantTrace now xs) ≡ length tr + length (p .trace ++ instantTrace now xs)
+    longer : (r : ℕ) (p : Progress S) (now : ℕ) (xs : List Output) → length ((tr ++ p .trace) ++ instantTrace now xs) ≡ length tr + length (p .trace ++ instantTrace now xs)
     longer r p now xs = omega (arith, length-append (tr ++ p .trace) (instantTrace now xs), length-append tr (p .trace), length-append (p .trace) (instantTrace now xs))
 
-    within : (r : ℕ) (p : Progress S) (now : ℕ) (xs : List Bag) → WithinLimits k r t x p now xs → WithinLimits k (length tr + r) t x (counted p) now xs
+    within : (r : ℕ) (p : Progress S) (now : ℕ) (xs : List Output) → WithinLimits k r t x p now xs → WithinLimits k (length tr + r) t x (counted p) now xs
     within r p now xs v = record { bags = v .bags; trace = omega (arith, longer r p now xs, v .trace) }
 
     pub counted-ends : (r : ℕ) {p : Progress S} {e : Ended S} → Ends k r t x p e → Ends k (length tr + r) t x (counted p) (countedEnd e)
@@ -133,20 +144,21 @@ module _ {S : Type 0} (k : Simulator S) (t : ℕ) (x : Bag) where
     counted-ends r (idle p f g) = idle (counted p) f g
 
   -- a progress as one that counts on from nothing
-  pub counted-begin : (p : Progress S) → counted (p .instants) (p .steps) (p .trace) (begins (p .opening) (p .state)) ≡ p
+  pub counted-begin : (p : Progress S) → counted (p .instants) (p .steps) (p .trace) (p .rules) (begins (p .opening) (p .state)) ≡ p
   counted-begin p = λ j. record {
     opening = p .opening;
     state = p .state;
     instants = (let q : p .instants + 0 ≡ p .instants = omega arith in q) j;
     steps = (let q : p .steps + 0 ≡ p .steps = omega arith in q) j;
     trace = append-nil (p .trace) j;
+    rules = p .rules;
   }
 
   -- After 15: the first call's part, and the second call's counted on, are one call.
   pub one-call : (r : ℕ) {p : Progress S} {a : Ended S} → Ends k r t x p a → a .number ≡ 15 → (next : ℕ) (b : Ended S)
       → Ends k next t x (begins (a .progress .opening) (a .progress .state)) b
-      → Ends k (length (a .progress .trace) + next) t x p (countedEnd (a .progress .instants) (a .progress .steps) (a .progress .trace) b)
+      → Ends k (length (a .progress .trace) + next) t x p (countedEnd (a .progress .instants) (a .progress .steps) (a .progress .trace) (a .progress .rules) b)
   one-call r {p} {a} h u next b g =
       let q = a .progress in
       goes-on-from r h u (length (q .trace) + next) (omega arith) _
-      (subst (λ z. Ends k (length (q .trace) + next) t x z (countedEnd (q .instants) (q .steps) (q .trace) b)) (counted-begin q) (counted-ends (q .instants) (q .steps) (q .trace) next g))
+      (subst (λ z. Ends k (length (q .trace) + next) t x z (countedEnd (q .instants) (q .steps) (q .trace) (q .rules) b)) (counted-begin q) (counted-ends (q .instants) (q .steps) (q .trace) (q .rules) next g))

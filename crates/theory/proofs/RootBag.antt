@@ -15,7 +15,7 @@ use Rattle.definition.specs.Model.{Bag, Model}
 use Rattle.definition.specs.Routes.{routes}
 use Rattle.definition.specs.Pinned.Decoder.{accepted}
 use Rattle.definition.specs.SavedRun.{Entry, entryOf}
-use Rattle.definition.specs.Step.{step, nested}
+use Rattle.definition.specs.Step.{Output, step, nested}
 use Rattle.definition.specs.Instant.{over}
 use Rattle.definition.specs.Advance.{Progress, Ended, ended, succeeded}
 use Rattle.definition.specs.AdvanceRelation.{Steps, Whole, Next, before, at-end, Ends, jams, oversize, overruns, goes-on, succeeds, idle}
@@ -35,15 +35,15 @@ use Rattle.law_calls.proofs.Fitting.{fits-run}
 use Rattle.theory.proofs.Demand1.{demand1}
 
 module _ (m : Model) (w : WellFormed m) (few : length (routes m) ≤ maxRoutes) where
-  bags-low : (now : ℕ) (x : Bag) (rs qs : List Entry) (xs : List Bag) → Good m now rs → Steps (nested m) now x rs xs qs → all (λ y. leb (length y) maxRootBag) xs ≡ true
+  bags-low : (now : ℕ) (x : Bag) (rs qs : List Entry) (xs : List Output) → Good m now rs → Steps (nested m) now x rs xs qs → all (λ y. leb (length (y .bag)) maxRootBag) xs ≡ true
   unfolding all
   bags-low now x rs qs [] g h = refl
   bags-low now x rs qs (y ∷ ys) g h =
       let r = ready m w now rs g in
-      let low : length y ≤ maxRootBag = omega (arith, ap length (h .1 ∙ step-out m w now x rs r), root-bag m w (entryOf m rs) now r, few) in
-      and-true _ _ (le-leb (length y) maxRootBag low) (bags-low now [] (step m now x rs .state) qs ys (step-good m w now rs g x) (h .2))
+      let low : length (y .bag) ≤ maxRootBag = omega (arith, ap length (ap (λ o. o .bag) (h .1) ∙ step-out m w now x rs r), root-bag m w (entryOf m rs) now r, few) in
+      and-true _ _ (le-leb (length (y .bag)) maxRootBag low) (bags-low now [] (step m now x rs .state) qs ys (step-good m w now rs g x) (h .2))
 
-  not-over : (now : ℕ) (x : Bag) (rs qs : List Entry) (xs : List Bag) → Good m now rs → Whole (nested m) now x rs xs qs → over xs ≡ true → ⊥
+  not-over : (now : ℕ) (x : Bag) (rs qs : List Entry) (xs : List Output) → Good m now rs → Whole (nested m) now x rs xs qs → over xs ≡ true → ⊥
   unfolding over
   not-over now x rs qs xs g h e = clash e (ap not (bags-low now x rs qs xs g (h .steps)))
 
@@ -61,10 +61,10 @@ module _ (m : Model) (w : WellFormed m) (few : length (routes m) ≤ maxRoutes) 
     not-14 (succeeds p y ys s′ n v r) f o h = omega arith
     not-14 (idle p n g) f o h = omega arith
 
-pub never-over : (file run : Bytes) (t : ℕ) (bag trace : Bytes) (m : Model) → AllBytes file → accepted file ≡ ok m → MayAdvance m run t bag
-    → advance file run t bag trace .number ≡ 14 → ⊥
+pub never-over : (file run : Bytes) (t : ℕ) (bag trace table : Bytes) (m : Model) → AllBytes file → accepted file ≡ ok m → MayAdvance m run t bag
+    → advance file run t bag trace table .number ≡ 14 → ⊥
 unfolding advanced
-never-over file run t bag trace m b e h n =
+never-over file run t bag trace table m b e h n =
     let s = accepted-sound file m b e in
-    let r = demand1 .advance-ends file run t bag trace m b e h in
+    let r = demand1 .advance-ends file run t bag trace table m b e h in
     not-14 m (s .sound) (s .few-routes) (length trace) t (toBag bag) (r .1) (fits-run m run (h .run-fits) .0 .0) (h .not-early) (ap (λ z. z .number) (sym (r .2)) ∙ n)

@@ -8,42 +8,42 @@ use mathlib.Core.Bool.{true}
 use native.Mathlib.Omega.{arith}
 use lib.ListN.{getD}
 use Rattle.definition.specs.Model.{Bag, Model, noRule, leaf}
-use Rattle.definition.specs.Devs.{later}
+use Rattle.definition.specs.Devs.{After, later}
 use Rattle.definition.specs.Atomic.{InPhase, unspent, followed, ruleFor, timeAdvance, external, confluent}
 use Rattle.definition.specs.SavedRun.{Entry, notBefore, dueOf, dueAt}
 use Rattle.definition.specs.FlatMachine.{bothParts, dueNow, movedBy, moved}
 use Rattle.definition.specs.StrayCue.{setAt, StandsAfter, DecidesFor, StrayCue}
 use Rattle.law_refusals.proofs.Deciding.{decided-rule}
 use Rattle.law_nest.proofs.Times.{left-later}
-use Rattle.law_nest.proofs.Entries.{confluent-due}
+use Rattle.law_nest.proofs.Entries.{both, confluent-due}
 use Rattle.law_nest.proofs.AnySplit.{ta-stands}
 
 module _ (m : Model) (c now e : ℕ) (s : InPhase) (r : Entry) (x : Bag) (h : StandsAfter m c now e s r) where
   -- the search of the external transition is that of the entry
-  searches : (o : Option ℕ) → DecidesFor m c now r x o → ruleFor m c (s .phase) (s .spent + e) x ≡ o
+  pub searches : (o : Option ℕ) → DecidesFor m c now r x o → ruleFor m c (s .phase) (s .spent + e) x ≡ o
   searches o d =
       let since : s .spent + e ≡ now - r .last = omega (arith, h .1) in
       ap₂ (λ p t. ruleFor m c p t x) (h .0) since ∙ decided-rule m c (r .phase) (now - r .last) x o d
 
-  keeps : DecidesFor m c now r x none → StandsAfter m c now 0 (external m c s e x) r
+  keeps : DecidesFor m c now r x none → StandsAfter m c now 0 (external m c s e x .state) r
   unfolding external followed
   keeps d = rw (searches none d) (h .0, omega (arith, h .1))
 
   -- it is due when it was
-  due-as-before : DecidesFor m c now r x none → notBefore now (dueOf m c r) ≡ true → later now (timeAdvance m c (external m c s e x)) ≡ dueOf m c r
+  due-as-before : DecidesFor m c now r x none → notBefore now (dueOf m c r) ≡ true → later now (timeAdvance m c (external m c s e x .state)) ≡ dueOf m c r
   unfolding dueAt
   due-as-before d early =
-      ap (later now) (ta-stands m (λ _. r) now (leaf c) 0 (external m c s e x) (keeps d) (omega (arith, h .1), early))
+      ap (later now) (ta-stands m (λ _. r) now (leaf c) 0 (external m c s e x .state) (keeps d) (omega (arith, h .1), early))
       ∙ left-later now 0 now (dueOf m c r) (omega arith) early
 
-  follows : (i : ℕ) → DecidesFor m c now r x (some i) → StandsAfter m c now 0 (external m c s e x) (setAt now (getD (m .rules) i noRule .next))
+  follows : (i : ℕ) → DecidesFor m c now r x (some i) → StandsAfter m c now 0 (external m c s e x .state) (setAt now (getD (m .rules) i noRule .next))
   unfolding external followed unspent
   follows i d = rw (searches (some i) d) (refl, omega arith)
 
-  sets : dueNow m now c r ≡ true → StandsAfter m c now 0 (confluent m c s x) (setAt now (bothParts m c (r .phase) x))
-  unfolding dueNow unspent
+  sets : dueNow m now c r ≡ true → StandsAfter m c now 0 (confluent m c s x .state) (setAt now (bothParts m c (r .phase) x))
+  unfolding dueNow unspent both
   sets d =
-      subst (λ z. StandsAfter m c now 0 z (setAt now (bothParts m c (r .phase) x))) (sym (confluent-due m c now e s r x (h .0) (h .1) d))
+      subst (λ (z : After InPhase). StandsAfter m c now 0 (z .state) (setAt now (bothParts m c (r .phase) x))) (sym (confluent-due m c now e s r x (h .0) (h .1) d))
       (refl, omega arith)
 
 pub stray-cue : StrayCue

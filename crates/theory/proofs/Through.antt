@@ -24,8 +24,9 @@ use Rattle.law_model.proofs.WellFormed.{WellFormed}
 use Rattle.law_model.proofs.RunBack.{length-run}
 use Rattle.law_nest.proofs.Pairs.{pairs-length}
 use Rattle.law_calls.proofs.Fitting.{FitRun, fits-run, fit-written, start-run}
+use Rattle.theory.proofs.RuleTables.{same-rules}
 use Rattle.theory.proofs.Carrying.{due-between}
-use Rattle.law_model.proofs.Answers.{start-short, start-done, reading-position, reading-done, advance-time, advance-bag, advance-done}
+use Rattle.law_model.proofs.Answers.{start-short, start-done, reading-position, reading-done, endOf, advance-time, advance-bag, advance-done}
 use Rattle.theory.proofs.Standing.{start-stands}
 use Rattle.theory.proofs.Shown.{runAfter, after-fits, carried-ends, carried-alike}
 
@@ -87,10 +88,10 @@ module _ (file : Bytes) (m : Model) (w : WellFormed m) (f : accepted file ≡ ok
         Goal = Follows here run (advanceCall c) (called (engine file) run (advanceCall c) .0) (called (engine file) run (advanceCall c) .1)
 
         at-time : (t < openingOf m run) ⊎ (maxMoment < t) → Goal
-        at-time h = rw (advance-time file run t (c .bag) (c .trace) m f (s .run-fits) h) (here, refuses-time c h, refl, s)
+        at-time h = rw (advance-time file run t (c .bag) (c .trace) (c .table) m f (s .run-fits) h) (here, refuses-time c h, refl, s)
 
         at-bag : InTime (openingOf m run) c → bagFits (c .bag) ≡ false → Goal
-        at-bag i h = rw (advance-bag file run t (c .bag) (c .trace) m f (s .run-fits) (i .not-early) (i .not-late) h) (here, refuses-bag c i h, refl, s)
+        at-bag i h = rw (advance-bag file run t (c .bag) (c .trace) (c .table) m f (s .run-fits) (i .not-early) (i .not-late) h) (here, refuses-bag c i h, refl, s)
 
         done : InTime (openingOf m run) c → bagFits (c .bag) ≡ true → Goal
         done i h =
@@ -100,10 +101,11 @@ module _ (file : Bytes) (m : Model) (w : WellFormed m) (f : accepted file ≡ ok
             let r = runAfter m run t (c .bag) (c .trace) in
             let fit = after-fits run t (c .bag) (c .trace) m w a in
             let since = e .0 .progress .state in
-            rw (advance-done file run t (c .bag) (c .trace) m f a) (
+            let rules = same-rules _ _ (e .0 .progress) (endOf m run t (c .bag) (c .trace) .progress) (c .table) (sym (k .1 .state .0 .each)) (k .1 .instants) (k .1 .rules) in
+            rw (advance-done file run t (c .bag) (c .trace) (c .table) m f a) (
               leftBy {m = m} (e .0),
               subst (λ z. Answers m here (advanceCall c) z (leftBy {m = m} (e .0)))
-                  (λ j. advanceAnswer (k .0 j) (k .1 .instants j) (k .1 .steps j) (length (k .1 .trace j)) (stored (k .1 .trace j) (c .trace))) (answers-advance c (e .0) i h (e .1)),
+                  (λ j. advanceAnswer (k .0 j) (k .1 .instants j) (k .1 .steps j) (length (k .1 .trace j)) (stored (k .1 .trace j) (c .trace)) (rules j)) (answers-advance c (e .0) i h (e .1)),
               beyond m w r fit run,
               subst (λ o. Saved m (record { opening = o; since = since }) (stored (runBytes r) run)) (sym (k .1 .opening))
                   (saved m w r fit run since (subst (λ o. StandsFor m o since (r .entries)) (k .1 .opening) (k .1 .state .0))),
