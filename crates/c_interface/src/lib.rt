@@ -30,10 +30,12 @@ pub extern "C" fn pdevs_advance(
     t: u64,
     bag: &[u8],
     trace: &mut [u8],
+    table: &mut [u8],
 ) -> Advanced
-    ensures { λ r. ⌜ advancedOf (now (run .exit)) (now (trace .exit)) r ≡ advance (now (model .entry)) (now (run .entry)) t (now (bag .entry)) (now (trace .entry)) ⌝ }
+    ensures { λ r. ⌜ advancedOf (now (run .exit)) (now (trace .exit)) (now (table .exit)) r
+        ≡ advance (now (model .entry)) (now (run .entry)) t (now (bag .entry)) (now (trace .entry)) (now (table .entry)) ⌝ }
 {
-    engine::advance(model, run, t, bag, trace)
+    engine::advance(model, run, t, bag, trace, table)
 }
 
 #[no_mangle]

@@ -17,8 +17,8 @@ use Rattle.definition.specs.Demands.{refusedAdvance}
 use Rattle.law_model.proofs.Answers.{advance-model}
 use Rattle.call_advance.specs.LetIn.{checkedBy}
 
-pub model-refused : (file run : Bytes) (t : ℕ) (bag trace : Bytes) (k : ℕ) → refused k ≡ accepted file → refusedAdvance k run trace ≡ advance file run t bag trace
-model-refused file run t bag trace k e = sym (advance-model file run t bag trace k (sym e))
+pub model-refused : (file run : Bytes) (t : ℕ) (bag trace table : Bytes) (k : ℕ) → refused k ≡ accepted file → refusedAdvance k run trace table ≡ advance file run t bag trace table
+model-refused file run t bag trace table k e = sym (advance-model file run t bag trace table k (sym e))
 
 -- ---- the first check that fails
 
@@ -43,13 +43,13 @@ module _ (m : Model) (run : Bytes) (t : ℕ) (bag : Bytes) where
 
 -- ---- what the checks leave
 
-module _ (file run : Bytes) (t : ℕ) (bag trace : Bytes) (m : Model) (e : ok m ≡ accepted file) where
-  pub check-refused : (number : ℕ) → checkedBy number ≡ advanceChecks m run t bag → (number ≡ 0 → ⊥) → refusedAdvance number run trace ≡ advance file run t bag trace
+module _ (file run : Bytes) (t : ℕ) (bag trace table : Bytes) (m : Model) (e : ok m ≡ accepted file) where
+  pub check-refused : (number : ℕ) → checkedBy number ≡ advanceChecks m run t bag → (number ≡ 0 → ⊥) → refusedAdvance number run trace table ≡ advance file run t bag trace table
   unfolding advance advanced
   check-refused number c z = let r : refused number ≡ advanceChecks m run t bag = rw (ne-eqb number 0 z) at c in rw (← e, ← r)
 
   -- what is let in is advanced
   pub advance-is : advanceChecks m run t bag ≡ ok tt
-      → advanced run trace (ok (advanceFrom (nested m) (length trace) t (toBag bag) (runOf m run .opening) (runOf m run .entries))) ≡ advance file run t bag trace
+      → advanced run trace table (ok (advanceFrom (nested m) (length trace) t (toBag bag) (runOf m run .opening) (runOf m run .entries))) ≡ advance file run t bag trace table
   unfolding advance
   advance-is c = rw (← e, c)

@@ -19,15 +19,15 @@ use Rattle.spec_step.specs.Tabled.{Tabled}
 use Rattle.law_tables.proofs.Calls.{advance-on-tables}
 use Rattle.call_advance.proofs.Checks.{advance-is}
 
-pub call-on-tables : (file run : Bytes) (t : ℕ) (bag trace : Bytes) (m : Model) → AllBytes file → AllBytes bag → ok m ≡ accepted file → advanceChecks m run t bag ≡ ok tt
+pub call-on-tables : (file run : Bytes) (t : ℕ) (bag trace table : Bytes) (m : Model) → AllBytes file → AllBytes bag → ok m ≡ accepted file → advanceChecks m run t bag ≡ ok tt
     → (st : State) → entriesOf (length (atomics (m .components))) st ≡ runOf m run .entries
     → length (atomics (m .components)) ≤ length (st .phase) → length (atomics (m .components)) ≤ length (st .last)
     → (tables : List ℕ) → Tabled m tables → (room : ℕ) → maxGiven * length (routes m) ≤ room
-    → advanced run trace (ok (heldEnd (length (atomics (m .components)))
+    → advanced run trace table (ok (heldEnd (length (atomics (m .components)))
     (advanceFrom (tableSim (m .phases) tables (m .rules) (length (atomics (m .components))) room) (length trace) t (toBag bag) (runOf m run .opening) st)))
-    ≡ advance file run t bag trace
-call-on-tables file run t bag trace m b c e ok-call st same phases lasts tables h room enough =
+    ≡ advance file run t bag trace table
+call-on-tables file run t bag trace table m b c e ok-call st same phases lasts tables h room enough =
     let a = accepted-sound file m b (sym e) in
-    ap (λ x. advanced run trace (ok x))
+    ap (λ x. advanced run trace table (ok x))
     (sym (advance-on-tables m (a .sound) tables h run st same phases lasts room enough t bag (length trace) c ok-call))
-    ∙ advance-is file run t bag trace m e ok-call
+    ∙ advance-is file run t bag trace table m e ok-call

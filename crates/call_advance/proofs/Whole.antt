@@ -59,11 +59,11 @@ module _ (file : Bytes) (n : Counts) (bytes : (i : ℕ) → getD file i 0 < 256)
         }
 
     -- The call by what the code has: the parts, the model's tables and the state.
-    pub call-parts : (trace : Bytes) → ((i : ℕ) → getD bag i 0 < 256) → (st : State) → Loaded run (atomicsIn tables) st → (room : ℕ) → maxGiven * length (routes (modelOf file n)) ≤ room
-        → (ps rs : Bytes) → ps ≡ phasesPart file n → rs ≡ rulesPart file n → advancedBy ps rs tables room t bag run st trace ≡ advance file run t bag trace
+    pub call-parts : (trace table : Bytes) → ((i : ℕ) → getD bag i 0 < 256) → (st : State) → Loaded run (atomicsIn tables) st → (room : ℕ) → maxGiven * length (routes (modelOf file n)) ≤ room
+        → (ps rs : Bytes) → ps ≡ phasesPart file n → rs ≡ rulesPart file n → advancedBy ps rs tables room t bag run st trace table ≡ advance file run t bag trace table
     unfolding modelOf modelIn runOf toRun atomicCount heldEnd
-    call-parts trace given st loaded room enough ps rs p q =
+    call-parts trace table given st loaded room enough ps rs p q =
         let e = h .tabled .atomic-count in
-        rw (p, q, e) (call-on-tables file run t bag trace (modelOf file n) (all-bytes file bytes) (all-bytes bag given) told c st
+        rw (p, q, e) (call-on-tables file run t bag trace table (modelOf file n) (all-bytes file bytes) (all-bytes bag given) told c st
         (ap (λ k. entriesOf k st) (sym e) ∙ loaded .entries ∙ ap (λ k. toRun k run .entries) e) (omega (arith, h .few, loaded .phases)) (omega (arith, h .few, loaded .lasts))
         tables (h .tabled) room enough)

@@ -1,4 +1,5 @@
-// The call advance, whole: the check of the model, the checks of run, time and bag, and the instants.
+// The call advance, whole: the check of the model, the checks of run, time and bag, the instants, and the table of deciding rules. The instants
+// know nothing of the table: a call without one has them alone.
 ghost use mathlib.Core.Path.{_≡_};
 ghost use lib.ListN.{length};
 ghost use Rattle.definition.specs.Routes.{routes};
@@ -10,6 +11,7 @@ ghost use Rattle.model_file.specs.Checked.{modelOf};
 ghost use Rattle.call_answers.specs.Answers.{advancedOf};
 ghost use Rattle.call_advance.specs.LetIn.{ModelOpened, checkedBy, LetIn, Roomy};
 use call_answers::Advanced;
+use call_rules::put_rules;
 use clock::Moment;
 use instant_loop::advance_from;
 use limits::BAD_BAG;
@@ -55,16 +57,19 @@ fn advance_let_in(
     t: Moment,
     bag: &[u8],
     trace: &mut [u8],
+    table: &mut [u8],
     work: &mut [u32],
 ) -> Advanced
     requires { ⌜ LetIn (now file) n (now tables) (now run) (t .0) (now bag) × Roomy (now file) n (length (now work)) ⌝ }
-    ensures { λ r. ⌜ advancedOf (now (run .exit)) (now (trace .exit)) r ≡ advance (now (file .entry)) (now (run .entry)) (t .0) (now (bag .entry)) (now (trace .entry)) ⌝ }
+    ensures { λ r. ⌜ advancedOf (now (run .exit)) (now (trace .exit)) (now (table .exit)) r
+        ≡ advance (now (file .entry)) (now (run .entry)) (t .0) (now (bag .entry)) (now (trace .entry)) (now (table .entry)) ⌝ }
 {
     let mut state = [0u64; STATE_SIZE];
     run_saved::load(run, u8_to_usize(atomics_in(tables)), &mut state);
     let phases = model_file::phases_of(file, n);
     let rules = model_file::rules_of(file, n);
     let r = advance_from(phases, rules, tables, run, &mut state, t, bag, work, trace);
+    put_rules(tables, &state, r.instants, table);
     Advanced {
         number: r.number,
         instants: r.instants,
@@ -82,12 +87,14 @@ fn advance_few(
     t: Moment,
     bag: &[u8],
     trace: &mut [u8],
+    table: &mut [u8],
 ) -> Advanced
     requires { ⌜ LetIn (now file) n (now tables) (now run) (t .0) (now bag) × (length (routes (modelOf (now file) n)) ≤ 64) ⌝ }
-    ensures { λ r. ⌜ advancedOf (now (run .exit)) (now (trace .exit)) r ≡ advance (now (file .entry)) (now (run .entry)) (t .0) (now (bag .entry)) (now (trace .entry)) ⌝ }
+    ensures { λ r. ⌜ advancedOf (now (run .exit)) (now (trace .exit)) (now (table .exit)) r
+        ≡ advance (now (file .entry)) (now (run .entry)) (t .0) (now (bag .entry)) (now (trace .entry)) (now (table .entry)) ⌝ }
 {
     let mut work = [0u32; FEW_WORDS];
-    advance_let_in(file, n, tables, run, t, bag, trace, &mut work)
+    advance_let_in(file, n, tables, run, t, bag, trace, table, &mut work)
 }
 
 fn advance_many(
@@ -98,12 +105,14 @@ fn advance_many(
     t: Moment,
     bag: &[u8],
     trace: &mut [u8],
+    table: &mut [u8],
 ) -> Advanced
     requires { ⌜ LetIn (now file) n (now tables) (now run) (t .0) (now bag) ⌝ }
-    ensures { λ r. ⌜ advancedOf (now (run .exit)) (now (trace .exit)) r ≡ advance (now (file .entry)) (now (run .entry)) (t .0) (now (bag .entry)) (now (trace .entry)) ⌝ }
+    ensures { λ r. ⌜ advancedOf (now (run .exit)) (now (trace .exit)) (now (table .exit)) r
+        ≡ advance (now (file .entry)) (now (run .entry)) (t .0) (now (bag .entry)) (now (trace .entry)) (now (table .entry)) ⌝ }
 {
     let mut work = [0u32; MOST_WORDS];
-    advance_let_in(file, n, tables, run, t, bag, trace, &mut work)
+    advance_let_in(file, n, tables, run, t, bag, trace, table, &mut work)
 }
 
 // The number of the first check of run, time and bag that fails, and 0 for a call that is let in.
@@ -135,23 +144,33 @@ fn advance_accepted(
     t: u64,
     bag: &[u8],
     trace: &mut [u8],
+    table: &mut [u8],
 ) -> Advanced
     requires { ⌜ ModelOpened (now file) n (now tables) «route_count» ⌝ }
-    ensures { λ r. ⌜ advancedOf (now (run .exit)) (now (trace .exit)) r ≡ advance (now (file .entry)) (now (run .entry)) t (now (bag .entry)) (now (trace .entry)) ⌝ }
+    ensures { λ r. ⌜ advancedOf (now (run .exit)) (now (trace .exit)) (now (table .exit)) r
+        ≡ advance (now (file .entry)) (now (run .entry)) t (now (bag .entry)) (now (trace .entry)) (now (table .entry)) ⌝ }
 {
     let number = check_call(file, n, run, t, bag);
     if number != 0 {
         return refused(number);
     }
     if route_count <= FEW_ROUTES {
-        advance_few(file, n, tables, run, Moment(t), bag, trace)
+        advance_few(file, n, tables, run, Moment(t), bag, trace, table)
     } else {
-        advance_many(file, n, tables, run, Moment(t), bag, trace)
+        advance_many(file, n, tables, run, Moment(t), bag, trace, table)
     }
 }
 
-pub fn advance(file: &[u8], run: &mut [u8], t: u64, bag: &[u8], trace: &mut [u8]) -> Advanced
-    ensures { λ r. ⌜ advancedOf (now (run .exit)) (now (trace .exit)) r ≡ advance (now (file .entry)) (now (run .entry)) t (now (bag .entry)) (now (trace .entry)) ⌝ }
+pub fn advance(
+    file: &[u8],
+    run: &mut [u8],
+    t: u64,
+    bag: &[u8],
+    trace: &mut [u8],
+    table: &mut [u8],
+) -> Advanced
+    ensures { λ r. ⌜ advancedOf (now (run .exit)) (now (trace .exit)) (now (table .exit)) r
+        ≡ advance (now (file .entry)) (now (run .entry)) t (now (bag .entry)) (now (trace .entry)) (now (table .entry)) ⌝ }
 {
     let mut tables = [0u16; TABLE_SIZE];
     let counted = accept_tables::open_model(file, &mut tables);
@@ -159,5 +178,5 @@ pub fn advance(file: &[u8], run: &mut [u8], t: u64, bag: &[u8], trace: &mut [u8]
     let Checked::Accepted(n) = checked else {
         return refused(u16_to_u64(checked.refusal()));
     };
-    advance_accepted(file, n, counted.routes, &tables, run, t, bag, trace)
+    advance_accepted(file, n, counted.routes, &tables, run, t, bag, trace, table)
 }

@@ -9,9 +9,9 @@ use Rattle.call_answers.specs.declared.Reading.{Reading}
 abbrev pub wroteOf : Bytes → Written → Wrote
 wroteOf buffer r = record { number = r .number; written = r .bytes; buffer = buffer }
 
-abbrev pub advancedOf : Bytes → Bytes → Advanced → DefAdvanced
-advancedOf run trace r =
-    record { number = r .number; instants = r .instants; steps = r .steps; used = r .«trace_bytes»; run = run; trace = trace }
+abbrev pub advancedOf : Bytes → Bytes → Bytes → Advanced → DefAdvanced
+advancedOf run trace table r =
+    record { number = r .number; instants = r .instants; steps = r .steps; used = r .«trace_bytes»; run = run; trace = trace; table = table }
 
 abbrev pub readOf : Reading → WasRead
 readOf r = record { number = r .number; phase = r .phase; last = r .last; due = r .«next_due» }

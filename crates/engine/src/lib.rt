@@ -24,10 +24,18 @@ pub fn start(file: &[u8], run: &mut [u8]) -> Written
 }
 
 // Does every instant due before t, then t with the bag.
-pub fn advance(file: &[u8], run: &mut [u8], t: u64, bag: &[u8], trace: &mut [u8]) -> Advanced
-    ensures { λ r. ⌜ advancedOf (now (run .exit)) (now (trace .exit)) r ≡ advance (now (file .entry)) (now (run .entry)) t (now (bag .entry)) (now (trace .entry)) ⌝ }
+pub fn advance(
+    file: &[u8],
+    run: &mut [u8],
+    t: u64,
+    bag: &[u8],
+    trace: &mut [u8],
+    table: &mut [u8],
+) -> Advanced
+    ensures { λ r. ⌜ advancedOf (now (run .exit)) (now (trace .exit)) (now (table .exit)) r
+        ≡ advance (now (file .entry)) (now (run .entry)) t (now (bag .entry)) (now (trace .entry)) (now (table .entry)) ⌝ }
 {
-    call_advance::advance(file, run, t, bag, trace)
+    call_advance::advance(file, run, t, bag, trace, table)
 }
 
 // Reads the atomic at a position of a run, and when something is due next.

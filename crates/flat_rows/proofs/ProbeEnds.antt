@@ -21,8 +21,7 @@ use Rattle.law_model.proofs.WellFormed.{WellFormed}
 use Rattle.law_base.proofs.Tests.{eqb-sym}
 use Rattle.law_nest.proofs.Occurs.{occurs, once-up, pick-one}
 use Rattle.law_nest.proofs.Components.{atomic-below, rooted, root-not, atomic-once, atomics-atomic, root, root-occurs, partsOfRoot}
-use Rattle.law_nest.proofs.Nest.{due, bagAt, outOf, outDue, out-due}
-use Rattle.law_nest.proofs.Leaves.{no-bag}
+use Rattle.law_nest.proofs.Nest.{due, bagAt, no-bag, outOf, outDue, out-due}
 use Rattle.law_nest.proofs.Paths.{waysSum, down-tree, up-tree}
 use Rattle.law_nest.proofs.Carried.{weight, outs}
 use Rattle.law_nest.proofs.Carry.{root-hits, carry}

@@ -13,7 +13,7 @@ use Rattle.definition.specs.Bytes.{Bytes, refused}
 use Rattle.definition.specs.Lists.{concat}
 use Rattle.definition.specs.Limits.{maxSteps}
 use Rattle.definition.specs.Model.{Bag}
-use Rattle.definition.specs.Step.{Simulator}
+use Rattle.definition.specs.Step.{Output, Simulator}
 use Rattle.definition.specs.Instant.{Instant, done, jammed, stepped, goesOn, stepsAt, instant, traceBytes, recordsFrom, instantTrace, over}
 use Rattle.definition.specs.Advance.{tried}
 use Rattle.law_base.proofs.Turns.{tried-jams, tried-over, tried-full}
@@ -35,7 +35,7 @@ module _ {S : Type 0} (k : Simulator S) where
   Still s₀ (done (x ∷ xs) s) = Unit {0}
   Still s₀ jammed = Unit {0}
 
-  stepped-still : (s₀ : S) (x : Bag) (i : Instant S) → Still s₀ (stepped x i)
+  stepped-still : (s₀ : S) (x : Output) (i : Instant S) → Still s₀ (stepped x i)
   unfolding stepped
   stepped-still s₀ x (done xs s) = tt
   stepped-still s₀ x jammed = tt
@@ -53,15 +53,15 @@ module _ {S : Type 0} (k : Simulator S) where
       go true = stepped-still s (k .step now x s .out) (stepsAt k m now [] (k .step now x s .state))
       go false = refl
 
-  still-done : (s₀ : S) (xs : List Bag) (s : S) → Still s₀ (done xs s) → length xs ≡ 0 → s ≡ s₀
+  still-done : (s₀ : S) (xs : List Output) (s : S) → Still s₀ (done xs s) → length xs ≡ 0 → s ≡ s₀
   still-done s₀ [] s h e = h
   still-done s₀ (x ∷ xs) s h e = absurd (omega arith)
 
-  pub none-still : (now : ℕ) (x : Bag) (s₀ : S) (xs : List Bag) (s : S) → instant k now x s₀ ≡ done xs s → length xs ≡ 0 → s ≡ s₀
+  pub none-still : (now : ℕ) (x : Bag) (s₀ : S) (xs : List Output) (s : S) → instant k now x s₀ ≡ done xs s → length xs ≡ 0 → s ≡ s₀
   unfolding instant
   none-still now x s₀ xs s e z = still-done s₀ xs s (subst (Still s₀) e (steps-still maxSteps now x s₀)) z
 
-pub no-records : (now : ℕ) (xs : List Bag) → length xs ≡ 0 → instantTrace now xs ≡ []
+pub no-records : (now : ℕ) (xs : List Output) → length xs ≡ 0 → instantTrace now xs ≡ []
 unfolding instantTrace traceBytes recordsFrom concat
 no-records now [] e = refl
 no-records now (x ∷ xs) e = absurd (omega arith)
@@ -70,18 +70,18 @@ no-records now (x ∷ xs) e = absurd (omega arith)
 
 -- What an instant that may stand leaves, with the numbers of its pass.
 record May (now : ℕ) (i : Instant State) (r : Ran) : Type 0 where
-  pub bags : List Bag
+  pub outputs : List Output
   pub end : State
-  pub same : i ≡ done bags end
-  pub fit : over bags ≡ false
-  pub steps : r .steps ≡ length bags
-  pub used : r .used ≡ length (instantTrace now bags)
+  pub same : i ≡ done outputs end
+  pub fit : over outputs ≡ false
+  pub steps : r .steps ≡ length outputs
+  pub used : r .used ≡ length (instantTrace now outputs)
 
 record Overs (i : Instant State) : Type 0 where
-  pub bags : List Bag
+  pub outputs : List Output
   pub state : State
-  pub same : i ≡ done bags state
-  pub unfit : over bags ≡ true
+  pub same : i ≡ done outputs state
+  pub unfit : over outputs ≡ true
 
 -- What each verdict says of the instant.
 abbrev Said : ℕ → Instant State → Ran → Verdict → Type 0
@@ -101,15 +101,15 @@ said now (done xs s) = go (over xs) refl
     stands = record { verdict = VV.Stands; steps = length xs; used = 0 + length (instantTrace now xs) }
 
     go : (b : Bool) → over xs ≡ b → Said now (done xs s) (cond b unfit stands) (cond b unfit stands .verdict)
-    go true e = record { bags = xs; state = s; same = refl; unfit = e }
-    go false e = record { bags = xs; end = s; same = refl; fit = e; steps = refl; used = omega arith }
+    go true e = record { outputs = xs; state = s; same = refl; unfit = e }
+    go false e = record { outputs = xs; end = s; same = refl; fit = e; steps = refl; used = omega arith }
 
 told : (now : ℕ) (i : Instant State) (r : Ran) → r ≡ ranOf now 0 i → (v : Verdict) → r .verdict ≡ v → Said now i r v
 told now i r e v h = subst (λ (w : Verdict). Said now i r w) h (subst (λ (q : Ran). Said now i q (q .verdict)) (sym e) (said now i))
 
 -- ---- where the instant ends
 
-module _ (now : ℕ) (p : Progress) (st₀ : State) (trace : Bytes) (h : p .used ≤ length trace) where
+module _ (now : ℕ) (p : Progress) (tables w₀ : List ℕ) (trace : Bytes) (h : p .used ≤ length trace) where
   abbrev left : ℕ
   left = length trace - p .used
 
@@ -117,31 +117,31 @@ module _ (now : ℕ) (p : Progress) (st₀ : State) (trace : Bytes) (h : p .used
   undone m = record { number = m; progress = p }
 
   module _ (i : Instant State) where
-    stops : (m : ℕ) → (m ≡ 0 → ⊥) → refused m ≡ tried (length trace) now (progressOf trace st₀ p) i → Decided now p st₀ trace i (undone m)
+    stops : (m : ℕ) → (m ≡ 0 → ⊥) → refused m ≡ tried (length trace) now (progressOf trace tables w₀ p) i → Decided now p tables w₀ trace i (undone m)
     stops m z e = record { hindered = λ _. record { same = e; progress = refl }; stands = λ q. absurd (z q) }
 
-    decided-jams : i ≡ jammed → Decided now p st₀ trace i (undone 13)
-    decided-jams e = stops 13 (λ z. omega arith) (rw e (sym (tried-jams (length trace) now (progressOf trace st₀ p))))
+    decided-jams : i ≡ jammed → Decided now p tables w₀ trace i (undone 13)
+    decided-jams e = stops 13 (λ z. omega arith) (rw e (sym (tried-jams (length trace) now (progressOf trace tables w₀ p))))
 
-    decided-over : Overs i → Decided now p st₀ trace i (undone 14)
-    decided-over o = stops 14 (λ z. omega arith) (rw (o .same) (sym (tried-over (length trace) now (progressOf trace st₀ p) (o .bags) (o .state) (o .unfit))))
+    decided-over : Overs i → Decided now p tables w₀ trace i (undone 14)
+    decided-over o = stops 14 (λ z. omega arith) (rw (o .same) (sym (tried-over (length trace) now (progressOf trace tables w₀ p) (o .outputs) (o .state) (o .unfit))))
 
-    sized : (ran : Ran) (m : May now i ran) → length (progressOf trace st₀ p .trace ++ instantTrace now (m .bags)) ≡ p .used + ran .used
+    sized : (ran : Ran) (m : May now i ran) → length (progressOf trace tables w₀ p .trace ++ instantTrace now (m .outputs)) ≡ p .used + ran .used
     unfolding progressOf
-    sized ran m = omega (arith, length-append (take (p .used) trace) (instantTrace now (m .bags)), length-take-le (p .used) trace h, m .used)
+    sized ran m = omega (arith, length-append (take (p .used) trace) (instantTrace now (m .outputs)), length-take-le (p .used) trace h, m .used)
 
-    decided-full : (ran : Ran) → May now i ran → left < ran .used → Decided now p st₀ trace i (undone 15)
+    decided-full : (ran : Ran) → May now i ran → left < ran .used → Decided now p tables w₀ trace i (undone 15)
     decided-full ran m l =
-        let some : length (m .bags) ≡ 0 → ⊥ = λ z. omega (arith, m .used, ap length (no-records now (m .bags) z)) in
+        let some : length (m .outputs) ≡ 0 → ⊥ = λ z. omega (arith, m .used, ap length (no-records now (m .outputs) z)) in
         stops 15 (λ z. omega arith)
-        (rw (m .same) (sym (tried-full (length trace) now (progressOf trace st₀ p) (m .bags) (m .end) (m .fit) some (omega (arith, sized ran m)))))
+        (rw (m .same) (sym (tried-full (length trace) now (progressOf trace tables w₀ p) (m .outputs) (m .end) (m .fit) some (omega (arith, sized ran m)))))
 
     decided-stands : (ran : Ran) → May now i ran → ran .steps ≤ maxSteps → ran .used ≤ left
-        → Decided now p st₀ trace i (record { number = 0; progress = afterOf now p (ran .steps) (ran .used) })
+        → Decided now p tables w₀ trace i (record { number = 0; progress = afterOf now p (ran .steps) (ran .used) })
     decided-stands ran m few l = record {
       hindered = λ z. absurd (z refl);
       stands = λ _. record {
-        bags = m .bags;
+        outputs = m .outputs;
         end = m .end;
         same = m .same;
         fit = m .fit;
@@ -152,20 +152,20 @@ module _ (now : ℕ) (p : Progress) (st₀ : State) (trace : Bytes) (h : p .used
     }
 
     module _ (ran : Ran) (e : ran ≡ ranOf now 0 i) (few : ran .steps ≤ maxSteps) where
-      by : (v : Verdict) → ran .verdict ≡ v → Decided now p st₀ trace i (endedBy left now p ran)
+      by : (v : Verdict) → ran .verdict ≡ v → Decided now p tables w₀ trace i (endedBy left now p ran)
       unfolding endedBy hindranceOf
       by VV.Jammed q = rw q (decided-jams (told now i ran e VV.Jammed q))
       by VV.Over q = rw q (decided-over (told now i ran e VV.Over q))
       by VV.Stands q = rw q (go (ltb left (ran .used)) refl)
         where
           go : (b : Bool) → ltb left (ran .used) ≡ b
-              → Decided now p st₀ trace i
+              → Decided now p tables w₀ trace i
               (cond (eqb (cond b 15 0) 0) (record { number = 0; progress = afterOf now p (ran .steps) (ran .used) }) (record { number = cond b 15 0; progress = p }))
           go true f = decided-full ran (told now i ran e VV.Stands q) (ltb-true left (ran .used) f)
           go false f = decided-stands ran (told now i ran e VV.Stands q) few (ltb-false left (ran .used) f)
 
-      pub decided : (r : Ended) → r ≡ endedBy left now p ran → Decided now p st₀ trace i r
-      decided r f = subst (Decided now p st₀ trace i) (sym f) (by (ran .verdict) refl)
+      pub decided : (r : Ended) → r ≡ endedBy left now p ran → Decided now p tables w₀ trace i r
+      decided r f = subst (Decided now p tables w₀ trace i) (sym f) (by (ran .verdict) refl)
 
 -- Nothing hinders an instant only where its records have room.
 pub no-hindrance : (room : ℕ) (ran : Ran) → hindranceOf room ran ≡ 0 → ran .used ≤ room

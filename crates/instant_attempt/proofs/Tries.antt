@@ -1,7 +1,7 @@
 -- A tried instant is what the definition's `tried` says: undone by a number (`hindered-tried`), or standing, with its records in the trace
 -- (`stands-tried`). Assumes nothing.
 use mathlib.Core.Path.{_≡_, refl, _∙_, sym, ap, subst}
-use mathlib.Core.List.{List, _++_}
+use mathlib.Core.List.{List, [], _∷_, _++_}
 use mathlib.Core.Bool.{Bool, true, false, cond}
 use Prim.Native.Nat.{ℕ, zero, suc, _+_, _≤_}
 use native.Mathlib.Omega.{arith}
@@ -11,17 +11,19 @@ use lib.Seq.{sets, length-sets, length-take-le}
 use borrow.Author.Tests.{eqb-true, eqb-false, ne-eqb}
 use Rattle.definition.specs.Bytes.{Bytes, ok}
 use Rattle.definition.specs.Limits.{maxSteps}
-use Rattle.definition.specs.Instant.{Instant, done, instantTrace}
+use Rattle.definition.specs.Step.{Output}
+use Rattle.definition.specs.Instant.{Instant, done, instantTrace, instantRules}
 use Rattle.definition.specs.Advance.{tried}
 use Rattle.law_base.proofs.Turns.{tried-none, tried-stands}
 use Rattle.run_state.specs.declared.State.{State}
 use Rattle.run_state.specs.Held.{heldIn}
 use Rattle.law_stores.proofs.Stores.{take-sets, drop-sets}
-use Rattle.instant_steps.specs.Sim.{Ready}
-use Rattle.instant_steps.specs.Verdicts.{ranOf, Recorded, Left}
+use Rattle.spec_step.specs.Tables.{atomicsIn}
+use Rattle.instant_steps.specs.Sim.{Ready, rulesShown}
+use Rattle.instant_steps.specs.Verdicts.{ranOf, Recorded, Left, RulesLeft}
 use Rattle.instant_steps.specs.declared.Ran.{Ran}
 use Rattle.instant_steps.specs.declared.Verdict.the-variants as VV
-use Rattle.instant_attempt.specs.Progress.{progressOf, triedOf, Tried}
+use Rattle.instant_attempt.specs.Progress.{rulesBy, progressOf, triedOf, Tried}
 use Rattle.instant_attempt.specs.Pass.{afterOf, Hindered, Stands, Decided}
 use Rattle.instant_attempt.specs.declared.Progress.{Progress}
 use Rattle.instant_attempt.specs.declared.Turn.{Turn}
@@ -31,7 +33,7 @@ use Rattle.instant_attempt.proofs.Passes.{no-records}
 -- ---- a number leaves the instant undone
 
 pub hindered-tried : (phases tables : List ℕ) (turn : Turn) (w₀ w : List ℕ) (trace : Bytes) (i : Instant State) (r : Ended) → turn .progress .used ≤ length trace
-    → (r .number ≡ 0 → ⊥) → Hindered (turn .at .0) (turn .progress) (heldIn w₀) trace i r → Ready phases tables w₀ → w ≡ w₀ → Tried phases tables turn w₀ w trace trace i r
+    → (r .number ≡ 0 → ⊥) → Hindered (turn .at .0) (turn .progress) tables w₀ trace i r → Ready phases tables w₀ → w ≡ w₀ → Tried phases tables turn w₀ w trace trace i r
 hindered-tried phases tables turn w₀ w trace i r l z h ready back =
     let e : r .progress ≡ turn .progress = h .progress in record {
       same = rw (ne-eqb (r .number) 0 z) (h .same);
@@ -64,10 +66,10 @@ module _ (now : ℕ) (p : Progress) (steps size : ℕ) where
 
 module _ {now : ℕ} {p : Progress} {room : ℕ} {i : Instant State} {q : Progress} (s : Stands now p room i q) where
   abbrev pub recs : Bytes
-  recs = instantTrace now (s .bags)
+  recs = instantTrace now (s .outputs)
 
   pub used-of : q .used ≡ p .used + length recs
-  used-of = rw (s .progress) (after-used now p (length (s .bags)) (length recs) (λ z. ap length (no-records now (s .bags) z)))
+  used-of = rw (s .progress) (after-used now p (length (s .outputs)) (length recs) (λ z. ap length (no-records now (s .outputs) z)))
 
   -- The state that it leaves.
   pub end-of : (st : State) → Left i st → st ≡ s .end
@@ -88,63 +90,89 @@ module _ {now : ℕ} {p : Progress} {room : ℕ} {i : Instant State} {q : Progre
   pub verdict-again : (from : ℕ) (ran : Ran) → ran ≡ ranOf now from i → ran .verdict ≡ VV.Stands
   unfolding ranOf
   verdict-again from ran e =
-      let f : ranOf now from (done (s .bags) (s .end)) .verdict ≡ VV.Stands = rw (s .fit) in
+      let f : ranOf now from (done (s .outputs) (s .end)) .verdict ≡ VV.Stands = rw (s .fit) in
       ap (λ (d : Ran). d .verdict) (e ∙ ap (λ (j : Instant State). ranOf now from j) (s .same)) ∙ f
 
-pub decided-more : {now : ℕ} {p : Progress} {st₀ : State} {trace : Bytes} {i : Instant State} {r : Ended} → Decided now p st₀ trace i r → p .used ≤ r .progress .used
+pub decided-more : {now : ℕ} {p : Progress} {tables w₀ : List ℕ} {trace : Bytes} {i : Instant State} {r : Ended} → Decided now p tables w₀ trace i r → p .used ≤ r .progress .used
 decided-more {p = p} {r = r} e = go (eqb (r .number) 0) refl
   where
     go : (b : Bool) → eqb (r .number) 0 ≡ b → p .used ≤ r .progress .used
     go true f = omega (arith, used-of (e .stands (eqb-true (r .number) 0 f)))
     go false f = rw (e .hindered (eqb-false (r .number) 0 f) .progress) (omega arith)
 
+-- ---- the rules after it
+
+rules-none : (n : ℕ) (w₀ w : List ℕ) (xs : List Output) (st : State) → RulesLeft n w₀ w (done xs st) → length xs ≡ 0 → rulesShown n w ≡ rulesShown n w₀
+rules-none n w₀ w [] st h e = h
+rules-none n w₀ w (x ∷ xs) st h e = absurd (omega arith)
+
+rules-some : (n : ℕ) (w₀ w : List ℕ) (xs : List Output) (st : State) → RulesLeft n w₀ w (done xs st) → (length xs ≡ 0 → ⊥) → rulesShown n w ≡ instantRules xs
+rules-some n w₀ w [] st h e = absurd (e refl)
+rules-some n w₀ w (x ∷ xs) st h e = h
+
 -- ---- its records are in the trace
 
-module _ {now : ℕ} {p : Progress} (w₀ w : List ℕ) (trace trace′ : Bytes) {i : Instant State} (r : Ended) (s : Stands now p (length trace) i (r .progress))
-    (zero : r .number ≡ 0) (idle : length (s .bags) ≡ 0 → s .end ≡ heldIn w₀) (left : heldIn w ≡ s .end) (put : trace′ ≡ sets trace (p .used) (recs s)) where
-  abbrev st₀ : State
-  st₀ = heldIn w₀
-
-  abbrev st : State
-  st = heldIn w
-
+module _ {now : ℕ} {p : Progress} (tables w₀ w : List ℕ) (trace trace′ : Bytes) {i : Instant State} (r : Ended) (s : Stands now p (length trace) i (r .progress))
+    (zero : r .number ≡ 0) (idle : length (s .outputs) ≡ 0 → s .end ≡ heldIn w₀) (left : heldIn w ≡ s .end) (rules : RulesLeft (atomicsIn tables) w₀ w i)
+    (put : trace′ ≡ sets trace (p .used) (recs s)) where
   abbrev ys : Bytes
-  ys = instantTrace now (s .bags)
+  ys = instantTrace now (s .outputs)
 
-  ok-as : triedOf trace′ st r ≡ ok (progressOf trace′ st (r .progress))
+  ok-as : triedOf trace′ tables w r ≡ ok (progressOf trace′ tables w (r .progress))
   ok-as = rw zero
 
-  none : length (s .bags) ≡ 0 → triedOf trace′ st r ≡ tried (length trace) now (progressOf trace st₀ p) i
+  -- the instant's rules, by whether it has a step
+  left-rules : RulesLeft (atomicsIn tables) w₀ w (done (s .outputs) (s .end))
+  left-rules = subst (RulesLeft (atomicsIn tables) w₀ w) (s .same) rules
+
+  none : length (s .outputs) ≡ 0 → triedOf trace′ tables w r ≡ tried (length trace) now (progressOf trace tables w₀ p) i
   none z =
-      let q : r .progress ≡ p = s .progress ∙ after-none now p (length (s .bags)) (length ys) z in
-      let b : trace′ ≡ trace = put ∙ ap (sets trace (p .used)) (no-records now (s .bags) z) in
-      ok-as ∙ rw (q, b, left, idle z, s .same) (sym (tried-none (length trace) now (progressOf trace st₀ p) (s .bags) (s .end) z))
+      ok-as ∙ ap ok (as-before (r .progress) (s .progress ∙ after-none now p (length (s .outputs)) (length ys) z))
+      ∙ rw (s .same) (sym (tried-none (length trace) now (progressOf trace tables w₀ p) (s .outputs) (s .end) z))
+    where
+      bytes : trace′ ≡ trace
+      bytes = put ∙ ap (sets trace (p .used)) (no-records now (s .outputs) z)
+
+      shown : rulesShown (atomicsIn tables) w ≡ rulesShown (atomicsIn tables) w₀
+      shown = rules-none (atomicsIn tables) w₀ w (s .outputs) (s .end) left-rules z
+
+      as-before : (q : Progress) → q ≡ p → progressOf trace′ tables w q ≡ progressOf trace tables w₀ p
+      as-before q e = unfold progressOf rulesBy in (rw (e, bytes) (λ j. record {
+        opening = p .opening .0;
+        state = (left ∙ idle z) j;
+        instants = p .instants;
+        steps = p .steps;
+        trace = take (p .used) trace;
+        rules = cond (eqb (p .instants) 0) [] (shown j);
+      }))
 
   front : length (take (p .used) trace ++ ys) ≡ p .used + length ys
   front = omega (arith, length-append (take (p .used) trace) ys, length-take-le (p .used) trace (omega (arith, s .within)))
 
-  some : (length (s .bags) ≡ 0 → ⊥) → triedOf trace′ st r ≡ tried (length trace) now (progressOf trace st₀ p) i
-  unfolding progressOf
+  some : (length (s .outputs) ≡ 0 → ⊥) → triedOf trace′ tables w r ≡ tried (length trace) now (progressOf trace tables w₀ p) i
+  unfolding progressOf rulesBy
   some z =
       let o : now + 1 ≡ suc now = omega arith in
       let j : p .instants + 1 ≡ suc (p .instants) = omega arith in
-      let q = s .progress ∙ after-some now p (length (s .bags)) (length ys) z in
-      ok-as ∙ rw (q, left, o, j, put, take-sets trace ys (p .used) (s .within), s .same)
-      (sym (tried-stands (length trace) now (progressOf trace st₀ p) (s .bags) (s .end) (s .fit) z (omega (arith, front, s .within))))
+      let q = s .progress ∙ after-some now p (length (s .outputs)) (length ys) z in
+      let one : eqb (suc (p .instants)) 0 ≡ false = ne-eqb (suc (p .instants)) 0 (λ e. omega arith) in
+      let told = rules-some (atomicsIn tables) w₀ w (s .outputs) (s .end) left-rules z in
+      ok-as ∙ rw (q, left, o, j, one, told, put, take-sets trace ys (p .used) (s .within), s .same)
+      (sym (tried-stands (length trace) now (progressOf trace tables w₀ p) (s .outputs) (s .end) (s .fit) z (omega (arith, front, s .within))))
 
-  same : triedOf trace′ st r ≡ tried (length trace) now (progressOf trace st₀ p) i
-  same = go (eqb (length (s .bags)) 0) refl
+  same : triedOf trace′ tables w r ≡ tried (length trace) now (progressOf trace tables w₀ p) i
+  same = go (eqb (length (s .outputs)) 0) refl
     where
-      go : (b : Bool) → eqb (length (s .bags)) 0 ≡ b → triedOf trace′ st r ≡ tried (length trace) now (progressOf trace st₀ p) i
-      go true e = none (eqb-true (length (s .bags)) 0 e)
-      go false e = some (eqb-false (length (s .bags)) 0 e)
+      go : (b : Bool) → eqb (length (s .outputs)) 0 ≡ b → triedOf trace′ tables w r ≡ tried (length trace) now (progressOf trace tables w₀ p) i
+      go true e = none (eqb-true (length (s .outputs)) 0 e)
+      go false e = some (eqb-false (length (s .outputs)) 0 e)
 
   counts : (r .progress .instants ≤ p .instants + 1) × (r .progress .steps ≤ p .steps + maxSteps)
   unfolding afterOf
-  counts = rw (s .progress) (go (eqb (length (s .bags)) 0))
+  counts = rw (s .progress) (go (eqb (length (s .outputs)) 0))
     where
       on : Progress
-      on = record { opening = record { 0 = now + 1 }; instants = p .instants + 1; steps = p .steps + length (s .bags); used = p .used + length ys }
+      on = record { opening = record { 0 = now + 1 }; instants = p .instants + 1; steps = p .steps + length (s .outputs); used = p .used + length ys }
 
       go : (b : Bool) → (cond b p on .instants ≤ p .instants + 1) × (cond b p on .steps ≤ p .steps + maxSteps)
       go true = (omega arith, omega arith)
@@ -153,8 +181,8 @@ module _ {now : ℕ} {p : Progress} (w₀ w : List ℕ) (trace trace′ : Bytes)
   abbrev turn : Turn
   turn = record { at = record { 0 = now }; progress = p }
 
-  pub stands-tried : (phases tables : List ℕ) → Ready phases tables w → Tried phases tables turn w₀ w trace trace′ i r
-  stands-tried phases tables ready =
+  pub stands-tried : (phases : List ℕ) → Ready phases tables w → Tried phases tables turn w₀ w trace trace′ i r
+  stands-tried phases ready =
       let u = used-of s in record {
         same = same;
         beyond = record {

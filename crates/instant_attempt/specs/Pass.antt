@@ -7,13 +7,14 @@ use lib.Dec.{eqb, leb, ltb}
 use lib.ListN.{length}
 use Rattle.definition.specs.Bytes.{Bytes, refused}
 use Rattle.definition.specs.Limits.{maxSteps}
-use Rattle.definition.specs.Model.{Bag}
+use Rattle.definition.specs.Step.{Output}
 use Rattle.definition.specs.Instant.{Instant, done, over, instantTrace}
 use Rattle.definition.specs.Advance.{tried}
 use Rattle.run_state.specs.declared.State.{State}
 use Rattle.run_state.specs.Held.{heldIn}
+use Rattle.spec_step.specs.Tables.{atomicsIn}
 use Rattle.instant_steps.specs.Sim.{Ready}
-use Rattle.instant_steps.specs.Verdicts.{Recorded, Left}
+use Rattle.instant_steps.specs.Verdicts.{Recorded, Left, RulesLeft}
 use Rattle.instant_steps.specs.declared.Ran.{Ran}
 use Rattle.instant_steps.specs.declared.Verdict.{Verdict}
 use Rattle.instant_steps.specs.declared.Verdict.the-variants as VV
@@ -47,23 +48,23 @@ endedBy room now p ran =
     (record { number = hindranceOf room ran; progress = p })
 
 -- A number leaves the instant undone.
-pub record Hindered (now : ℕ) (p : Progress) (st₀ : State) (trace : Bytes) (i : Instant State) (r : Ended) : Type 0 where
-  pub same : refused (r .number) ≡ tried (length trace) now (progressOf trace st₀ p) i
+pub record Hindered (now : ℕ) (p : Progress) (tables w₀ : List ℕ) (trace : Bytes) (i : Instant State) (r : Ended) : Type 0 where
+  pub same : refused (r .number) ≡ tried (length trace) now (progressOf trace tables w₀ p) i
   pub progress : r .progress ≡ p
 
--- The instant stands: its bags and the state that it leaves, room for its records, and the progress q with it.
+-- The instant stands: what its steps gave and the state that it leaves, room for its records, and the progress q with it.
 pub record Stands (now : ℕ) (p : Progress) (room : ℕ) (i : Instant State) (q : Progress) : Type 0 where
-  pub bags : List Bag
+  pub outputs : List Output
   pub end : State
-  pub same : i ≡ done bags end
-  pub fit : over bags ≡ false
-  pub few : length bags ≤ maxSteps
-  pub within : p .used + length (instantTrace now bags) ≤ room
-  pub progress : q ≡ afterOf now p (length bags) (length (instantTrace now bags))
+  pub same : i ≡ done outputs end
+  pub fit : over outputs ≡ false
+  pub few : length outputs ≤ maxSteps
+  pub within : p .used + length (instantTrace now outputs) ≤ room
+  pub progress : q ≡ afterOf now p (length outputs) (length (instantTrace now outputs))
 
 -- Where the instant ends: undone by a number, or standing.
-pub record Decided (now : ℕ) (p : Progress) (st₀ : State) (trace : Bytes) (i : Instant State) (r : Ended) : Type 0 where
-  pub hindered : (r .number ≡ 0 → ⊥) → Hindered now p st₀ trace i r
+pub record Decided (now : ℕ) (p : Progress) (tables w₀ : List ℕ) (trace : Bytes) (i : Instant State) (r : Ended) : Type 0 where
+  pub hindered : (r .number ≡ 0 → ⊥) → Hindered now p tables w₀ trace i r
   pub stands : r .number ≡ 0 → Stands now p (length trace) i (r .progress)
 
 -- ---- the state and the scratch
@@ -72,15 +73,16 @@ pub record Decided (now : ℕ) (p : Progress) (st₀ : State) (trace : Bytes) (i
 abbrev pub inScratch : Progress → ℕ → Ended → Bool
 inScratch p size r = eqb (r .number) 0 && leb (r .progress .used - p .used) size
 
--- The state is the instant's, and its records are in the scratch.
-pub record Kept (phases tables : List ℕ) (now : ℕ) (w scratch₀ scratch : List ℕ) (i : Instant State) : Type 0 where
+-- The state is the instant's with its rules, and its records are in the scratch.
+pub record Kept (phases tables : List ℕ) (now : ℕ) (w₀ w scratch₀ scratch : List ℕ) (i : Instant State) : Type 0 where
   pub left : Left i (heldIn w)
+  pub rules : RulesLeft (atomicsIn tables) w₀ w i
   pub recorded : Recorded now 0 scratch₀ scratch i
   pub ready : Ready phases tables w
 
 -- Where the instant of a turn ends by its first pass, and what the pass leaves: by whether its records are in the scratch, the instant's
 -- state or the one before it.
 pub record Passed (phases tables : List ℕ) (turn : Turn) (w₀ w scratch₀ scratch trace : List ℕ) (i : Instant State) (r : Ended) : Type 0 where
-  pub decided : Decided (turn .at .0) (turn .progress) (heldIn w₀) trace i r
-  pub kept : inScratch (turn .progress) (length scratch) r ≡ true → Kept phases tables (turn .at .0) w scratch₀ scratch i
+  pub decided : Decided (turn .at .0) (turn .progress) tables w₀ trace i r
+  pub kept : inScratch (turn .progress) (length scratch) r ≡ true → Kept phases tables (turn .at .0) w₀ w scratch₀ scratch i
   pub back : inScratch (turn .progress) (length scratch) r ≡ false → w ≡ w₀

@@ -1,6 +1,6 @@
 -- How far a call of the code has come with its lent state, as the definitions have it: the records written are the front of the lent trace. Assumes nothing.
 use mathlib.Core.Path.{_≡_}
-use mathlib.Core.List.{List}
+use mathlib.Core.List.{List, []}
 use mathlib.Core.Bool.{cond}
 use Prim.Native.Nat.{ℕ, _+_, _≤_, _<_}
 use lib.Dec.{eqb}
@@ -13,23 +13,29 @@ use Rattle.definition.specs.Advance as Definition
 use Rattle.clock.specs.Times.{latest}
 use Rattle.run_state.specs.declared.State.{State}
 use Rattle.run_state.specs.Held.{heldIn}
-use Rattle.instant_steps.specs.Sim.{Lent, Ready, Steppable}
+use Rattle.spec_step.specs.Tables.{atomicsIn}
+use Rattle.instant_steps.specs.Sim.{Lent, Ready, Steppable, rulesShown}
 use Rattle.instant_attempt.specs.declared.Progress.{Progress}
 use Rattle.instant_attempt.specs.declared.Turn.{Turn}
 use Rattle.instant_attempt.specs.declared.Ended.{Ended}
 
-unfoldable pub progressOf : Bytes → State → Progress → Definition.Progress State
-progressOf trace st p = record {
+-- The rules of the last instant done, if the call has done one.
+unfoldable pub rulesBy : List ℕ → List ℕ → Progress → List ℕ
+rulesBy tables w p = cond (eqb (p .instants) 0) [] (rulesShown (atomicsIn tables) w)
+
+unfoldable pub progressOf : Bytes → List ℕ → List ℕ → Progress → Definition.Progress State
+progressOf trace tables w p = record {
   opening = p .opening .0;
-  state = st;
+  state = heldIn w;
   instants = p .instants;
   steps = p .steps;
   trace = take (p .used) trace;
+  rules = rulesBy tables w p;
 }
 
 -- The progress, or the number that leaves an instant undone.
-abbrev pub triedOf : Bytes → State → Ended → Result (Definition.Progress State)
-triedOf trace st e = cond (eqb (e .number) 0) (ok (progressOf trace st (e .progress))) (refused (e .number))
+abbrev pub triedOf : Bytes → List ℕ → List ℕ → Ended → Result (Definition.Progress State)
+triedOf trace tables w e = cond (eqb (e .number) 0) (ok (progressOf trace tables w (e .progress))) (refused (e .number))
 
 -- The numbers of a call have room for one instant more, and the records written are within the trace.
 pub record Room (p : Progress) (trace : ℕ) : Type 0 where
@@ -65,7 +71,7 @@ pub record Undone (p : Progress) (w₀ w : List ℕ) (trace₀ trace : Bytes) (r
 -- An instant i, tried in a turn with the state and the trace as they were lent: the definition's progress or number, the whole trace, and a
 -- state that is ready for another instant. An undone instant leaves the state, and every byte of the trace, as it was.
 pub record Tried (phases tables : List ℕ) (turn : Turn) (w₀ w : List ℕ) (trace₀ trace : Bytes) (i : Instant State) (r : Ended) : Type 0 where
-  pub same : triedOf trace (heldIn w) r ≡ tried (length trace₀) (turn .at .0) (progressOf trace₀ (heldIn w₀) (turn .progress)) i
+  pub same : triedOf trace tables w r ≡ tried (length trace₀) (turn .at .0) (progressOf trace₀ tables w₀ (turn .progress)) i
   pub beyond : Beyond trace₀ trace (r .progress .used)
   pub undone : (r .number ≡ 0 → ⊥) → Undone (turn .progress) w₀ w trace₀ trace r
   pub more : turn .progress .used ≤ r .progress .used

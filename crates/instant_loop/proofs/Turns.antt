@@ -26,7 +26,7 @@ use Rattle.run_state.specs.Held.{heldIn}
 use Rattle.law_step.proofs.Carried.{before-number, moment-number}
 use Rattle.instant_steps.specs.Sim.{Ready}
 use Rattle.instant_steps.proofs.Steps.{bag-none}
-use Rattle.instant_attempt.specs.Progress.{progressOf, triedOf, Beyond, Tried}
+use Rattle.instant_attempt.specs.Progress.{rulesBy, progressOf, triedOf, Beyond, Tried}
 use Rattle.instant_attempt.specs.declared.Progress.{Progress}
 use Rattle.instant_attempt.specs.declared.Ended.{Ended}
 use Rattle.instant_loop.specs.Ends.{advancingOf, givenTo, endedOf, Advanced, finishedOf}
@@ -83,9 +83,9 @@ goes-no on p m = refl
 abbrev reopened : ℕ → Progress → Ended
 reopened t g = record { number = 0; progress = record { opening = record { 0 = suc t }; instants = g .instants; steps = g .steps; used = g .used } }
 
-succeeded-as : (t : ℕ) (trace : Bytes) (st : State) (g : Progress) → succeeded t (progressOf trace st g) ≡ endedOf trace st (reopened t g)
-unfolding succeeded progressOf
-succeeded-as t trace st g = refl
+succeeded-as : (t : ℕ) (trace : Bytes) (tables ws : List ℕ) (g : Progress) → succeeded t (progressOf trace tables ws g) ≡ endedOf trace tables ws (reopened t g)
+unfolding succeeded progressOf rulesBy
+succeeded-as t trace tables ws g = refl
 
 finished-ok : (t : ℕ) (e : Ended) → eqb (e .number) 0 ≡ true → finishedOf t e ≡ reopened t (e .progress)
 unfolding finishedOf
@@ -95,15 +95,15 @@ finished-no : (t : ℕ) (e : Ended) → eqb (e .number) 0 ≡ false → finished
 unfolding finishedOf
 finished-no t e q = rw q
 
-tried-no : (trace : Bytes) (st : State) (e : Ended) → eqb (e .number) 0 ≡ false → triedOf trace st e ≡ refused (e .number)
-tried-no trace st e q = rw q
+tried-no : (trace : Bytes) (tables ws : List ℕ) (e : Ended) → eqb (e .number) 0 ≡ false → triedOf trace tables ws e ≡ refused (e .number)
+tried-no trace tables ws e q = rw q
 
-tried-ok : (trace : Bytes) (st : State) (e : Ended) → eqb (e .number) 0 ≡ true → triedOf trace st e ≡ ok (progressOf trace st (e .progress))
-tried-ok trace st e q = rw q
+tried-ok : (trace : Bytes) (tables ws : List ℕ) (e : Ended) → eqb (e .number) 0 ≡ true → triedOf trace tables ws e ≡ ok (progressOf trace tables ws (e .progress))
+tried-ok trace tables ws e q = rw q
 
-state-in : (trace : Bytes) (st : State) (g : Progress) → progressOf trace st g .state ≡ st
+state-in : (trace : Bytes) (tables ws : List ℕ) (g : Progress) → progressOf trace tables ws g .state ≡ heldIn ws
 unfolding progressOf
-state-in trace st g = refl
+state-in trace tables ws g = refl
 
 -- An instant at v after the progress g, tried.
 abbrev pub TriedAt : List ℕ → List ℕ → ℕ → Progress → List ℕ → List ℕ → Bytes → Bytes → Instant State → Ended → Type 0
@@ -111,39 +111,36 @@ TriedAt phases tables v g ws ws′ trace trace′ i e = Tried phases tables (rec
 
 -- An undone instant leaves the progress as it was.
 left-as : {phases tables : List ℕ} (v : ℕ) (g : Progress) (ws ws′ : List ℕ) (trace trace′ : Bytes) (i : Instant State) (e : Ended) → TriedAt phases tables v g ws ws′ trace trace′ i e
-    → (e .number ≡ 0 → ⊥) → progressOf trace (heldIn ws) g ≡ progressOf trace′ (heldIn ws′) (e .progress)
-left-as v g ws ws′ trace trace′ i e a z =
+    → (e .number ≡ 0 → ⊥) → progressOf trace tables ws g ≡ progressOf trace′ tables ws′ (e .progress)
+left-as {tables = tables} v g ws ws′ trace trace′ i e a z =
     let u = a .undone z in
-    ap (λ (b : Bytes). progressOf b (heldIn ws) g) (sym (u .bytes)) ∙ ap₂ (progressOf trace′) (ap heldIn (sym (u .state))) (sym (u .progress))
+    ap (λ (b : Bytes). progressOf b tables ws g) (sym (u .bytes)) ∙ ap₂ (progressOf trace′ tables) (sym (u .state)) (sym (u .progress))
 
 module _ (phases tables : List ℕ) (k : Simulator State) (t : ℕ) (x : Bag) (g : Progress) (ws ws′ : List ℕ) (trace trace′ : Bytes) (e : Ended) (m : ℕ) where
   abbrev st : State
   st = heldIn ws
 
-  abbrev st′ : State
-  st′ = heldIn ws′
-
   abbrev p : Definition.Progress State
-  p = progressOf trace st g
+  p = progressOf trace tables ws g
 
   abbrev p′ : Definition.Progress State
-  p′ = progressOf trace′ st′ (e .progress)
+  p′ = progressOf trace′ tables ws′ (e .progress)
 
   -- The last turn: t with the bag.
   pub turn-last : TriedAt phases tables t g ws ws′ trace trace′ (instant k t x st) e → isBefore (k .next st) t ≡ false
-      → advancing k (length trace) t x (suc m) p ≡ endedOf trace′ st′ (finishedOf t e)
+      → advancing k (length trace) t x (suc m) p ≡ endedOf trace′ tables ws′ (finishedOf t e)
   turn-last a b =
-      last-turn k (length trace) t x m p (subst (λ (s : State). isBefore (k .next s) t ≡ false) (sym (state-in trace st g)) b)
-      ∙ ap (λ (s : State). continued (succeeded t) p (tried (length trace) t p (instant k t x s))) (state-in trace st g)
+      last-turn k (length trace) t x m p (subst (λ (s : State). isBefore (k .next s) t ≡ false) (sym (state-in trace tables ws g)) b)
+      ∙ ap (λ (s : State). continued (succeeded t) p (tried (length trace) t p (instant k t x s))) (state-in trace tables ws g)
       ∙ ap (continued (succeeded t) p) (sym (a .same)) ∙ go (eqb (e .number) 0) refl
     where
-      go : (b : Bool) → eqb (e .number) 0 ≡ b → continued (succeeded t) p (triedOf trace′ st′ e) ≡ endedOf trace′ st′ (finishedOf t e)
+      go : (b : Bool) → eqb (e .number) 0 ≡ b → continued (succeeded t) p (triedOf trace′ tables ws′ e) ≡ endedOf trace′ tables ws′ (finishedOf t e)
       go true q =
-          ap (continued (succeeded t) p) (tried-ok trace′ st′ e q) ∙ goes-ok (succeeded t) p p′
-          ∙ succeeded-as t trace′ st′ (e .progress) ∙ ap (endedOf trace′ st′) (sym (finished-ok t e q))
+          ap (continued (succeeded t) p) (tried-ok trace′ tables ws′ e q) ∙ goes-ok (succeeded t) p p′
+          ∙ succeeded-as t trace′ tables ws′ (e .progress) ∙ ap (endedOf trace′ tables ws′) (sym (finished-ok t e q))
       go false q =
-          ap (continued (succeeded t) p) (tried-no trace′ st′ e q) ∙ goes-no (succeeded t) p (e .number)
-          ∙ ap (ended (e .number)) (left-as t g ws ws′ trace trace′ (instant k t x st) e a (eqb-false (e .number) 0 q)) ∙ ap (endedOf trace′ st′) (sym (finished-no t e q))
+          ap (continued (succeeded t) p) (tried-no trace′ tables ws′ e q) ∙ goes-no (succeeded t) p (e .number)
+          ∙ ap (ended (e .number)) (left-as t g ws ws′ trace trace′ (instant k t x st) e a (eqb-false (e .number) 0 q)) ∙ ap (endedOf trace′ tables ws′) (sym (finished-no t e q))
 
   -- An instant before t, with no bag.
   module _ (u : ℕ) (y : Bag) (none : y ≡ []) (a : TriedAt phases tables u g ws ws′ trace trace′ (instant k u y st) e)
@@ -151,21 +148,21 @@ module _ (phases tables : List ℕ) (k : Simulator State) (t : ℕ) (x : Bag) (g
     abbrev on : Definition.Progress State → Definition.Ended State
     on q = advancing k (length trace) t x m q
 
-    turn : advancing k (length trace) t x (suc m) p ≡ continued on p (triedOf trace′ st′ e)
+    turn : advancing k (length trace) t x (suc m) p ≡ continued on p (triedOf trace′ tables ws′ e)
     turn =
-        more-turn k (length trace) t x m p (subst (λ (s : State). isBefore (k .next s) t ≡ true) (sym (state-in trace st g)) (b .0))
-        ∙ ap (λ (s : State). continued on p (tried (length trace) (ticks (k .next s)) p (instant k (ticks (k .next s)) [] s))) (state-in trace st g)
+        more-turn k (length trace) t x m p (subst (λ (s : State). isBefore (k .next s) t ≡ true) (sym (state-in trace tables ws g)) (b .0))
+        ∙ ap (λ (s : State). continued on p (tried (length trace) (ticks (k .next s)) p (instant k (ticks (k .next s)) [] s))) (state-in trace tables ws g)
         ∙ ap₂ (λ (w : ℕ) (z : Bag). continued on p (tried (length trace) w p (instant k w z st))) (b .1) (sym none)
         ∙ ap (continued on p) (sym (a .same))
 
     -- It stands, and the call goes on.
     pub turn-more : e .number ≡ 0 → advancing k (length trace) t x (suc m) p ≡ advancing k (length trace) t x m p′
-    turn-more z = turn ∙ ap (continued on p) (tried-ok trace′ st′ e (eq-eqb (e .number) 0 z)) ∙ goes-ok on p p′
+    turn-more z = turn ∙ ap (continued on p) (tried-ok trace′ tables ws′ e (eq-eqb (e .number) 0 z)) ∙ goes-ok on p p′
 
     -- It is undone, and the call ends.
-    pub turn-stop : (e .number ≡ 0 → ⊥) → advancing k (length trace) t x (suc m) p ≡ endedOf trace′ st′ e
+    pub turn-stop : (e .number ≡ 0 → ⊥) → advancing k (length trace) t x (suc m) p ≡ endedOf trace′ tables ws′ e
     turn-stop z =
-        turn ∙ ap (continued on p) (tried-no trace′ st′ e (ne-eqb (e .number) 0 z)) ∙ goes-no on p (e .number)
+        turn ∙ ap (continued on p) (tried-no trace′ tables ws′ e (ne-eqb (e .number) 0 z)) ∙ goes-no on p (e .number)
         ∙ ap (ended (e .number)) (left-as u g ws ws′ trace trace′ (instant k u y st) e a z)
 
 -- ---- the trace through two changes
@@ -205,37 +202,34 @@ not-false false h = absurd (clash refl h)
 -- ---- a turn inside the loop: `whole` is what the call gives, and the turns left give it from here
 
 module _ (phases tables : List ℕ) (k : Simulator State) (t : ℕ) (x : Bag) (whole : Definition.Ended State) (trace₀ trace : Bytes) (ws : List ℕ) (g : Progress) (left : ℕ)
-    (h : 0 < left) (from-here : advancing k (length trace₀) t x left (progressOf trace (heldIn ws) g) ≡ whole) (b : Beyond trace₀ trace (g .used)) where
+    (h : 0 < left) (from-here : advancing k (length trace₀) t x left (progressOf trace tables ws g) ≡ whole) (b : Beyond trace₀ trace (g .used)) where
   abbrev old : State
   old = heldIn ws
 
-  here : advancing k (length trace) t x (suc (left - 1)) (progressOf trace old g) ≡ whole
+  here : advancing k (length trace) t x (suc (left - 1)) (progressOf trace tables ws g) ≡ whole
   here =
       let q : suc (left - 1) ≡ left = omega arith in
-      ap₂ (λ (m room : ℕ). advancing k room t x m (progressOf trace old g)) q (b .size) ∙ from-here
+      ap₂ (λ (m room : ℕ). advancing k room t x m (progressOf trace tables ws g)) q (b .size) ∙ from-here
 
   module _ (trace′ : Bytes) (ws′ : List ℕ) (e : Ended) (v : ℕ) (next : v ≡ nextOf (k .next old) t) where
-    abbrev new : State
-    new = heldIn ws′
-
     pub ends-last : TriedAt phases tables t g ws ws′ trace trace′ (instant k t x old) e → t ≤ v → (f : Ended) → f ≡ finishedOf t e
-        → Advanced trace₀ trace′ ws′ f whole
+        → Advanced tables trace₀ trace′ ws′ f whole
     ends-last a l f w =
         let s = turn-last phases tables k t x g ws ws′ trace trace′ e (left - 1) a (not-before (k .next old) t v next l) in
         let d = beyond-on trace₀ trace trace′ (g .used) (e .progress .used) (a .more) b (a .beyond) in
-        record { same = ap (endedOf trace′ new) w ∙ sym s ∙ here; beyond = subst (Beyond trace₀ trace′) (sym (ap (λ (z : Ended). z .progress .used) w ∙ used-as t e)) d }
+        record { same = ap (endedOf trace′ tables ws′) w ∙ sym s ∙ here; beyond = subst (Beyond trace₀ trace′) (sym (ap (λ (z : Ended). z .progress .used) w ∙ used-as t e)) d }
 
     module _ (y : Bag) (none : y ≡ []) (a : TriedAt phases tables v g ws ws′ trace trace′ (instant k v y old) e) (l : v < t) where
-      pub ends-stop : (e .number ≡ 0 → ⊥) → Advanced trace₀ trace′ ws′ e whole
+      pub ends-stop : (e .number ≡ 0 → ⊥) → Advanced tables trace₀ trace′ ws′ e whole
       ends-stop z = record {
         same = sym (turn-stop phases tables k t x g ws ws′ trace trace′ e (left - 1) v y none a (is-before (k .next old) t v next l) z) ∙ here;
         beyond = beyond-on trace₀ trace trace′ (g .used) (e .progress .used) (a .more) b (a .beyond);
       }
 
-      pub goes-on : e .number ≡ 0 → Beyond trace₀ trace′ (e .progress .used) × (advancing k (length trace₀) t x (left - 1) (progressOf trace′ new (e .progress)) ≡ whole)
+      pub goes-on : e .number ≡ 0 → Beyond trace₀ trace′ (e .progress .used) × (advancing k (length trace₀) t x (left - 1) (progressOf trace′ tables ws′ (e .progress)) ≡ whole)
       goes-on z = (
         beyond-on trace₀ trace trace′ (g .used) (e .progress .used) (a .more) b (a .beyond),
-        ap (λ (room : ℕ). advancing k room t x (left - 1) (progressOf trace′ new (e .progress))) (sym (b .size))
+        ap (λ (room : ℕ). advancing k room t x (left - 1) (progressOf trace′ tables ws′ (e .progress))) (sym (b .size))
             ∙ sym (turn-more phases tables k t x g ws ws′ trace trace′ e (left - 1) v y none a (is-before (k .next old) t v next l) z) ∙ here,
       )
 
@@ -251,10 +245,10 @@ module _ (phases tables : List ℕ) (k : Simulator State) (t : ℕ) (x : Bag) (w
           (subst (λ (w : ℕ). TriedAt phases tables w g ws ws′ trace trace′ (instant k w (toBag (givenTo bag w t)) old) e) q a)
 
       pub ends-turn : v ≤ t → (not (eqb (e .number) 0) || leb t v) ≡ true → (f : Ended) → f ≡ finishedOf t e
-          → Advanced trace₀ trace′ ws′ f whole
+          → Advanced tables trace₀ trace′ ws′ f whole
       ends-turn m h f w = go (leb t v) refl
         where
-          go : (b : Bool) → leb t v ≡ b → Advanced trace₀ trace′ ws′ f whole
+          go : (b : Bool) → leb t v ≡ b → Advanced tables trace₀ trace′ ws′ f whole
           go true q = let l = leb-true t v q in ends-last (last-as (omega arith)) l f w
           go false q =
               let o : not (eqb (e .number) 0) ≡ true = or-left (not (eqb (e .number) 0)) (leb t v) h q in
@@ -263,7 +257,7 @@ module _ (phases tables : List ℕ) (k : Simulator State) (t : ℕ) (x : Bag) (w
               rw (w, finished-no t e z) (ends-stop (toBag (givenTo bag v t)) (before l) a l (eqb-false (e .number) 0 z))
 
       pub goes-turn : (not (eqb (e .number) 0) || leb t v) ≡ false
-          → Beyond trace₀ trace′ (e .progress .used) × (advancing k (length trace₀) t x (left - 1) (progressOf trace′ new (e .progress)) ≡ whole)
+          → Beyond trace₀ trace′ (e .progress .used) × (advancing k (length trace₀) t x (left - 1) (progressOf trace′ tables ws′ (e .progress)) ≡ whole)
       goes-turn h =
           let q = or-no (not (eqb (e .number) 0)) (leb t v) h in
           let z : e .number ≡ 0 = eqb-true (e .number) 0 (not-false (eqb (e .number) 0) (q .0)) in
@@ -282,6 +276,6 @@ pub record Turning (phases rules tables : List ℕ) (t : ℕ) (bag : Bytes) (g�
   pub instants : g .instants + left ≤ latest
   pub steps : g .steps + maxSteps * left ≤ latest
   pub beyond : Beyond trace₀ trace (g .used)
-  pub from-here : advancingOf phases rules tables (length work₀) (length trace₀) t bag left (progressOf trace (heldIn ws) g)
-      ≡ advancingOf phases rules tables (length work₀) (length trace₀) t bag (suc t) (progressOf trace₀ (heldIn ws₀) g₀)
+  pub from-here : advancingOf phases rules tables (length work₀) (length trace₀) t bag left (progressOf trace tables ws g)
+      ≡ advancingOf phases rules tables (length work₀) (length trace₀) t bag (suc t) (progressOf trace₀ tables ws₀ g₀)
   pub ready : Ready phases tables ws

@@ -7,7 +7,7 @@ ghost use lib.ListN.{length};
 ghost use Rattle.definition.specs.Limits.{maxMoment};
 ghost use Rattle.run_state.specs.Held.{heldIn};
 ghost use Rattle.instant_attempt.specs.Progress.{progressOf};
-ghost use Rattle.instant_loop.specs.Ends.{Callable, Startable, givenTo, advancingOf, advancedBy, Advanced, finishedOf, outcomeOf};
+ghost use Rattle.instant_loop.specs.Ends.{Callable, Startable, givenTo, advancingOf, advancedBy, Advanced, finishedOf, Outcome};
 use clock::Moment;
 use instant_attempt::Ended;
 use instant_attempt::Progress;
@@ -74,9 +74,9 @@ pub fn advance_on(
     trace: &mut [u8],
 ) -> Ended
     requires { ⌜ Callable (now phases) (now tables) (t .0) from (now state) (length (now work)) (length (now trace)) ⌝ }
-    ensures { λ r. ⌜ Advanced (now (trace .entry)) (now (trace .exit)) (now (state .exit)) r
+    ensures { λ r. ⌜ Advanced (now (tables .entry)) (now (trace .entry)) (now (trace .exit)) (now (state .exit)) r
         (advancingOf (now (phases .entry)) (now (rules .entry)) (now (tables .entry)) (length (now (work .entry))) (length (now (trace .entry))) (t .0)
-        (now (bag .entry)) (suc (t .0)) (progressOf (now (trace .entry)) (heldIn (now (state .entry))) from)) ⌝ }
+        (now (bag .entry)) (suc (t .0)) (progressOf (now (trace .entry)) (now (tables .entry)) (now (state .entry)) from)) ⌝ }
 {
     let mut scratch = [0u8; SCRATCH_SIZE];
     let mut p = from;
@@ -108,8 +108,8 @@ pub fn advance_on(
     }
 }
 
-// The call from a loaded state: what stands is written into the run buffer, and the records are at the front of the trace. What the lent
-// state holds afterwards is left open.
+// The call from a loaded state: what stands is written into the run buffer, the records are at the front of the trace, and the lent state
+// shows the rules that decided in the last instant done, so that a table with them is the definition's, whatever table it is.
 pub fn advance_from(
     phases: &[u8],
     rules: &[u8],
@@ -122,9 +122,9 @@ pub fn advance_from(
     trace: &mut [u8],
 ) -> Answer
     requires { ⌜ Startable (now tables) (t .0) (length (now work)) (length (now run)) ⌝ }
-    ensures { λ r. ⌜ outcomeOf (now (run .exit)) (now (trace .exit)) r
-        ≡ advancedBy (now (phases .entry)) (now (rules .entry)) (now (tables .entry)) (length (now (work .entry))) (t .0) (now (bag .entry))
-        (now (run .entry)) (heldIn (now (state .entry))) (now (trace .entry)) ⌝ }
+    ensures { λ r. ⌜ Outcome (now (tables .entry)) (now (state .exit)) (now (run .exit)) (now (trace .exit)) r
+        (λ table. advancedBy (now (phases .entry)) (now (rules .entry)) (now (tables .entry)) (length (now (work .entry))) (t .0) (now (bag .entry))
+        (now (run .entry)) (heldIn (now (state .entry))) (now (trace .entry)) table) ⌝ }
 {
     let from = Progress {
         opening: run_saved::opening_of(run),

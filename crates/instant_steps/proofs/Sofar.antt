@@ -11,9 +11,9 @@ use lib.Seq.{sets}
 use borrow.Author.Tests.{ltb-false, ne-eqb, le-ltb, lt-ltb, le-leb, leb-true, leb-false}
 use Rattle.definition.specs.Lists.{concat, all, isEmpty, sortBy}
 use Rattle.definition.specs.Bytes.{Bytes}
-use Rattle.definition.specs.Limits.{maxSteps, maxRootBag}
+use Rattle.definition.specs.Limits.{maxSteps, maxRootBag, maxComponents}
 use Rattle.definition.specs.Model.{Bag, messageLe}
-use Rattle.definition.specs.Step.{Simulator}
+use Rattle.definition.specs.Step.{Output, Simulator}
 use Rattle.definition.specs.Instant.{Instant, done, jammed, stepped, isDue, goesOn, stepsAt, instant, over, traceBytes, recordsFrom, instantTrace}
 use Rattle.definition.specs.Engine.{toBag}
 use Rattle.law_base.proofs.Tests.{clash}
@@ -25,13 +25,13 @@ use Rattle.step_due.specs.Due.{CarriedIn}
 use Rattle.spec_step.specs.TableStep.{tableNext}
 use Rattle.law_step.proofs.Carried.{now-number, next-carried}
 use Rattle.run_state.specs.declared.State.{State}
-use Rattle.run_state.specs.Held.{heldIn, endsIn, nextIn, NextPut}
+use Rattle.run_state.specs.Held.{heldIn, lastRulesIn, endsIn, nextIn, NextPut}
 use Rattle.law_base.specs.Keys.{messageOf}
 use Rattle.instant_records.specs.Written.{stepBytes, stepSize, stepPut}
 use Rattle.instant_records.proofs.Records.{length-step}
 use Rattle.law_stores.proofs.Stores.{sets-append}
 use Rattle.instant_steps.specs.Sim.{simOf, instantOf, givenAt, Fit, Ready}
-use Rattle.instant_steps.specs.Verdicts.{ranOf, Judged}
+use Rattle.instant_steps.specs.Verdicts.{ranOf, Judged, RulesOver, Overlays}
 use Rattle.instant_steps.specs.declared.Verdict.{Verdict}
 use Rattle.instant_steps.specs.declared.Verdict.the-variants as VV
 use Rattle.instant_steps.proofs.Steps.{bag-none, length-sort, records-snoc}
@@ -39,52 +39,54 @@ use Rattle.instant_steps.proofs.Steps.{bag-none, length-sort, records-s
 -- ---- the bags of the steps taken so far, in front of what is left
 
 module _ {S : Type 0} where
-  unfoldable pub after : List Bag → Instant S → Instant S
+  unfoldable pub after : List Output → Instant S → Instant S
   after [] i = i
   after (x ∷ xs) i = stepped x (after xs i)
 
-  after-snoc : (xs : List Bag) (x : Bag) (i : Instant S) → after (xs ++ (x ∷ [])) i ≡ after xs (stepped x i)
+  after-snoc : (xs : List Output) (x : Output) (i : Instant S) → after (xs ++ (x ∷ [])) i ≡ after xs (stepped x i)
   unfolding after
   after-snoc [] x i = refl
   after-snoc (y ∷ xs) x i = ap (stepped y) (after-snoc xs x i)
 
-  after-done : (xs : List Bag) (s : S) → after xs (done [] s) ≡ done xs s
+  after-done : (xs : List Output) (s : S) → after xs (done [] s) ≡ done xs s
   unfolding after stepped
   after-done [] s = refl
   after-done (x ∷ xs) s = rw (after-done xs s)
 
-  after-jammed : (xs : List Bag) → after xs jammed ≡ jammed
+  after-jammed : (xs : List Output) → after xs jammed ≡ jammed
   unfolding after stepped
   after-jammed [] = refl
   after-jammed (x ∷ xs) = rw (after-jammed xs)
 
-over-snoc : (xs : List Bag) (x : Bag) → over (xs ++ (x ∷ [])) ≡ (over xs || ltb maxRootBag (length x))
+over-snoc : (xs : List Output) (x : Output) → over (xs ++ (x ∷ [])) ≡ (over xs || ltb maxRootBag (length (x .bag)))
 unfolding over all
-over-snoc [] x = go (leb (length x) maxRootBag) refl
+over-snoc [] x = go (leb (length (x .bag)) maxRootBag) refl
   where
-    go : (b : Bool) → leb (length x) maxRootBag ≡ b → not (leb (length x) maxRootBag && true) ≡ ltb maxRootBag (length x)
-    go true e = rw e (sym (le-ltb maxRootBag (length x) (leb-true _ _ e)))
-    go false e = rw e (sym (lt-ltb maxRootBag (length x) (leb-false _ _ e)))
-over-snoc (y ∷ xs) x = go (leb (length y) maxRootBag) (over-snoc xs x)
+    go : (b : Bool) → leb (length (x .bag)) maxRootBag ≡ b → not (leb (length (x .bag)) maxRootBag && true) ≡ ltb maxRootBag (length (x .bag))
+    go true e = rw e (sym (le-ltb maxRootBag (length (x .bag)) (leb-true _ _ e)))
+    go false e = rw e (sym (lt-ltb maxRootBag (length (x .bag)) (leb-false _ _ e)))
+over-snoc (y ∷ xs) x = go (leb (length (y .bag)) maxRootBag) (over-snoc xs x)
   where
-    go : (b : Bool) → not (all (λ z. leb (length z) maxRootBag) (xs ++ (x ∷ []))) ≡ (not (all (λ z. leb (length z) maxRootBag) xs) || ltb maxRootBag (length x))
-        → not (b && all (λ z. leb (length z) maxRootBag) (xs ++ (x ∷ []))) ≡ (not (b && all (λ z. leb (length z) maxRootBag) xs) || ltb maxRootBag (length x))
+    go : (b : Bool) → not (all (λ z. leb (length (z .bag)) maxRootBag) (xs ++ (x ∷ []))) ≡ (not (all (λ z. leb (length (z .bag)) maxRootBag) xs) || ltb maxRootBag (length (x .bag)))
+        → not (b && all (λ z. leb (length (z .bag)) maxRootBag) (xs ++ (x ∷ []))) ≡ (not (b && all (λ z. leb (length (z .bag)) maxRootBag) xs) || ltb maxRootBag (length (x .bag)))
     go true e = e
     go false e = refl
 
 -- ---- what the loop holds
 
-pub record Sofar {S : Type 0} (whole rest : Instant S) (now from : ℕ) (out₀ out : Bytes) (k used : ℕ) (flag : Bool) : Type 0 where
-  pub bags : List Bag
-  pub count : k ≡ length bags
-  pub split : whole ≡ after bags rest
-  pub overs : flag ≡ over bags
-  pub sized : flag ≡ false → used ≡ from + length (instantTrace now bags)
-  pub put : flag ≡ false → used ≤ length out₀ → out ≡ sets out₀ from (instantTrace now bags)
+-- and something that is kept of the steps taken: `Kept`
+pub record Sofar {S : Type 0} (Kept : List Output → Type 0) (whole rest : Instant S) (now from : ℕ) (out₀ out : Bytes) (k used : ℕ) (flag : Bool) : Type 0 where
+  pub outputs : List Output
+  pub count : k ≡ length outputs
+  pub split : whole ≡ after outputs rest
+  pub kept : Kept outputs
+  pub overs : flag ≡ over outputs
+  pub sized : flag ≡ false → used ≡ from + length (instantTrace now outputs)
+  pub put : flag ≡ false → used ≤ length out₀ → out ≡ sets out₀ from (instantTrace now outputs)
 
-pub sofar-none : {S : Type 0} (i : Instant S) (now from : ℕ) (out : Bytes) → Sofar i i now from out out 0 from false
+pub sofar-none : {S : Type 0} (Kept : List Output → Type 0) → Kept [] → (i : Instant S) (now from : ℕ) (out : Bytes) → Sofar Kept i i now from out out 0 from false
 unfolding after over all instantTrace recordsFrom traceBytes concat
-sofar-none i now from out = record { bags = []; count = refl; split = refl; overs = refl; sized = λ h. omega arith; put = λ h l. refl }
+sofar-none Kept none i now from out = record { outputs = []; count = refl; split = refl; kept = none; overs = refl; sized = λ h. omega arith; put = λ h l. refl }
 
 -- The keys of a bag stand in the buffer.
 pub keys-hold : (count : ℕ) (ks : List ℕ) (x : Bag) → count ≡ length x → map messageOf (take count ks) ≡ sortBy messageLe x → count ≤ length ks
@@ -102,16 +104,17 @@ unfolding stepPut
 put-when now k count used ks out h l = rw (le-leb count maxRootBag h, le-leb (used + stepSize count) (length out) l)
 
 -- One step more.
-module _ {S : Type 0} (whole rest : Instant S) (now from : ℕ) (out₀ out out′ : Bytes) (k used used′ : ℕ) (flag : Bool) (x : Bag) (ks : List ℕ) (count : ℕ)
-    (lo : length out ≡ length out₀) (ec : count ≡ length x) (em : map messageOf (take count ks) ≡ sortBy messageLe x)
-    (eu : used′ ≡ used + stepSize count) (eo : out′ ≡ stepPut now k ks count used out) (s : Sofar whole (stepped x rest) now from out₀ out k used flag) where
-  abbrev xs : List Bag
-  xs = s .bags ++ (x ∷ [])
+module _ {S : Type 0} (Kept Kept′ : List Output → Type 0) (whole rest : Instant S) (now from : ℕ) (out₀ out out′ : Bytes) (k used used′ : ℕ) (flag : Bool) (x : Output) (ks : List ℕ) (count : ℕ)
+    (more : (xs : List Output) → Kept xs → Kept′ (xs ++ (x ∷ [])))
+    (lo : length out ≡ length out₀) (ec : count ≡ length (x .bag)) (em : map messageOf (take count ks) ≡ sortBy messageLe (x .bag))
+    (eu : used′ ≡ used + stepSize count) (eo : out′ ≡ stepPut now k ks count used out) (s : Sofar Kept whole (stepped x rest) now from out₀ out k used flag) where
+  abbrev xs : List Output
+  xs = s .outputs ++ (x ∷ [])
 
   abbrev new : Bytes
   new = stepBytes now k (take count ks)
 
-  same-test : ltb maxRootBag count ≡ ltb maxRootBag (length x)
+  same-test : ltb maxRootBag count ≡ ltb maxRootBag (length (x .bag))
   same-test = ap (ltb maxRootBag) ec
 
   module _ (h : (flag || ltb maxRootBag count) ≡ false) where
@@ -121,28 +124,29 @@ module _ {S : Type 0} (whole rest : Instant S) (now from : ℕ) (out₀ out out�
     bounded : count ≤ maxRootBag
     bounded = ltb-false maxRootBag count (or-false flag (ltb maxRootBag count) h .1)
 
-    on : instantTrace now xs ≡ instantTrace now (s .bags) ++ new
-    on = records-snoc now (s .bags) x (take count ks) em ∙ rw (← s .count)
+    on : instantTrace now xs ≡ instantTrace now (s .outputs) ++ new
+    on = records-snoc now (s .outputs) x (take count ks) em ∙ rw (← s .count)
 
     size : length new ≡ stepSize count
-    size = length-step now k count ks (keys-hold count ks x ec em)
+    size = length-step now k count ks (keys-hold count ks (x .bag) ec em)
 
     sized-more : used′ ≡ from + length (instantTrace now xs)
-    sized-more = rw on (omega (arith, eu, length-append (instantTrace now (s .bags)) new, size, s .sized before))
+    sized-more = rw on (omega (arith, eu, length-append (instantTrace now (s .outputs)) new, size, s .sized before))
 
     put-more : used′ ≤ length out₀ → out′ ≡ sets out₀ from (instantTrace now xs)
     put-more l =
         let u : used ≤ length out₀ = omega (arith, eu) in
-        let f : out ≡ sets out₀ from (instantTrace now (s .bags)) = s .put before u in
+        let f : out ≡ sets out₀ from (instantTrace now (s .outputs)) = s .put before u in
         eo ∙ put-when now k count used ks out bounded (omega (arith, eu, lo)) ∙ ap₂ (λ (b : Bytes) (n : ℕ). sets b n new) f (s .sized before)
-        ∙ sym (sets-append (instantTrace now (s .bags)) new out₀ from) ∙ ap (sets out₀ from) (sym on)
+        ∙ sym (sets-append (instantTrace now (s .outputs)) new out₀ from) ∙ ap (sets out₀ from) (sym on)
 
-  pub sofar-more : Sofar whole rest now from out₀ out′ (k + 1) used′ (flag || ltb maxRootBag count)
+  pub sofar-more : Sofar Kept′ whole rest now from out₀ out′ (k + 1) used′ (flag || ltb maxRootBag count)
   sofar-more = record {
-    bags = xs;
-    count = omega (arith, s .count, length-append (s .bags) (x ∷ []));
-    split = s .split ∙ sym (after-snoc (s .bags) x rest);
-    overs = ap₂ _||_ (s .overs) same-test ∙ sym (over-snoc (s .bags) x);
+    outputs = xs;
+    count = omega (arith, s .count, length-append (s .outputs) (x ∷ []));
+    split = s .split ∙ sym (after-snoc (s .outputs) x rest);
+    kept = more (s .outputs) (s .kept);
+    overs = ap₂ _||_ (s .overs) same-test ∙ sym (over-snoc (s .outputs) x);
     sized = sized-more;
     put = put-more;
   }
@@ -203,8 +207,9 @@ pub record Stepping (phases rules tables : List ℕ) (now : ℕ) (given : Bytes)
   pub size : length out ≡ length out₀
   pub bound : used ≤ from + 12300 * k
   pub ready : Ready phases tables w
-  pub sofar : Sofar (instantOf phases rules tables (length work₀) now given w₀)
+  pub sofar : Sofar (RulesOver (atomicsIn tables) w₀ w) (instantOf phases rules tables (length work₀) now given w₀)
       (stepsAt (simOf phases rules tables (length work₀)) (maxSteps - k) now (toBag (givenAt given k)) (heldIn w)) now from out₀ out k used flag
+  pub rules-size : length (lastRulesIn w) ≡ maxComponents
 
 -- ---- the verdicts
 
@@ -220,30 +225,37 @@ not-jams e = subst Standing (sym e) tt
 not-over : VV.Over ≡ VV.Stands → ⊥
 not-over e = subst Standing (sym e) tt
 
-module _ (phases tables : List ℕ) {whole rest : Instant State} {now from : ℕ} {out₀ out : Bytes} {k used : ℕ} {flag : Bool}
-    (sofar : Sofar whole rest now from out₀ out k used flag) (w : List ℕ) where
+module _ (phases tables : List ℕ) {Kept : List Output → Type 0} {whole rest : Instant State} {now from : ℕ} {out₀ out : Bytes} {k used : ℕ} {flag : Bool}
+    (sofar : Sofar Kept whole rest now from out₀ out k used flag) (w : List ℕ) where
   abbrev Verdicts : Instant State → Verdict → ℕ → ℕ → Type 0
   Verdicts i v steps used = Judged phases tables now from out₀ out w i (record { verdict = v; steps = steps; used = used })
 
   pub judged-jams : rest ≡ jammed → Verdicts whole VV.Jammed 0 from
   unfolding ranOf
   judged-jams e =
-      subst (λ (i : Instant State). Verdicts i VV.Jammed 0 from) (sym (sofar .split ∙ ap (after (sofar .bags)) e ∙ after-jammed (sofar .bags)))
+      subst (λ (i : Instant State). Verdicts i VV.Jammed 0 from) (sym (sofar .split ∙ ap (after (sofar .outputs)) e ∙ after-jammed (sofar .outputs)))
       (record { answer = refl; few = omega arith; recorded = tt; left = tt; ready = λ h. absurd (not-jams h) })
 
-  ends : rest ≡ done [] (heldIn w) → done (sofar .bags) (heldIn w) ≡ whole
-  ends e = sym (sofar .split ∙ ap (after (sofar .bags)) e ∙ after-done (sofar .bags) (heldIn w))
+  ends : rest ≡ done [] (heldIn w) → done (sofar .outputs) (heldIn w) ≡ whole
+  ends e = sym (sofar .split ∙ ap (after (sofar .outputs)) e ∙ after-done (sofar .outputs) (heldIn w))
 
   pub judged-over : rest ≡ done [] (heldIn w) → flag ≡ true → Verdicts whole VV.Over 0 from
   unfolding ranOf
   judged-over e f =
-      let o : over (sofar .bags) ≡ true = sym (sofar .overs) ∙ f in
+      let o : over (sofar .outputs) ≡ true = sym (sofar .overs) ∙ f in
       subst (λ (i : Instant State). Verdicts i VV.Over 0 from) (ends e)
       (record { answer = rw o; few = omega arith; recorded = λ h. absurd (clash o h); left = refl; ready = λ h. absurd (not-over h) })
 
   pub judged-stands : rest ≡ done [] (heldIn w) → flag ≡ false → k ≤ maxSteps → Ready phases tables w → Verdicts whole VV.Stands k used
   unfolding ranOf
   judged-stands e f most r =
-      let o : over (sofar .bags) ≡ false = sym (sofar .overs) ∙ f in
+      let o : over (sofar .outputs) ≡ false = sym (sofar .overs) ∙ f in
       subst (λ (i : Instant State). Verdicts i VV.Stands k used) (ends e)
       (record { answer = rw (o, sofar .count, sofar .sized f); few = most; recorded = λ h l. sofar .put f (rw (sofar .sized f) l); left = refl; ready = λ h. r })
+
+  -- the rules that decided in the steps taken
+  pub overlays-jams : (n : ℕ) (w₀ : List ℕ) → rest ≡ jammed → Overlays n w₀ w whole
+  overlays-jams n w₀ e = subst (Overlays n w₀ w) (sym (sofar .split ∙ ap (after (sofar .outputs)) e ∙ after-jammed (sofar .outputs))) tt
+
+  pub overlays-done : (n : ℕ) (w₀ : List ℕ) → rest ≡ done [] (heldIn w) → (Kept (sofar .outputs) → RulesOver n w₀ w (sofar .outputs)) → Overlays n w₀ w whole
+  overlays-done n w₀ e h = subst (Overlays n w₀ w) (ends e) (h (sofar .kept))

@@ -2,6 +2,7 @@
 -- and the verdict at each way out of the loop. Over anything that takes steps. Assumes nothing.
 use mathlib.Core.Path.{_≡_, refl, _∙_, sym, ap}
 use mathlib.Core.List.{List, [], _∷_, _++_, map, append-nil}
+use mathlib.Core.Option.{Option}
 use mathlib.Core.Bool.{Bool, true, false, not, cond}
 use Prim.Native.Nat.{ℕ, zero, suc, _+_, _*_, _/_, _≤_, _<_}
 use native.Mathlib.Omega.{arith}
@@ -13,6 +14,7 @@ use Rattle.definition.specs.Lists.{concat, isEmpty, sortBy}
 use Rattle.definition.specs.Bytes.{Bytes, chunks}
 use Rattle.definition.specs.Model.{Message, Bag, messageLe}
 use Rattle.definition.specs.Records.{messageAt}
+use Rattle.definition.specs.Step.{Output}
 use Rattle.definition.specs.Instant.{recordBytes, traceBytes, recordsFrom, instantTrace}
 use Rattle.definition.specs.Engine.{toBag}
 use Rattle.law_base.proofs.Lists.{sort-permutes, length-perm}
@@ -37,45 +39,49 @@ bag-none b = refl
 
 -- ---- records
 
-records-append : (now k : ℕ) (xs ys : List Bag) → recordsFrom now k (xs ++ ys) ≡ recordsFrom now k xs ++ recordsFrom now (k + length xs) ys
+records-append : (now k : ℕ) (xs ys : List Output) → recordsFrom now k (xs ++ ys) ≡ recordsFrom now k xs ++ recordsFrom now (k + length xs) ys
 unfolding recordsFrom
 records-append now k [] ys = rw add-zero
 records-append now k (x ∷ xs) ys =
     let e : k + suc (length xs) ≡ suc k + length xs = omega arith in
-    rw e (go (isEmpty x) (records-append now (suc k) xs ys))
+    rw e (go (isEmpty (x .bag)) (records-append now (suc k) xs ys))
   where
     go : (b : Bool) → recordsFrom now (suc k) (xs ++ ys) ≡ recordsFrom now (suc k) xs ++ recordsFrom now (suc k + length xs) ys
-        → cond b (recordsFrom now (suc k) (xs ++ ys)) (record { moment = now; step = k; messages = sortBy messageLe x } ∷ recordsFrom now (suc k) (xs ++ ys))
-        ≡ cond b (recordsFrom now (suc k) xs) (record { moment = now; step = k; messages = sortBy messageLe x } ∷ recordsFrom now (suc k) xs) ++ recordsFrom now (suc k + length xs) ys
+        → cond b (recordsFrom now (suc k) (xs ++ ys)) (record { moment = now; step = k; messages = sortBy messageLe (x .bag) } ∷ recordsFrom now (suc k) (xs ++ ys))
+        ≡ cond b (recordsFrom now (suc k) xs) (record { moment = now; step = k; messages = sortBy messageLe (x .bag) } ∷ recordsFrom now (suc k) xs) ++ recordsFrom now (suc k + length xs) ys
     go true e = e
     go false e = rw e
 
 pub length-sort : (x : Bag) → length (sortBy messageLe x) ≡ length x
 length-sort x = length-perm (sort-permutes messageLe x)
 
-none-bytes : (now k : ℕ) → traceBytes (recordsFrom now k ([] ∷ [])) ≡ stepBytes now k []
+none-bytes : (now k : ℕ) (ps : List (Option ℕ)) → traceBytes (recordsFrom now k (record { bag = []; decided = ps } ∷ [])) ≡ stepBytes now k []
 unfolding recordsFrom traceBytes concat stepBytes isEmpty
-none-bytes now k = refl
+none-bytes now k ps = refl
 
-some-bytes : (now k q : ℕ) (ks : List ℕ) (y : Message) (ys : Bag) → map messageOf (q ∷ ks) ≡ sortBy messageLe (y ∷ ys)
-    → traceBytes (recordsFrom now k ((y ∷ ys) ∷ [])) ≡ stepBytes now k (q ∷ ks)
+some-bytes : (now k q : ℕ) (ks : List ℕ) (y : Message) (ys : Bag) (ps : List (Option ℕ)) → map messageOf (q ∷ ks) ≡ sortBy messageLe (y ∷ ys)
+    → traceBytes (recordsFrom now k (record { bag = y ∷ ys; decided = ps } ∷ [])) ≡ stepBytes now k (q ∷ ks)
 unfolding recordsFrom traceBytes concat stepBytes recordOf isEmpty
-some-bytes now k q ks y ys e =
+some-bytes now k q ks y ys ps e =
     append-nil (recordBytes (record { moment = now; step = k; messages = sortBy messageLe (y ∷ ys) }))
     ∙ ap (λ x. recordBytes (record { moment = now; step = k; messages = x })) (sym e)
 
 -- The bytes made from the keys of a step are those of the definition's record, if there is one.
-step-bytes : (now k : ℕ) (ks : List ℕ) (x : Bag) → map messageOf ks ≡ sortBy messageLe x → traceBytes (recordsFrom now k (x ∷ [])) ≡ stepBytes now k ks
-step-bytes now k ks x e = go ks x (sym (length-map ks messageOf) ∙ ap length e ∙ length-sort x) e
+step-bytes : (now k : ℕ) (ks : List ℕ) (x : Output) → map messageOf ks ≡ sortBy messageLe (x .bag) → traceBytes (recordsFrom now k (x ∷ [])) ≡ stepBytes now k ks
+step-bytes now k ks x e = go ks (x .bag) (sym (length-map ks messageOf) ∙ ap length e ∙ length-sort (x .bag)) e
   where
-    go : (ks : List ℕ) (x : Bag) → length ks ≡ length x → map messageOf ks ≡ sortBy messageLe x → traceBytes (recordsFrom now k (x ∷ [])) ≡ stepBytes now k ks
-    go [] [] l e = none-bytes now k
+    ps : List (Option ℕ)
+    ps = x .decided
+
+    go : (ks : List ℕ) (x : Bag) → length ks ≡ length x → map messageOf ks ≡ sortBy messageLe x
+        → traceBytes (recordsFrom now k (record { bag = x; decided = ps } ∷ [])) ≡ stepBytes now k ks
+    go [] [] l e = none-bytes now k ps
     go [] (y ∷ ys) l e = absurd (omega arith)
     go (q ∷ ks) [] l e = absurd (omega arith)
-    go (q ∷ ks) (y ∷ ys) l e = some-bytes now k q ks y ys e
+    go (q ∷ ks) (y ∷ ys) l e = some-bytes now k q ks y ys ps e
 
 -- The records of one step more.
-pub records-snoc : (now : ℕ) (xs : List Bag) (x : Bag) (ks : List ℕ) → map messageOf ks ≡ sortBy messageLe x
+pub records-snoc : (now : ℕ) (xs : List Output) (x : Output) (ks : List ℕ) → map messageOf ks ≡ sortBy messageLe (x .bag)
     → instantTrace now (xs ++ (x ∷ [])) ≡ instantTrace now xs ++ stepBytes now (length xs) ks
 unfolding instantTrace
 records-snoc now xs x ks e =

@@ -3,21 +3,22 @@
 use mathlib.Core.Path.{_≡_}
 use Prim.Native.Nat.{ℕ, _*_, _≤_, _<_}
 use mathlib.Core.List.{List, [], map}
-use mathlib.Core.Bool.{cond}
+use mathlib.Core.Bool.{_||_, not, cond}
 use lib.Dec.{eqb}
-use lib.ListN.{length, take}
+use lib.ListN.{length, take, replicate}
 use Rattle.definition.specs.Bytes.{Bytes}
-use Rattle.definition.specs.Lists.{sortBy}
-use Rattle.definition.specs.Limits.{maxGiven, maxRoutes}
+use Rattle.definition.specs.Lists.{isEmpty, sortBy}
+use Rattle.definition.specs.Limits.{maxGiven, maxRoutes, noPosition}
 use Rattle.definition.specs.Model.{messageLe}
 use Rattle.definition.specs.Step.{Simulator}
 use Rattle.definition.specs.Step as Definition
 use Rattle.definition.specs.Instant.{Instant, instant}
 use Rattle.definition.specs.Engine.{toBag, dueNumber}
 use Rattle.law_base.specs.Keys.{messageOf}
+use Rattle.law_base.specs.Overlaid.{putParts}
 use Rattle.clock.specs.Times.{latest}
 use Rattle.run_state.specs.declared.State.{State}
-use Rattle.run_state.specs.Held.{heldIn, nextIn}
+use Rattle.run_state.specs.Held.{heldIn, lastRulesIn, endsIn, nextIn}
 use Rattle.model_records.specs.Values.{phasesIn}
 use Rattle.spec_step.specs.Tables.{atomicsIn}
 use Rattle.spec_step.specs.Ranges.{InRange, Seated}
@@ -71,9 +72,22 @@ pub record CanRun (phases tables : List ℕ) (now : ℕ) (w : List ℕ) (work fr
 
 -- ---- what a step leaves
 
--- The state, ready for another step, and the root's bag, sorted, in the first `count` words of `work`.
-pub record Stepped (phases tables w work : List ℕ) (count : ℕ) (r : Definition.Stepped State) : Type 0 where
+-- The rules of the last external parts of the first n atomics.
+unfoldable pub rulesShown : ℕ → List ℕ → List ℕ
+rulesShown n w = take n (lastRulesIn w)
+
+-- The state, ready for another step, the rules that decided in it over those of before, and the root's bag, sorted, in the first `count`
+-- words of `work`.
+pub record Stepped (phases tables w₀ w work : List ℕ) (count : ℕ) (r : Definition.Stepped State) : Type 0 where
   pub state : heldIn w ≡ r .state
+  pub rules : lastRulesIn w ≡ putParts (lastRulesIn w₀) 0 (r .out .decided)
   pub ready : Ready phases tables w
-  pub size : count ≡ length (r .out)
-  pub bag : map messageOf (take count work) ≡ sortBy messageLe (r .out)
+  pub size : count ≡ length (r .out .bag)
+  pub bag : map messageOf (take count work) ≡ sortBy messageLe (r .out .bag)
+
+-- Where a step will be taken, no atomic has had an external part; all else is as it was.
+pub record Begun (now : ℕ) (given : Bytes) (w₀ w : List ℕ) : Type 0 where
+  pub held : heldIn w ≡ heldIn w₀
+  pub rules : lastRulesIn w ≡ cond (eqb (nextIn w₀) now || not (isEmpty (toBag given))) (replicate (length (lastRulesIn w₀)) noPosition) (lastRulesIn w₀)
+  pub ends : endsIn w ≡ endsIn w₀
+  pub next : nextIn w ≡ nextIn w₀

@@ -1,16 +1,19 @@
 -- What the code's pass over an instant answers, by what the definition says that the instant leaves. Assumes nothing.
 use mathlib.Core.Path.{_≡_}
 use mathlib.Core.Bool.{false, cond}
-use mathlib.Core.List.{List}
+use mathlib.Core.Logic.{_⊎_}
+use mathlib.Core.List.{List, [], _∷_}
 use Prim.Native.Nat.{ℕ, _+_, _≤_}
 use lib.ListN.{length}
 use lib.Seq.{sets}
 use Rattle.definition.specs.Bytes.{Bytes}
 use Rattle.definition.specs.Limits.{maxSteps}
-use Rattle.definition.specs.Instant.{Instant, done, jammed, over, instantTrace}
+use Rattle.definition.specs.Step.{Output}
+use Rattle.definition.specs.Instant.{Instant, done, jammed, over, instantTrace, instantParts, instantRules}
+use Rattle.law_base.specs.Overlaid.{overlaid}
 use Rattle.run_state.specs.declared.State.{State}
 use Rattle.run_state.specs.Held.{heldIn}
-use Rattle.instant_steps.specs.Sim.{Ready}
+use Rattle.instant_steps.specs.Sim.{Ready, rulesShown}
 use Rattle.instant_steps.specs.declared.Ran.{Ran}
 use Rattle.instant_steps.specs.declared.Verdict.the-variants as VV
 
@@ -39,3 +42,18 @@ pub record Judged (phases tables : List ℕ) (now from : ℕ) (out₀ out : Byte
   pub recorded : Recorded now from out₀ out i
   pub left : Left i (heldIn w)
   pub ready : r .verdict ≡ VV.Stands → Ready phases tables w
+
+-- The rules that decided in the steps that were taken, over those of before; each step tells of every one of the first n atomics.
+pub record RulesOver (n : ℕ) (w₀ w : List ℕ) (xs : List Output) : Type 0 where
+  pub shown : rulesShown n w ≡ overlaid (rulesShown n w₀) (instantParts xs)
+  pub each : (length (instantParts xs) ≡ n) ⊎ (xs ≡ [])
+
+abbrev pub Overlays : ℕ → List ℕ → List ℕ → Instant State → Type 0
+Overlays n w₀ w jammed = Unit {0}
+Overlays n w₀ w (done xs s) = RulesOver n w₀ w xs
+
+-- After an instant that may stand they are the instant's; where no step was taken they are those of before.
+abbrev pub RulesLeft : ℕ → List ℕ → List ℕ → Instant State → Type 0
+RulesLeft n w₀ w jammed = Unit {0}
+RulesLeft n w₀ w (done [] s) = rulesShown n w ≡ rulesShown n w₀
+RulesLeft n w₀ w (done (x ∷ xs) s) = rulesShown n w ≡ instantRules (x ∷ xs)

@@ -7,8 +7,9 @@ ghost use lib.ListN.{length};
 ghost use Rattle.definition.specs.Lists.{isEmpty};
 ghost use Rattle.definition.specs.Engine.{toBag};
 ghost use Rattle.run_state.specs.Held.{heldIn};
-ghost use Rattle.instant_steps.specs.Sim.{instantOf, stepOf, givenAt, Fit, Ready, Steppable, Stepped, CanRun};
-ghost use Rattle.instant_steps.specs.Verdicts.{Judged};
+ghost use Rattle.spec_step.specs.Tables.{atomicsIn};
+ghost use Rattle.instant_steps.specs.Sim.{instantOf, stepOf, givenAt, Fit, Ready, Steppable, Stepped, Begun, CanRun};
+ghost use Rattle.instant_steps.specs.Verdicts.{Judged, RulesLeft};
 use clock::Moment;
 use instant_records::put_step;
 use limits::MAX_ROOT_BAG;
@@ -80,13 +81,23 @@ fn take_step(
     work: &mut [u32],
 ) -> usize
     requires { ⌜ Steppable (now phases) (now tables) (at .0) (now state) ⌝ }
-    ensures { λ r. ⌜ Stepped (now (phases .entry)) (now (tables .entry)) (now (state .exit)) (now (work .exit)) r
+    ensures { λ r. ⌜ Stepped (now (phases .entry)) (now (tables .entry)) (now (state .entry)) (now (state .exit)) (now (work .exit)) r
         (stepOf (now (phases .entry)) (now (rules .entry)) (now (tables .entry)) (length (now (work .entry))) (at .0) (now (given .entry)) (now (state .entry))) ⌝ }
 {
     let n = atomics_in(tables);
     let count = step_once(phases, rules, tables, n, state, at, given, work);
     run_state::put_next(state, next_end(tables, state));
     count
+}
+
+// Before the first step of an instant no atomic has had an external part: of the instant before nothing is left. A moment without a step is no
+// instant, and leaves its rules.
+fn begin(at: Moment, given: &[u8], state: &mut [u64; STATE_SIZE])
+    ensures { λ _. ⌜ Begun (at .0) (now (given .entry)) (now (state .entry)) (now (state .exit)) ⌝ }
+{
+    if goes_on(run_state::next_due(state), at, given) {
+        run_state::clear_rules(state);
+    }
 }
 
 // The instant at a moment with the given messages, its records put from `from` on. The state is changed in place: where the instant does not
@@ -104,8 +115,12 @@ pub fn instant(
 ) -> Ran
     requires { ⌜ CanRun (now phases) (now tables) (at .0) (now state) (length (now work)) from (length (now out)) ⌝ }
     ensures { λ r. ⌜ Judged (now (phases .entry)) (now (tables .entry)) (at .0) from (now (out .entry)) (now (out .exit)) (now (state .exit))
-        (instantOf (now (phases .entry)) (now (rules .entry)) (now (tables .entry)) (length (now (work .entry))) (at .0) (now (given .entry)) (now (state .entry))) r ⌝ }
+        (instantOf (now (phases .entry)) (now (rules .entry)) (now (tables .entry)) (length (now (work .entry))) (at .0) (now (given .entry)) (now (state .entry))) r
+        × RulesLeft (atomicsIn (now (tables .entry))) (now (state .entry)) (now (state .exit))
+        (instantOf (now (phases .entry)) (now (rules .entry)) (now (tables .entry)) (length (now (work .entry))) (at .0) (now (given .entry)) (now (state .entry))) ⌝ }
 {
+    run_state::whole(state);
+    begin(at, given, state);
     let mut used = from;
     let mut over = false;
     let mut k: u64 = 0;

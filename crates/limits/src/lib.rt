@@ -75,6 +75,11 @@ pub const LATEST_OPENING: u64 = MAX_MOMENT + 1;
 // The latest number stands for never.
 pub const NEVER_MOMENT: u64 = 18446744073709551615;
 
+// The position of a rule, in the table of deciding rules two bytes: this one stands for none.
+pub const NO_POSITION: u16 = 65535;
+
+pub const POSITION_SIZE: usize = 2;
+
 // A route carries at most so many messages into an atomic.
 pub const MESSAGES_IN: usize = 16;
 

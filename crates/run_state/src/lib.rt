@@ -1,13 +1,16 @@
 // The state of a run inside a call: one lent array of words, so that a function is handed one thing. By the position of an atomic in file
-// order: its phase, its last moment, and when it is due as a number, 2^64 - 1 for never; and one word: when the whole model is next due.
+// order: its phase and the rule of its last external part, in one word; its last moment; and when it is due as a number, 2^64 - 1 for
+// never. And two words: when the whole model is next due; and who had an external part in the instant, a bit for each position.
 ghost use mathlib.Core.Path.{_≡_};
-ghost use Prim.Native.Nat.{_<_};
+ghost use Prim.Native.Nat.{_+_, _*_, _^_, _<_};
 ghost use lib.ListN.{getD, length};
 ghost use Rattle.definition.specs.Limits.{maxComponents};
-ghost use Rattle.run_state.specs.Held.{stateSize, heldIn, endsIn, nextIn, EntryPut, EndPut, NextPut};
+ghost use Rattle.run_state.specs.Held.{stateSize, heldIn, rulesBeside, bitsIn, had, lastRulesIn, endsIn, nextIn, EntryPut, RulePut, RulesCleared, EndPut, NextPut};
 use clock::Moment;
 use limits::MAX_COMPONENTS;
+use limits::NO_POSITION;
 use widen::u8_to_u64;
+use widen::u16_to_u64;
 
 const LAST_AT: usize = MAX_COMPONENTS;
 
@@ -15,10 +18,14 @@ const END_AT: usize = 2 * MAX_COMPONENTS;
 
 const NEXT_AT: usize = 3 * MAX_COMPONENTS;
 
-// A phase is a byte.
+// A phase is a byte, the position of a rule two; both stand in one word, so that what an attempt keeps of a state is no longer for them.
 const PHASE_VALUES: u64 = 256;
 
-pub const STATE_SIZE: usize = NEXT_AT + 1;
+const RULE_VALUES: u64 = 65536;
+
+const HAD_AT: usize = NEXT_AT + 1;
+
+pub const STATE_SIZE: usize = HAD_AT + 1;
 
 // What the laws of a step call a state: the phases and the last moments by position.
 pub struct State {
@@ -43,6 +50,49 @@ pub fn phase_at(state: &[u64; STATE_SIZE], position: usize) -> u8
     (state[position] % PHASE_VALUES) as u8
 }
 
+// The rule that stands beside its phase, whether or not it had an external part in the instant.
+fn beside_at(state: &[u64; STATE_SIZE], position: usize) -> u16
+    requires { ⌜ position < maxComponents ⌝ }
+    ensures { λ r. ⌜ r ≡ getD (rulesBeside (now (state .entry))) position 0 ⌝ }
+{
+    (state[position] / PHASE_VALUES % RULE_VALUES) as u16
+}
+
+// The bit of a position.
+fn bit_of(position: usize) -> u64
+    requires { ⌜ position < maxComponents ⌝ }
+    ensures { λ r. ⌜ r ≡ 2 ^ position ⌝ }
+{
+    1u64 << (position as u32)
+}
+
+fn bits_in(state: &[u64; STATE_SIZE]) -> u64
+    ensures { λ r. ⌜ r ≡ bitsIn (now (state .entry)) ⌝ }
+{
+    state[HAD_AT]
+}
+
+// Whether it had an external part in the instant.
+fn had_at(state: &[u64; STATE_SIZE], position: usize) -> bool
+    requires { ⌜ position < maxComponents ⌝ }
+    ensures { λ r. ⌜ r ≡ had (now (state .entry)) position ⌝ }
+{
+    bits_in(state) / bit_of(position) % 2 == 1
+}
+
+// The rule of the atomic's last external part in the instant, 65,535 for none.
+pub fn rule_at(state: &[u64; STATE_SIZE], position: usize) -> u16
+    requires { ⌜ position < maxComponents ⌝ }
+    ensures { λ r. ⌜ r ≡ getD (lastRulesIn (now (state .entry))) position 0 ⌝ }
+{
+    whole(state);
+    if had_at(state, position) {
+        beside_at(state, position)
+    } else {
+        NO_POSITION
+    }
+}
+
 pub fn last_at(state: &[u64; STATE_SIZE], position: usize) -> Moment
     requires { ⌜ position < maxComponents ⌝ }
     ensures { λ r. ⌜ r .0 ≡ getD (heldIn (now (state .entry)) .last) position 0 ⌝ }
@@ -65,13 +115,40 @@ pub fn next_due(state: &[u64; STATE_SIZE]) -> u64
 
 // ---- writing
 
+// The word of a phase and a rule.
+fn packed(phase: u8, rule: u16) -> u64
+    ensures { λ r. ⌜ r ≡ phase + 256 * rule ⌝ }
+{
+    u8_to_u64(phase) + PHASE_VALUES * u16_to_u64(rule)
+}
+
 // The atomic at a position is in a phase since a moment.
 pub fn put_at(state: &mut [u64; STATE_SIZE], position: usize, phase: u8, since: Moment)
     requires { ⌜ position < maxComponents ⌝ }
     ensures { λ _. ⌜ EntryPut (now (state .entry)) (now (state .exit)) position phase (since .0) ⌝ }
 {
-    state[position] = u8_to_u64(phase);
+    state[position] = packed(phase, beside_at(state, position));
     state[LAST_AT + position] = since.0;
+}
+
+// Its last external part was decided by a rule.
+pub fn put_rule(state: &mut [u64; STATE_SIZE], position: usize, rule: u16)
+    requires { ⌜ position < maxComponents ⌝ }
+    ensures { λ _. ⌜ RulePut (now (state .entry)) (now (state .exit)) position rule ⌝ }
+{
+    whole(state);
+    state[position] = packed(phase_at(state, position), rule);
+    if !had_at(state, position) {
+        state[HAD_AT] = bits_in(state) + bit_of(position);
+    }
+}
+
+// No atomic has had an external part: one store, for an instant that has a table to fill and for one that has none.
+pub fn clear_rules(state: &mut [u64; STATE_SIZE])
+    ensures { λ _. ⌜ RulesCleared (now (state .entry)) (now (state .exit)) ⌝ }
+{
+    whole(state);
+    state[HAD_AT] = 0;
 }
 
 // When it is due.

@@ -124,19 +124,19 @@ last-fits refusal run steps = go (eqb refusal 0)
 
 -- ---- a run
 
-advanced-fits : (file run : Bytes) (t : ℕ) (bag trace : Bytes) → length (advancedText (advance file run t bag trace)) ≤ longestLine * (length trace / messageSize) + longestLast
+advanced-fits : (file run : Bytes) (t : ℕ) (bag trace table : Bytes) → length (advancedText (advance file run t bag trace table)) ≤ longestLine * (length trace / messageSize) + longestLast
 unfolding advancedText
-advanced-fits file run t bag trace =
-    let a = advance file run t bag trace in
-    let body = trace-fits (length trace) (written a) (advance-traced file run t bag trace) in
+advanced-fits file run t bag trace table =
+    let a = advance file run t bag trace table in
+    let body = trace-fits (length trace) (written a) (advance-traced file run t bag trace table) in
     rw length-append (omega (arith, last-fits (a .number) (a .run) (a .steps)))
 
 started-fits : (model : Bytes) (end : ℕ) (trace : Bytes) (w : Wrote) → length (startedText model end trace w) ≤ longestLine * (length trace / messageSize) + longestLast
 unfolding startedText
 started-fits model end trace w = go (eqb (w .number) 0)
   where
-    go : (b : Bool) → length (cond b (advancedText (advance model (w .buffer) end [] trace)) (refusedLine (w .number))) ≤ longestLine * (length trace / messageSize) + longestLast
-    go true = advanced-fits model (w .buffer) end [] trace
+    go : (b : Bool) → length (cond b (advancedText (advance model (w .buffer) end [] trace [])) (refusedLine (w .number))) ≤ longestLine * (length trace / messageSize) + longestLast
+    go true = advanced-fits model (w .buffer) end [] trace []
     go false = omega (arith, refused-fits (w .number))
 
 input-fits : (input run trace : Bytes) → length trace ≡ traceRoom → length (inputText input run trace) ≤ textRoom

@@ -21,13 +21,13 @@ start-front : (file buffer : Bytes) → start (front file) buffer ≡ start file
 unfolding start
 start-front file buffer = rw (accepted-front file)
 
-advance-front : (file run : Bytes) (t : ℕ) (bag trace : Bytes) → advance (front file) run t bag trace ≡ advance file run t bag trace
+advance-front : (file run : Bytes) (t : ℕ) (bag trace table : Bytes) → advance (front file) run t bag trace table ≡ advance file run t bag trace table
 unfolding advance
-advance-front file run t bag trace = rw (accepted-front file)
+advance-front file run t bag trace table = rw (accepted-front file)
 
 started-front : (file : Bytes) (end : ℕ) (trace : Bytes) (w : Wrote) → startedText (front file) end trace w ≡ startedText file end trace w
 unfolding startedText
-started-front file end trace w = rw (advance-front file (w .buffer) end [] trace)
+started-front file end trace w = rw (advance-front file (w .buffer) end [] trace [])
 
 -- What follows the first line, for an input that has an end moment.
 run-front : (input run trace : Bytes) → inputRoom ≤ length input

@@ -115,13 +115,13 @@ end-line opening steps page = rw (put-append, put-append, put-append)
 
 -- ---- a run
 
-pub advanced-text : (run trace : Bytes) (r : Advanced) (page : Page) →
-    put (advancedText (advancedOf run trace r)) page ≡ put (lastLine (r .number) run (r .steps)) (put (traceLines (take (r .«trace_bytes») trace)) page)
+pub advanced-text : (run trace table : Bytes) (r : Advanced) (page : Page) →
+    put (advancedText (advancedOf run trace table r)) page ≡ put (lastLine (r .number) run (r .steps)) (put (traceLines (take (r .«trace_bytes») trace)) page)
 unfolding advancedText
-advanced-text run trace r page = put-append (traceLines (take (r .«trace_bytes») trace)) (lastLine (r .number) run (r .steps)) page
+advanced-text run trace table r page = put-append (traceLines (take (r .«trace_bytes») trace)) (lastLine (r .number) run (r .steps)) page
 
 module _ (model : Bytes) (end : ℕ) (trace run : Bytes) (r : Written) where
-  pub started-on : r .number ≡ 0 → startedText model end trace (wroteOf run r) ≡ advancedText (advance model run end [] trace)
+  pub started-on : r .number ≡ 0 → startedText model end trace (wroteOf run r) ≡ advancedText (advance model run end [] trace [])
   unfolding startedText
   started-on h = rw (eq-eqb (r .number) 0 h)
 

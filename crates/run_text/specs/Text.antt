@@ -88,7 +88,7 @@ advancedText a = traceLines (take (a .used) (a .trace)) ++ lastLine (a .number) 
 -- One start, and one advance with an empty bag.
 unfoldable pub startedText : Bytes → ℕ → Bytes → Wrote → Bytes
 startedText model end trace w =
-    cond (eqb (w .number) 0) (advancedText (advance model (w .buffer) end [] trace)) (refusedLine (w .number))
+    cond (eqb (w .number) 0) (advancedText (advance model (w .buffer) end [] trace [])) (refusedLine (w .number))
 
 -- The width of the end moment.
 abbrev pub momentSize : ℕ

@@ -202,9 +202,10 @@ fn put_advanced(
     run: &mut [u8],
     trace: &mut [u8],
 ) -> usize
-    ensures { λ r. ⌜ (now (out .exit), r) ≡ put (advancedText (advance (now (model .entry)) (now (run .entry)) end [] (now (trace .entry)))) (now (out .entry), at) ⌝ }
+    ensures { λ r. ⌜ (now (out .exit), r) ≡ put (advancedText (advance (now (model .entry)) (now (run .entry)) end [] (now (trace .entry)) [])) (now (out .entry), at) ⌝ }
 {
-    let answer = engine::advance(model, run, end, front(model, 0), trace);
+    let mut table = [0u8; 0];
+    let answer = engine::advance(model, run, end, front(model, 0), trace, &mut table);
     let next = put_trace(out, at, front(trace, answer.trace_bytes as usize));
     put_last(out, next, answer.number, run, answer.steps)
 }

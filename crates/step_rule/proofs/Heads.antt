@@ -1,13 +1,13 @@
 -- A rule's first two bytes against the component and the phase that are searched for, and the rules past the last record. Assumes nothing.
 use mathlib.Core.Path.{_≡_, refl, sym, ap, _∙_}
 use mathlib.Core.Option.{none}
-use mathlib.Core.Bool.{Bool, true, false, _&&_}
+use mathlib.Core.Bool.{Bool, true, false, _&&_, cond}
 use Prim.Native.Nat.{ℕ, _+_, _*_, _-_, _/_, _≤_, _<_}
 use native.Mathlib.Omega.{arith}
 use native.Mathlib.Nat.{add-zero}
-use lib.Dec.{eqb, leb}
+use lib.Dec.{eqb, leb, ltb}
 use lib.ListN.{length, getD}
-use borrow.Author.Tests.{eqb-true, lt-ltb}
+use borrow.Author.Tests.{eqb-true, eqb-false, eq-eqb, ne-eqb, ltb-true, ltb-false, lt-ltb}
 use Rattle.definition.specs.Bytes.{Bytes}
 use Rattle.definition.specs.Lists.{count}
 use Rattle.definition.specs.Limits.{ruleSize}
@@ -20,6 +20,24 @@ use Rattle.model_records.specs.Values.{rulesIn}
 use Rattle.spec_step.specs.TableStep.{decidingIn}
 use Rattle.law_step.proofs.Decided.{first-none}
 use Rattle.step_rule.specs.Search.{headOf}
+
+-- two heads are equal where component and phase are; b and q are a rule's bytes
+module _ (b q c p : ℕ) (u : b < 256) (v : q < 256) where
+  byte-heads : c < 256 → eqb (b + 256 * q) (c + 256 * p) ≡ (eqb b c && eqb q p)
+  byte-heads w = go (eqb b c) refl (eqb q p) refl
+    where
+      go : (m : Bool) → eqb b c ≡ m → (n : Bool) → eqb q p ≡ n → eqb (b + 256 * q) (c + 256 * p) ≡ (m && n)
+      go true m true n = eq-eqb (b + 256 * q) (c + 256 * p) (omega (arith, eqb-true b c m, eqb-true q p n))
+      go true m false n = ne-eqb (b + 256 * q) (c + 256 * p) (λ h. eqb-false q p n (omega (arith, eqb-true b c m, h)))
+      go false m t n = ne-eqb (b + 256 * q) (c + 256 * p) (λ h. eqb-false b c m (omega (arith, h)))
+
+  pub same-heads : eqb (headOf b q) (headOf c p) ≡ (eqb b c && eqb q p)
+  unfolding headOf
+  same-heads = rw (lt-ltb b 256 u) (go (ltb c 256) refl)
+    where
+      go : (t : Bool) → ltb c 256 ≡ t → eqb (b + 256 * q) (cond t (c + 256 * p) 65536) ≡ (eqb b c && eqb q p)
+      go true h = byte-heads (ltb-true c 256 h)
+      go false h = rw (ne-eqb b c (λ k. omega (arith, ltb-false c 256 h, k))) (ne-eqb (b + 256 * q) 65536 (λ k. omega (arith, k)))
 
 module _ (s : Bytes) (c p e : ℕ) (x : Bag) where
   component-byte : (i : ℕ) → i < length s / ruleSize → getD (rulesIn s) i noRule .component ≡ getD s (ruleSize * i) 0

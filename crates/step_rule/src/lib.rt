@@ -6,7 +6,6 @@ ghost use Prim.Native.Nat.{_+_, _*_, _/_, _≤_, _<_, min};
 ghost use lib.ListN.{length, getD};
 ghost use Rattle.definition.specs.Limits.{ruleSize};
 ghost use Rattle.definition.specs.Lists.{count};
-ghost use Rattle.definition.specs.Model.{noRule};
 ghost use Rattle.definition.specs.Atomic.{withinElapsed, meets, holds};
 ghost use Rattle.model_records.specs.Values.{ruleOf, rulesIn};
 ghost use Rattle.law_base.specs.Keys.{messageOf};
@@ -55,33 +54,10 @@ fn within_elapsed(rule: Rule, elapsed: Stay) -> bool
     (low <= elapsed.0) & ((elapsed.0 <= high) | (rule.high_elapsed == NEVER_FIELD))
 }
 
-// The bag is looked at only where the other conditions hold.
-fn rule_holds(rule: Rule, component: u16, phase: u8, elapsed: Stay, bag: &[u32]) -> bool
-    ensures { λ r. ⌜ r ≡ holds component phase (elapsed .0) (map messageOf (now (bag .entry))) (ruleOf rule) ⌝ }
-{
-    let own = rule.component as u16;
-    if (own == component) & (rule.phase == phase) & within_elapsed(rule, elapsed) {
-        let least = rule.least as usize;
-        least <= count_meeting(rule, bag)
-    } else {
-        false
-    }
-}
-
-// ---- the search: a rule of another component or phase is passed over by its first two bytes, which are one read
-
 // No two bytes make this number.
 const NO_HEAD: u32 = 65536;
 
-// Component and phase of the rule whose record stands at `at`, as one number.
-fn head_at(rules: &[u8], at: usize) -> u32
-    requires { ⌜ at + 1 < length (now rules) ⌝ }
-    ensures { λ r. ⌜ r ≡ getD (now (rules .entry)) at 0 + 256 * getD (now (rules .entry)) (at + 1) 0 ⌝ }
-{
-    u8_to_u32(rules[at]) + 256 * u8_to_u32(rules[at + 1])
-}
-
-// The same of a component and a phase; a component whose number is no byte has no rule.
+// Component and phase as one number, the head of their rules; a component whose number is no byte has no rule.
 fn head_of(component: u16, phase: u8) -> u32
     ensures { λ r. ⌜ r ≡ headOf component phase ⌝ }
 {
@@ -92,8 +68,65 @@ fn head_of(component: u16, phase: u8) -> u32
     }
 }
 
-// The rule at position i, whose record stands at `at`, decides.
-fn decides(
+// The bag is looked at only where the other conditions hold. Component and phase are compared as heads: one test for two.
+fn rule_holds(rule: Rule, component: u16, phase: u8, elapsed: Stay, bag: &[u32]) -> bool
+    ensures { λ r. ⌜ r ≡ holds component phase (elapsed .0) (map messageOf (now (bag .entry))) (ruleOf rule) ⌝ }
+{
+    let own = head_of(rule.component as u16, rule.phase);
+    if (own == head_of(component, phase)) & within_elapsed(rule, elapsed) {
+        let least = rule.least as usize;
+        least <= count_meeting(rule, bag)
+    } else {
+        false
+    }
+}
+
+// ---- the search over rules as structs
+
+// The position of the deciding rule among those from `first` up to `end` of a lent slice.
+fn deciding_in(
+    rules: &[Rule],
+    first: u16,
+    end: u16,
+    component: u16,
+    phase: u8,
+    elapsed: Stay,
+    bag: &[u32],
+) -> Found
+    requires { ⌜ end ≤ length (now rules) ⌝ }
+    ensures { λ r. ⌜ foundOf r ≡ decidingIn (map ruleOf (now (rules .entry))) first end component phase (elapsed .0) (map messageOf (now (bag .entry))) ⌝ }
+{
+    let mut i = first;
+    loop {
+        if end <= i {
+            break Found::Nothing;
+        }
+        if rule_holds(rules[i as usize], component, phase, elapsed, bag) {
+            break Found::At(i);
+        }
+        i = i + 1;
+    }
+}
+
+// The same in an array, which it lends: an array by value asks nothing of its callers, where a lent slice of structs asks a proof by hand.
+fn deciding_of(rules: [Rule; 1], component: u16, phase: u8, elapsed: Stay, bag: &[u32]) -> Found
+    ensures { λ r. ⌜ foundOf r ≡ decidingIn (map ruleOf rules) 0 1 component phase (elapsed .0) (map messageOf (now (bag .entry))) ⌝ }
+{
+    deciding_in(&rules, 0, 1, component, phase, elapsed, bag)
+}
+
+// ---- the search: a rule of another component or phase is passed over by its first two bytes, which are one read
+
+// The head of the rule whose record stands at `at`.
+fn head_at(rules: &[u8], at: usize) -> u32
+    requires { ⌜ at + 1 < length (now rules) ⌝ }
+    ensures { λ r. ⌜ r ≡ getD (now (rules .entry)) at 0 + 256 * getD (now (rules .entry)) (at + 1) 0 ⌝ }
+{
+    u8_to_u32(rules[at]) + 256 * u8_to_u32(rules[at + 1])
+}
+
+// The position i, where the rule there decides, or none. Its record stands at `at`; it is read only where the head fits.
+fn decided_at(
     rules: &[u8],
     i: u16,
     at: usize,
@@ -102,15 +135,19 @@ fn decides(
     phase: u8,
     elapsed: Stay,
     bag: &[u32],
-) -> bool
+) -> Found
     requires { ⌜ (i < length (now rules) / ruleSize) × (at ≡ ruleSize * i) × (head ≡ headOf component phase) ⌝ }
-    ensures { λ r. ⌜ r ≡ holds component phase (elapsed .0) (map messageOf (now (bag .entry))) (getD (rulesIn (now (rules .entry))) i noRule) ⌝ }
+    ensures { λ r. ⌜ foundOf r ≡ decidingIn (rulesIn (now (rules .entry))) i (i + 1) component phase (elapsed .0) (map messageOf (now (bag .entry))) ⌝ }
 {
     if head_at(rules, at) != head {
-        return false;
+        return Found::Nothing;
     }
-    let rule = model_records::rule_at(rules, i as usize);
-    rule_holds(rule, component, phase, elapsed, bag)
+    let rule = model_records::rule_in(rules, i as usize);
+    let found = deciding_of([rule], component, phase, elapsed, bag);
+    let Found::At(j) = found else {
+        return Found::Nothing;
+    };
+    Found::At(i + j)
 }
 
 // Where the search stops: at `end`, or after the last record where that comes first.
@@ -168,8 +205,9 @@ pub fn deciding(
         if stop <= i {
             break decided_past(rules, i, end, component, phase, elapsed, bag);
         }
-        if decides(rules, i, at, head, component, phase, elapsed, bag) {
-            break Found::At(i);
+        let here = decided_at(rules, i, at, head, component, phase, elapsed, bag);
+        if let Found::At(j) = here {
+            break Found::At(j);
         }
         i = i + 1;
         at = at + RULE_SIZE;

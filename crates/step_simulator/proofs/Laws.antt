@@ -20,10 +20,11 @@ use Rattle.sort.proofs.Fronts.{front-sorted}
 use Rattle.step_simulator.specs.Simulator.{RootBag}
 use Rattle.law_routes.specs.Nodes.{inputNode, outputNode}
 use Rattle.law_base.specs.Keys.{messageOf}
+use Rattle.law_base.specs.Overlaid.{putPart, putParts}
 use Rattle.spec_step.specs.Put.{keysOf}
 use Rattle.definition.specs.Step.{Stepped}
 use Rattle.spec_step.specs.Tables.{numbersAt, countAt}
-use Rattle.spec_step.specs.TableStep.{isUp, dueAtPosition, raised, marks, reached, keysInto, rootKeys, rootRoom, changedBy, changedFrom, tableStep}
+use Rattle.spec_step.specs.TableStep.{isUp, dueAtPosition, raised, marks, reached, keysInto, rootKeys, rootRoom, partBy, changedBy, changedFrom, partsFrom, tableStep}
 use Rattle.spec_step.specs.Flags.{flagsSize, marksIn, reachedIn}
 use Rattle.step_collect.specs.Collected.{arriving, leaving, keysFor, rootKeysFor, bagPut, rootPut}
 use Rattle.step_collect.proofs.Laws.{unreached}
@@ -93,6 +94,18 @@ module _ (ps : List Phase) (t : List ℕ) (rs : List Rule) (es fs : List ℕ) (r
   unfolding changedFrom
   changed-more h = let e : n - i ≡ suc (n - (i + 1)) = omega arith in rw e
 
+  pub parts-more : (rules : List ℕ) → i < n
+      → (let c = getD t (numbersAt + i) 0 in
+      let bag = map messageOf (take room (keysInto ps t es fs x c)) in
+      putParts (putPart rules i (partBy ps t rs now st i c (isUp es c) bag)) (i + 1) (partsFrom ps t rs es fs room now x (n - (i + 1)) (i + 1) (changedBy ps t rs now st i c (isUp es c) bag)))
+      ≡ putParts rules i (partsFrom ps t rs es fs room now x (n - i) i st)
+  unfolding partsFrom putParts
+  parts-more rules h = let e : n - i ≡ suc (n - (i + 1)) = omega arith in rw e
+
+  pub parts-none : (rules : List ℕ) → n ≤ i → rules ≡ putParts rules i (partsFrom ps t rs es fs room now x (n - i) i st)
+  unfolding partsFrom putParts
+  parts-none rules h = let e : n - i ≡ 0 = omega arith in rw e
+
   pub changed-none : n ≤ i → st ≡ changedFrom ps t rs es fs room now x (n - i) i st
   unfolding changedFrom
   changed-none h = let e : n - i ≡ 0 = omega arith in rw e
@@ -132,10 +145,16 @@ module _ (ps : List Phase) (t : List ℕ) (rs : List Rule) (n room now : ℕ) (x
   flags-are = sym (f .reached ∙ ap₂ (allReached t x) (sym (f .others)) (e .others ∙ none-reached))
 
   build : List ℕ → List ℕ → Stepped State
-  build es fs = record { out = map messageOf (take (rootRoom room) (rootKeys ps t es fs)); state = changedFrom ps t rs es fs room now x n 0 st }
+  build es fs = record {
+    out = record { bag = map messageOf (take (rootRoom room) (rootKeys ps t es fs)); decided = partsFrom ps t rs es fs room now x n 0 st };
+    state = changedFrom ps t rs es fs room now x n 0 st;
+  }
 
   pub step-is : tableStep ps t rs n room now x st ≡ record {
-    out = map messageOf (take (rootRoom room) (rootKeys ps t (marksIn flags) (reachedIn flags)));
+    out = record {
+      bag = map messageOf (take (rootRoom room) (rootKeys ps t (marksIn flags) (reachedIn flags)));
+      decided = partsFrom ps t rs (marksIn flags) (reachedIn flags) room now x n 0 st;
+    };
     state = changedFrom ps t rs (marksIn flags) (reachedIn flags) room now x n 0 st;
   }
   unfolding tableStep build
@@ -145,7 +164,7 @@ module _ (ps : List Phase) (t : List ℕ) (rs : List Rule) (n room now : ℕ) (x
 pub count-bag : (room : ℕ) (ks : List ℕ) → min room (length ks) ≡ length (map messageOf (take room ks))
 count-bag room ks = sym (length-map (take room ks) messageOf ∙ length-take room ks)
 
-pub out-few : (ps : List Phase) (t : List ℕ) (rs : List Rule) (n room now : ℕ) (x : Bag) (st : State) → length (tableStep ps t rs n room now x st .out) ≤ rootRoom room
+pub out-few : (ps : List Phase) (t : List ℕ) (rs : List Rule) (n room now : ℕ) (x : Bag) (st : State) → length (tableStep ps t rs n room now x st .out .bag) ≤ rootRoom room
 unfolding tableStep
 out-few ps t rs n room now x st =
     let es = marks ps t n now st in

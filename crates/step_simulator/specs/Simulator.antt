@@ -1,6 +1,7 @@
 -- The step of the nest on the tables of a call, over the bytes of the phase and rule sections. Assumes nothing.
 use mathlib.Core.Path.{_≡_}
 use mathlib.Core.List.{List, map}
+use mathlib.Core.Option.{Option}
 use mathlib.Core.Bool.{Bool, _&&_, not}
 use lib.Dec.{eqb}
 use Prim.Native.Nat.{ℕ, _+_, _≤_, _<_, min}
@@ -13,9 +14,10 @@ use Rattle.definition.specs.Devs.{Time}
 use Rattle.definition.specs.Engine.{toBag}
 use Rattle.definition.specs.Step.{Stepped, Simulator}
 use Rattle.law_base.specs.Keys.{messageOf}
+use Rattle.law_base.specs.Overlaid.{putParts}
 use Rattle.clock.specs.Times.{latest}
 use Rattle.run_state.specs.declared.State.{State}
-use Rattle.run_state.specs.Held.{heldIn, endsIn}
+use Rattle.run_state.specs.Held.{heldIn, lastRulesIn, endsIn}
 use Rattle.model_records.specs.Values.{phasesIn, rulesIn}
 use Rattle.step_due.specs.Due.{CarriedIn}
 use Rattle.spec_step.specs.Ranges.{InRange}
@@ -48,6 +50,12 @@ changedOne phases rules tables flags room now given st i =
     let c = getD tables (numbersAt + i) 0 in
     T.changedBy (phasesIn phases) tables (rulesIn rules) now st i c (isUp (marksIn flags) c) (map messageOf (take room (keysFor phases tables flags given c)))
 
+-- And what decides its external part.
+abbrev pub partOfOne : Bytes → Bytes → List ℕ → List ℕ → ℕ → ℕ → Bytes → State → ℕ → Option ℕ
+partOfOne phases rules tables flags room now given st i =
+    let c = getD tables (numbersAt + i) 0 in
+    T.partBy (phasesIn phases) tables (rulesIn rules) now st i c (isUp (marksIn flags) c) (map messageOf (take room (keysFor phases tables flags given c)))
+
 -- A position whose due moment is carried.
 pub record CanChange (phases : Bytes) (tables w : List ℕ) (i : ℕ) : Type 0 where
   pub position : i < maxComponents
@@ -61,13 +69,18 @@ abbrev pub changedAll : Bytes → Bytes → List ℕ → List ℕ → ℕ → �
 changedAll phases rules tables flags room now given n i st =
     T.changedFrom (phasesIn phases) tables (rulesIn rules) (marksIn flags) (reachedIn flags) room now (toBag given) n i st
 
+abbrev pub partsOfAll : Bytes → Bytes → List ℕ → List ℕ → ℕ → ℕ → Bytes → ℕ → ℕ → State → List (Option ℕ)
+partsOfAll phases rules tables flags room now given n i st =
+    T.partsFrom (phasesIn phases) tables (rulesIn rules) (marksIn flags) (reachedIn flags) room now (toBag given) n i st
+
 pub record Changeable (phases : Bytes) (tables : List ℕ) (n : ℕ) (w : List ℕ) : Type 0 where
   pub few : n ≤ maxComponents
   pub in-range : InRange tables
   pub carried : CarriedIn phases tables n w
 
-pub record AllChanged (phases : Bytes) (tables : List ℕ) (n : ℕ) (w : List ℕ) (after : State) : Type 0 where
+pub record AllChanged (phases : Bytes) (tables : List ℕ) (n : ℕ) (w₀ w : List ℕ) (after : State) (parts : List (Option ℕ)) : Type 0 where
   pub state : heldIn w ≡ after
+  pub rules : lastRulesIn w ≡ putParts (lastRulesIn w₀) 0 parts
   pub carried : CarriedIn phases tables n w
 
 -- ---- the root's bag
@@ -84,9 +97,11 @@ pub record CanStep (phases : Bytes) (tables : List ℕ) (n now : ℕ) (w : List 
   pub moment : now < latest
   pub changeable : Changeable phases tables n w
 
--- What it leaves: the state with its due moments, and the root's bag, sorted, in the first `count` words of `work`.
-pub record HasStepped (phases : Bytes) (tables : List ℕ) (n : ℕ) (w work : List ℕ) (count : ℕ) (r : Stepped State) : Type 0 where
+-- What it leaves: the state with its due moments, the rules that decided in it over those of before, and the root's bag, sorted, in the first
+-- `count` words of `work`.
+pub record HasStepped (phases : Bytes) (tables : List ℕ) (n : ℕ) (w₀ w work : List ℕ) (count : ℕ) (r : Stepped State) : Type 0 where
   pub state : heldIn w ≡ r .state
+  pub rules : lastRulesIn w ≡ putParts (lastRulesIn w₀) 0 (r .out .decided)
   pub carried : CarriedIn phases tables n w
-  pub size : count ≡ length (r .out)
-  pub bag : map messageOf (take count work) ≡ sortBy messageLe (r .out)
+  pub size : count ≡ length (r .out .bag)
+  pub bag : map messageOf (take count work) ≡ sortBy messageLe (r .out .bag)

@@ -9,7 +9,7 @@ ghost use Rattle.run_state.specs.Held.{heldIn};
 ghost use Rattle.spec_step.specs.Ranges.{InRange};
 ghost use Rattle.step_collect.specs.Collected.{rootKeysFor};
 ghost use Rattle.step_transition.specs.Changes.{Changed};
-ghost use Rattle.step_simulator.specs.Simulator.{tableStep, isStill, changedOne, changedAll};
+ghost use Rattle.step_simulator.specs.Simulator.{tableStep, isStill, changedOne, partOfOne, changedAll, partsOfAll};
 ghost use Rattle.step_simulator.specs.Simulator.{CanChange, Changeable, AllChanged, RootBag, CanStep, HasStepped};
 use clock::Moment;
 use run_state::STATE_SIZE;
@@ -47,6 +47,8 @@ fn change_one(
     requires { ⌜ CanChange (now phases) (now tables) (now state) i ⌝ }
     ensures { λ _. ⌜ Changed (now (phases .entry)) (now (tables .entry)) (now (state .entry)) (now (state .exit)) i
         (changedOne (now (phases .entry)) (now (rules .entry)) (now (tables .entry)) (now (flags .entry))
+        (length (now (work .entry))) (at .0) (now (given .entry)) (heldIn (now (state .entry))) i)
+        (partOfOne (now (phases .entry)) (now (rules .entry)) (now (tables .entry)) (now (flags .entry))
         (length (now (work .entry))) (at .0) (now (given .entry)) (heldIn (now (state .entry))) i) ⌝ }
 {
     let c = row_in(tables, NUMBERS_AT, i as u16);
@@ -72,8 +74,10 @@ fn change_all(
     work: &mut [u32],
 )
     requires { ⌜ Changeable (now phases) (now tables) n (now state) ⌝ }
-    ensures { λ _. ⌜ AllChanged (now (phases .entry)) (now (tables .entry)) n (now (state .exit))
+    ensures { λ _. ⌜ AllChanged (now (phases .entry)) (now (tables .entry)) n (now (state .entry)) (now (state .exit))
         (changedAll (now (phases .entry)) (now (rules .entry)) (now (tables .entry)) (now (flags .entry))
+        (length (now (work .entry))) (at .0) (now (given .entry)) n 0 (heldIn (now (state .entry))))
+        (partsOfAll (now (phases .entry)) (now (rules .entry)) (now (tables .entry)) (now (flags .entry))
         (length (now (work .entry))) (at .0) (now (given .entry)) n 0 (heldIn (now (state .entry)))) ⌝ }
 {
     run_state::whole(state);
@@ -115,7 +119,7 @@ pub fn step_once(
     work: &mut [u32],
 ) -> usize
     requires { ⌜ CanStep (now phases) (now tables) n (at .0) (now state) ⌝ }
-    ensures { λ r. ⌜ HasStepped (now (phases .entry)) (now (tables .entry)) n (now (state .exit)) (now (work .exit)) r
+    ensures { λ r. ⌜ HasStepped (now (phases .entry)) (now (tables .entry)) n (now (state .entry)) (now (state .exit)) (now (work .exit)) r
         (tableStep (now (phases .entry)) (now (rules .entry)) (now (tables .entry)) n (length (now (work .entry)))
         (at .0) (toBag (now (given .entry))) (heldIn (now (state .entry)))) ⌝ }
 {

@@ -1,19 +1,22 @@
--- The four cases of a transition, by whether the atomic is due and whether its bag is empty: where each leads. Assumes nothing.
+-- The four cases of a transition, by whether the atomic is due and whether its bag is empty: where each leads, and what
+-- decides in it. Assumes nothing.
 use mathlib.Core.Path.{_≡_, refl, sym, ap, _∙_}
 use mathlib.Core.List.{List, [], _∷_, map}
 use mathlib.Core.Option.{Option, none, some}
-use mathlib.Core.Bool.{true, false}
+use mathlib.Core.Bool.{Bool, true, false}
 use Prim.Native.Nat.{ℕ, _-_, _≤_, _<_}
 use native.Mathlib.Omega.{arith}
 use lib.ListN.{length, getD, set}
 use lib.Seq.{getD-set-same, set-getD}
 use borrow.Author.Tests.{lt-ltb, le-ltb}
 use Rattle.definition.specs.Model.{Phase, Rule}
+use Rattle.definition.specs.Atomic.{toldAs}
 use Rattle.run_state.specs.declared.State.{State}
 use Rattle.run_state.specs.Held.{changedAt}
 use Rattle.law_base.specs.Keys.{messageOf}
-use Rattle.spec_step.specs.TableStep.{leads, ledInto, phaseIn, ruleIn, confluentIn, leadBy, changedBy}
-use Rattle.step_transition.specs.Changes.{ledOf}
+use Rattle.law_base.specs.Overlaid.{putPart}
+use Rattle.spec_step.specs.TableStep.{leads, ledInto, phaseIn, ruleIn, confluentIn, confluentRule, leadBy, partBy, changedBy}
+use Rattle.step_transition.specs.Changes.{ledOf, named}
 
 -- ---- the state after a transition, by where it leads
 
@@ -51,10 +54,32 @@ module _ (ps : List Phase) (t : List ℕ) (rs : List Rule) (now : ℕ) (st : Sta
   external-case [] e = absurd (e refl)
   external-case (k ∷ l) e = refl
 
+  -- and what decides in it
+  pub no-part : (due : Bool) (l : List ℕ) → length l ≡ 0 → none ≡ partBy ps t rs now st i c due (map messageOf l)
+  unfolding partBy
+  no-part due [] e = refl
+  no-part due (k ∷ l) e = absurd (omega arith)
+
+  pub confluent-part : (l : List ℕ) → (length l ≡ 0 → ⊥)
+      → some (toldAs (confluentRule ps t rs c (getD (st .phase) i 0) (map messageOf l))) ≡ partBy ps t rs now st i c true (map messageOf l)
+  unfolding partBy
+  confluent-part [] e = absurd (e refl)
+  confluent-part (k ∷ l) e = refl
+
+  pub external-part : (l : List ℕ) → (length l ≡ 0 → ⊥)
+      → some (toldAs (ruleIn t rs c (getD (st .phase) i 0) (now - getD (st .last) i 0) (map messageOf l))) ≡ partBy ps t rs now st i c false (map messageOf l)
+  unfolding partBy
+  external-part [] e = absurd (e refl)
+  external-part (k ∷ l) e = refl
+
   -- a state that nothing changes
   pub still-state : (l : List ℕ) → length l ≡ 0 → st ≡ changedBy ps t rs now st i c false (map messageOf l)
   unfolding changedBy
   still-state l e = led-nowhere now st i _ (still-case l e)
+
+  pub still-rules : (due : Bool) (rules l : List ℕ) → length l ≡ 0 → rules ≡ putPart rules i (partBy ps t rs now st i c due (map messageOf l))
+  unfolding putPart
+  still-rules due rules l e = ap (putPart rules i) (no-part due l e)
 
 -- ---- what the code's answer names
 
@@ -65,6 +90,17 @@ led-byte r h = rw (lt-ltb r 256 h)
 pub led-none : (r : ℕ) → 256 ≤ r → ledOf r ≡ none
 unfolding ledOf
 led-none r h = rw (le-ltb r 256 h)
+
+pub below-leads : (p : ℕ) {r : ℕ} → p < 256 → r ≡ p → r < 512
+below-leads p h e = omega arith
+
+pub named-rule : (r : ℕ) → r < 65536 → named r ≡ some r
+unfolding named
+named-rule r h = rw (lt-ltb r 65536 h)
+
+pub named-none : (r : ℕ) → 65536 ≤ r → named r ≡ none
+unfolding named
+named-none r h = rw (le-ltb r 65536 h)
 
 -- the due moment of what nothing changes is carried as it was
 pub end-kept : (ends : List ℕ) (i v : ℕ) → getD ends i 0 ≡ v → ends ≡ set ends i v

@@ -4,22 +4,39 @@ use mathlib.Core.List.{List, map}
 use mathlib.Core.Option.{Option, none, some}
 use mathlib.Core.Bool.{Bool, cond}
 use lib.Dec.{ltb}
-use Prim.Native.Nat.{ℕ, _+_, _<_}
+use Prim.Native.Nat.{ℕ, _+_, _/_, _%_, _<_}
 use lib.ListN.{getD, set}
 use Rattle.definition.specs.Bytes.{Bytes}
 use Rattle.definition.specs.Limits.{maxComponents}
 use Rattle.definition.specs.Model.{Bag, Rule}
 use Rattle.definition.specs.Engine.{dueNumber}
+use Rattle.definition.specs.Atomic.{toldAs}
 use Rattle.law_base.specs.Keys.{messageOf}
+use Rattle.law_base.specs.Overlaid.{putPart}
 use Rattle.run_state.specs.declared.State.{State}
-use Rattle.run_state.specs.Held.{heldIn, endsIn}
+use Rattle.run_state.specs.Held.{heldIn, lastRulesIn, endsIn}
 use Rattle.model_records.specs.Values.{phasesIn, rulesIn}
 use Rattle.spec_step.specs.Tables.{numbersAt}
-use Rattle.spec_step.specs.TableStep.{leads, ruleIn, leadBy, dueAtPosition, changedBy}
+use Rattle.spec_step.specs.TableStep.{leads, ruleIn, leadBy, partBy, dueAtPosition, changedBy}
 
 -- The phase that the code's answer names: a byte, and none where it is no byte.
 unfoldable pub ledOf : ℕ → Option ℕ
 ledOf r = cond (ltb r 256) (some r) none
+
+-- The position of a rule that it names, two bytes, and none where it is more.
+unfoldable pub named : ℕ → Option ℕ
+named r = cond (ltb r 65536) (some r) none
+
+-- The code's answer to a search: where it leads, and the position of the rule as it is told.
+pub record Led (r : ℕ) (to found : Option ℕ) : Type 0 where
+  pub phase : ledOf (r % 512) ≡ to
+  pub rule : r / 512 ≡ toldAs found
+  pub two-bytes : r / 512 < 65536
+
+-- And that of a transition: where it leads, and what decides its external part.
+pub record Leads (r : ℕ) (to decided : Option ℕ) : Type 0 where
+  pub phase : ledOf (r % 512) ≡ to
+  pub part : named (r / 512) ≡ decided
 
 -- The phase that the deciding rule leads to, by the tables of a call.
 abbrev pub leadIn : List ℕ → List Rule → ℕ → ℕ → ℕ → Bag → Option ℕ
@@ -28,6 +45,9 @@ leadIn tables rs c p e x = leads rs (ruleIn tables rs c p e x)
 -- Where the transition at `now` of the atomic c at position i leads, due or not, with a bag of keys; and the state after it.
 abbrev pub leadOf : Bytes → Bytes → List ℕ → ℕ → List ℕ → ℕ → ℕ → Bool → List ℕ → Option ℕ
 leadOf phases rules tables now w i c due bag = leadBy (phasesIn phases) tables (rulesIn rules) now (heldIn w) i c due (map messageOf bag)
+
+abbrev pub partOf : Bytes → Bytes → List ℕ → ℕ → List ℕ → ℕ → ℕ → Bool → List ℕ → Option ℕ
+partOf phases rules tables now w i c due bag = partBy (phasesIn phases) tables (rulesIn rules) now (heldIn w) i c due (map messageOf bag)
 
 abbrev pub changeOf : Bytes → Bytes → List ℕ → ℕ → List ℕ → ℕ → ℕ → Bool → List ℕ → State
 changeOf phases rules tables now w i c due bag = changedBy (phasesIn phases) tables (rulesIn rules) now (heldIn w) i c due (map messageOf bag)
@@ -43,7 +63,14 @@ pub record AtomicAt (phases : Bytes) (tables w : List ℕ) (i c : ℕ) : Type 0 
   pub own : c ≡ getD tables (numbersAt + i) 0
   pub carried : getD (endsIn w) i 0 ≡ endOf phases tables w i
 
--- The words hold that state, and the atomic's due moment.
-pub record Changed (phases : Bytes) (tables w₀ w : List ℕ) (i : ℕ) (after : State) : Type 0 where
+-- One rule is put, or none, and all else stays.
+pub record PartPut (w₀ w : List ℕ) (i : ℕ) (part : Option ℕ) : Type 0 where
+  pub held : heldIn w ≡ heldIn w₀
+  pub rules : lastRulesIn w ≡ putPart (lastRulesIn w₀) i part
+  pub ends : endsIn w ≡ endsIn w₀
+
+-- The words hold that state, the rule of the atomic's external part, and its due moment.
+pub record Changed (phases : Bytes) (tables w₀ w : List ℕ) (i : ℕ) (after : State) (part : Option ℕ) : Type 0 where
   pub state : heldIn w ≡ after
+  pub rules : lastRulesIn w ≡ putPart (lastRulesIn w₀) i part
   pub ends : endsIn w ≡ set (endsIn w₀) i (endOf phases tables w i)

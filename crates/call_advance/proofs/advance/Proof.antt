@@ -20,7 +20,7 @@ returns c =
     let a = start .args in
     let told = sym (ap (checkedAs (a .file .now)) (after-enum-told .enum-told .given .1)) ∙ after-open-model .open-model .ensures .0 in
     rw (c .refused .ensures, c .before .u16-to-u64 .ensures, after-refusal .refusal .ensures, after-enum-told .enum-told .given .1)
-    (model-refused (a .file .now) (a .run .now) (a .t) (a .bag .now) (a .trace .now) _ told)
+    (model-refused (a .file .now) (a .run .now) (a .t) (a .bag .now) (a .trace .now) (a .table .now) _ told)
 
 advance-accepted-requires : tie.Need-advance-accepted-requires
 advance-accepted-requires c κs =
@@ -37,4 +37,4 @@ advance-accepted-requires c κs =
 pub advance-spec : {M : Type 1} → statement M
 advance-spec =
     tie.close (tie.spec open-model-requires (λ c. search needs) (λ c. search needs) (λ c κs. search needs) (λ c κs. search needs)
-    (λ c κs. search needs) returns advance-accepted-requires (λ c. search needs) (λ c. search needs) (λ c. search needs))
+    (λ c κs. search needs) returns advance-accepted-requires (λ c. search needs) (λ c. search needs) (λ c. search needs) (λ c. search needs))

@@ -16,7 +16,7 @@ returns c =
     let a = start .args in
     let m = modelOf (a .file .now) (a .n) in
     rw (c .refused .ensures)
-    (check-refused (a .file .now) (a .run .now) (a .t) (a .bag .now) (a .trace .now) m (start .pre .model) _ (checked .check-call .ensures) (fails .if1 .taken))
+    (check-refused (a .file .now) (a .run .now) (a .t) (a .bag .now) (a .trace .now) (a .table .now) m (start .pre .model) _ (checked .check-call .ensures) (fails .if1 .taken))
 
 -- The checks let the call in.
 abbrev start-of : tie.Else1 → tie.Start
@@ -37,5 +37,5 @@ advance-few-requires c κs =
 pub advance-accepted-spec : {M : Type 1} → statement M
 advance-accepted-spec =
     tie.close (tie.spec (λ c κs. let start : tie.Start = search in start .pre .model) (search needs) (search needs) returns advance-few-requires
-    (λ c κs. let go : tie.Else1 = search in passed go) (search needs) (search needs)
-    (λ c. search needs) (search needs) (search needs) (λ c. search needs))
+    (λ c κs. let go : tie.Else1 = search in passed go) (search needs) (search needs) (search needs)
+    (λ c. search needs) (search needs) (search needs) (search needs) (λ c. search needs))

@@ -13,4 +13,4 @@ returns : tie.Need-returns
 returns c = search needs
 
 pub advance-few-spec : {M : Type 1} → statement M
-advance-few-spec = tie.close (tie.spec (search needs) advance-let-in-requires (search needs) (search needs) returns)
+advance-few-spec = tie.close (tie.spec (search needs) advance-let-in-requires (search needs) (search needs) (search needs) returns)

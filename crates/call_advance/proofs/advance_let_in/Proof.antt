@@ -46,6 +46,11 @@ advance-from-requires c κs =
     let q = start-of f .pre .0 in
     startable (a .file .now) (a .n) (bytes f) (q .model) (a .run .now) (a .t .0) (a .bag .now) (q .checks) (a .tables .now) (q .tabled) _ (start-of f .pre .1 .lent)
 
+put-rules-requires : tie.Need-put-rules-requires
+put-rules-requires c κs =
+    let start : tie.Start = search in
+    start .pre .0 .tabled .in-range .atomics
+
 returns : tie.Need-returns
 returns c =
     let done : tie.After-advance-from = search in let rules : tie.After-rules-of = search in let phases : tie.After-phases-of = search in
@@ -54,14 +59,14 @@ returns c =
     let q = start-of f .pre .0 in
     let count = sized f .u8-to-usize .ensures ∙ counted f .atomics-in .ensures in
     let loaded = rw count at (f .load .ensures) in
-    let cast : tie.After-usize-to-u64 = search in
-    rw (cast .usize-to-u64 .ensures)
-    (done .advance-from .ensures
-    ∙ call-parts (a .file .now) (a .n) (bytes f) (q .model) (a .run .now) (a .t .0) (a .bag .now) (q .checks) (a .tables .now) (q .tabled) (a .trace .now)
+    let cast : tie.After-usize-to-u64 = search in let put : tie.After-put-rules = search in
+    rw (cast .usize-to-u64 .ensures, put .put-rules .ensures)
+    (done .advance-from .ensures (a .table .now)
+    ∙ call-parts (a .file .now) (a .n) (bytes f) (q .model) (a .run .now) (a .t .0) (a .bag .now) (q .checks) (a .tables .now) (q .tabled) (a .trace .now) (a .table .now)
     (λ i. known-bag f .shared-slice-known2 .given i .fits) _ loaded (length (now (a .work))) (start-of f .pre .1 .room) _ _ (phases .phases-of .ensures) (rules .rules-of .ensures))
 
 pub advance-let-in-spec : {M : Type 1} → statement M
 advance-let-in-spec =
     tie.close
-    (tie.spec atomics-in-requires (search needs) load-requires (search needs) (search needs) advance-from-requires
-    (search needs) (search needs) (search needs) (search needs) returns)
+    (tie.spec atomics-in-requires (search needs) load-requires (search needs) (search needs) advance-from-requires put-rules-requires
+    (search needs) (search needs) (search needs) (search needs) (search needs) returns)

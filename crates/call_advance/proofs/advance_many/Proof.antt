@@ -15,4 +15,4 @@ returns : tie.Need-returns
 returns c = search needs
 
 pub advance-many-spec : {M : Type 1} → statement M
-advance-many-spec = tie.close (tie.spec (search needs) advance-let-in-requires (search needs) (search needs) returns)
+advance-many-spec = tie.close (tie.spec (search needs) advance-let-in-requires (search needs) (search needs) (search needs) returns)

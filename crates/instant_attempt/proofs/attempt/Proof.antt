@@ -15,8 +15,9 @@ use Rattle.definition.specs.Engine.{toBag}
 use Rattle.definition.specs.Instant.{Instant}
 use Rattle.run_state.specs.declared.State.{State}
 use Rattle.run_state.specs.Held.{heldIn}
+use Rattle.spec_step.specs.Tables.{atomicsIn}
 use Rattle.instant_steps.specs.Sim.{simOf, instantOf}
-use Rattle.instant_steps.specs.Verdicts.{Judged}
+use Rattle.instant_steps.specs.Verdicts.{Judged, RulesLeft}
 use Rattle.instant_attempt.specs.Pass.{Stands, inScratch}
 use Rattle.instant_attempt.proofs.Passes.{none-still}
 use Rattle.instant_attempt.proofs.Tries.{recs, used-of, end-of, from-scratch, again, verdict-again, hindered-tried, stands-tried}
@@ -68,11 +69,11 @@ stands : (c : tie.Else1) → Stands (start-of (pass-of c) .args .turn .at .0) (s
     (whole (start-of (pass-of c))) (pass-of c .first-pass .result .progress)
 stands c = pass-of c .first-pass .ensures .decided .stands (c .if1 .left)
 
-idle : (c : tie.Else1) → length (stands c .bags) ≡ 0 → stands c .end ≡ heldIn (now (start-of (pass-of c) .args .state))
+idle : (c : tie.Else1) → length (stands c .outputs) ≡ 0 → stands c .end ≡ heldIn (now (start-of (pass-of c) .args .state))
 idle c z =
     let a = start-of (pass-of c) .args in
     let k = simOf (now (a .phases)) (now (a .rules)) (now (a .tables)) (length (now (a .work))) in
-    none-still k (a .turn .at .0) (toBag (now (a .given))) (heldIn (now (a .state))) (stands c .bags) (stands c .end) (stands c .same) z
+    none-still k (a .turn .at .0) (toBag (now (a .given))) (heldIn (now (a .state))) (stands c .outputs) (stands c .end) (stands c .same) z
 
 -- Its records are as many bytes as the progress says.
 size-as : (c : tie.Else1)
@@ -106,8 +107,8 @@ returns-2 c =
     let k = r .ensures .kept in-scratch in
     let front = from-scratch st (now (a .scratch)) (scratch pass) (r .kept .1 .1 .1 .1 .1 .1 .1 .0) (omega (arith, size, test .if2 .taken)) (k .recorded) in
     let put = copied .put-bytes .ensures ∙ ap (sets (now (a .trace)) (p .used)) (part .front .ensures ∙ ap (λ (m : ℕ). take m (scratch pass)) size ∙ front) in
-    stands-tried (now (a .state)) (new pass) (now (a .trace)) (copied .put-bytes .last .1 .0) e st (here .if1 .left) (idle here)
-    (end-of st (heldIn (new pass)) (k .left)) put (now (a .phases)) (now (a .tables)) (k .ready)
+    stands-tried (now (a .tables)) (now (a .state)) (new pass) (now (a .trace)) (copied .put-bytes .last .1 .0) e st (here .if1 .left) (idle here)
+    (end-of st (heldIn (new pass)) (k .left)) (k .rules) put (now (a .phases)) (k .ready)
 
 -- ---- the second pass
 
@@ -154,9 +155,12 @@ returns-3 c =
     let trace = q .last .1 .1 .1 .1 .1 .1 .1 .0 in
     -- it was over the same instant
     let judged : Instant State → Type 0 = λ i. Judged (now (a .phases)) (now (a .tables)) (t .at .0) (t .progress .used) (now (a .trace)) trace end i (q .result) in
-    let j = subst (λ (w : List ℕ). judged (instant-from s (length (now (a .work))) w)) (back test) (subst (λ (m : ℕ). judged (instant-from s m (new pass))) (words test) (q .ensures)) in
-    stands-tried (now (a .state)) end (now (a .trace)) trace (pass .first-pass .result) st (here .if1 .left) (idle here) (end-of st (heldIn end) (j .left))
-    (again st (now (a .trace)) trace refl (j .recorded)) (now (a .phases)) (now (a .tables)) (j .ready (verdict-again st (t .progress .used) (q .result) (j .answer)))
+    let rules : List ℕ → Instant State → Type 0 = λ w i. RulesLeft (atomicsIn (now (a .tables))) w end i in
+    let both = subst (λ (w : List ℕ). judged (instant-from s (length (now (a .work))) w) × rules w (instant-from s (length (now (a .work))) w)) (back test)
+    (subst (λ (m : ℕ). judged (instant-from s m (new pass)) × rules (new pass) (instant-from s m (new pass))) (words test) (q .ensures)) in
+    let j = both .0 in
+    stands-tried (now (a .tables)) (now (a .state)) end (now (a .trace)) trace (pass .first-pass .result) st (here .if1 .left) (idle here) (end-of st (heldIn end) (j .left)) (both .1)
+    (again st (now (a .trace)) trace refl (j .recorded)) (now (a .phases)) (j .ready (verdict-again st (t .progress .used) (q .result) (j .answer)))
 
 pub attempt-spec : {M : Type 1} → statement M
 attempt-spec =

@@ -9,7 +9,6 @@ use borrow.Author.Tests.{eqb-true}
 use Rattle.law_base.proofs.Tests.{clash, and-left}
 use Rattle.definition.specs.Instant.{Instant}
 use Rattle.run_state.specs.declared.State.{State}
-use Rattle.run_state.specs.Held.{heldIn}
 use Rattle.instant_steps.specs.Sim.{instantOf}
 use Rattle.instant_attempt.specs.Pass.{Decided}
 use Rattle.instant_attempt.proofs.Passes.{decided}
@@ -46,18 +45,18 @@ ended-by-requires c κs =
     let q = start .pre .room in record {
       moment = start .pre .steppable .moment;
       instants = q .instants;
-      steps = omega (arith, q .steps, pass .instant .ensures .few);
+      steps = omega (arith, q .steps, pass .instant .ensures .0 .few);
       used = omega (arith, q .used, start .good .1 .1 .1 .1 .1 .1 .1 .1 .0 .1);
     }
 
 decided-as : (c : tie.After-ended-by)
-    → Decided (start-of (pass-of c) .args .turn .at .0) (start-of (pass-of c) .args .turn .progress) (heldIn (now (start-of (pass-of c) .args .state)))
+    → Decided (start-of (pass-of c) .args .turn .at .0) (start-of (pass-of c) .args .turn .progress) (now (start-of (pass-of c) .args .tables)) (now (start-of (pass-of c) .args .state))
     (now (start-of (pass-of c) .args .trace)) (whole (start-of (pass-of c))) (c .ended-by .result)
 decided-as c =
     let s = start-of (pass-of c) in
     let t = s .args .turn in
     let r = pass-of c .instant in
-    decided (t .at .0) (t .progress) (heldIn (now (s .args .state))) (now (s .args .trace)) (s .pre .room .used) (whole s) (r .result) (r .ensures .answer) (r .ensures .few)
+    decided (t .at .0) (t .progress) (now (s .args .tables)) (now (s .args .state)) (now (s .args .trace)) (s .pre .room .used) (whole s) (r .result) (r .ensures .0 .answer) (r .ensures .0 .few)
     (c .ended-by .result) (c .ended-by .ensures)
 
 sub-if1 : tie.Need-sub-if1
@@ -73,10 +72,10 @@ returns c =
     let r = pass-of e .instant in
     let d = e .ended-by .result in
     let zero : d .number ≡ 0 = eqb-true (d .number) 0 (and-left (eqb (d .number) 0) _ (c .if1 .taken)) in
-    let stands = verdict-again (decided-as e .stands zero) 0 (r .result) (r .ensures .answer) in
+    let stands = verdict-again (decided-as e .stands zero) 0 (r .result) (r .ensures .0 .answer) in
     record {
       decided = decided-as e;
-      kept = λ _. record { left = r .ensures .left; recorded = r .ensures .recorded; ready = r .ensures .ready stands };
+      kept = λ _. record { left = r .ensures .0 .left; rules = r .ensures .1; recorded = r .ensures .0 .recorded; ready = r .ensures .0 .ready stands };
       back = λ f. absurd (clash (c .if1 .taken) f);
     }
 

@@ -3,19 +3,17 @@ use borrow.Author.Needs.{needs}
 use native.Mathlib.Omega.{arith}
 use denote.Ref.{now}
 use mathlib.Core.Path.{_∙_, refl, ap}
-use Prim.Native.Nat.{ℕ, suc}
+use Prim.Native.Nat.{ℕ}
 use lib.ListN.{length}
 use Rattle.instant_attempt.specs.declared.Progress.{Progress}
 use Rattle.run_state.specs.declared.State.{State}
 use Rattle.run_state.specs.Held.{heldIn}
-use Rattle.spec_step.specs.Tables.{atomicsIn}
-use Rattle.instant_attempt.specs.Progress.{progressOf}
 use Rattle.instant_steps.specs.Sim.{simOf}
 use Rattle.run_saved.specs.Runs.{runIn}
 use Rattle.definition.specs.SavedRun.{runBytes}
 use Rattle.definition.specs.Bytes.{stored, numberAt}
 use Rattle.definition.specs.Engine.{toBag}
-use Rattle.definition.specs.Advance.{advanceFrom, advancing}
+use Rattle.definition.specs.Advance.{advanceFrom}
 use Rattle.instant_loop.proofs.Outcome.{outcome, begins}
 use Rattle.instant_loop.proofs.advance_from.Statement.{statement}
 use Rattle.instant_loop.proofs.advance_from.Tie as tie
@@ -64,15 +62,16 @@ returns c =
     let k = simOf (now (a .phases)) (now (a .rules)) t (length (now (a .work))) in
     let x = toBag (now (a .bag)) in
     let old = heldIn (now (a .state)) in
-    let new = heldIn (r .last .1 .1 .1 .1 .1 .1 .0) in
+    let new = r .last .1 .1 .1 .1 .1 .1 .0 in
     let first : Progress = record { opening = opened .opening-of .result; instants = 0; steps = 0; used = 0 } in
     let e = r .result in
     let count = known .u8-to-usize .ensures ∙ counted .atomics-in .ensures in
-    let put = stored-run .store .ensures ∙ ap (λ (n : ℕ). stored (runBytes (runIn (e .progress .opening .0) n new)) (now (a .run))) count in
-    let same = r .ensures .same ∙ ap (λ (s : State). advancing k (length trace) (a .t .0) x (suc (a .t .0)) (progressOf trace s first)) (made .make-ready .ensures .0) in
-    let from = begins k (length trace) (a .t .0) x trace old first refl refl refl ∙ ap (λ o. advanceFrom k (length trace) (a .t .0) x o old) (opened .opening-of .ensures) in
-    outcome (atomicsIn t) (now (a .run)) (stored-run .store .last .0) trace (r .last .1 .1 .1 .1 .1 .1 .1 .1 .0) new e
-    (advanceFrom k (length trace) (a .t .0) x (numberAt 8 0 (now (a .run))) old) (same ∙ from) (r .ensures .beyond) put
+    let put = stored-run .store .ensures ∙ ap (λ (n : ℕ). stored (runBytes (runIn (e .progress .opening .0) n (heldIn new))) (now (a .run))) count in
+    let begun = begins k (length trace) (a .t .0) x trace t _ first refl refl refl in
+    let from = ap (λ (s : State). advanceFrom k (length trace) (a .t .0) x (first .opening .0) s) (made .make-ready .ensures .0)
+    ∙ ap (λ o. advanceFrom k (length trace) (a .t .0) x o old) (opened .opening-of .ensures) in
+    outcome t (now (a .run)) (stored-run .store .last .0) trace (r .last .1 .1 .1 .1 .1 .1 .1 .1 .0) new e
+    (advanceFrom k (length trace) (a .t .0) x (numberAt 8 0 (now (a .run))) old) (r .ensures .same ∙ begun ∙ from) (r .ensures .beyond) put
 
 pub advance-from-spec : {M : Type 1} → statement M
 advance-from-spec =

@@ -60,7 +60,7 @@ abbrev whole : tie.At-loop Inv-loop μ-loop → Definition.Ended State
 whole c =
     let a = start-of c .args in
     advancingOf (now (a .phases)) (now (a .rules)) (now (a .tables)) (length (now (a .work))) (length (now (a .trace))) (a .t .0) (now (a .bag)) (suc (a .t .0))
-    (progressOf (now (a .trace)) (heldIn (now (a .state))) (a .from))
+    (progressOf (now (a .trace)) (now (a .tables)) (now (a .state)) (a .from))
 
 -- The state at the turn.
 abbrev state : tie.At-loop Inv-loop μ-loop → State
@@ -203,7 +203,7 @@ returns-2 c =
     let p : tie.At-loop Inv-loop μ-loop = search in
     let a = start-of p .args in
     let l = p .loop in
-    let none = no-turn (sim p) (length (now (a .trace))) (a .t .0) (toBag (now (a .bag))) (l .left) (progressOf (l .trace) (state p) (l .p)) (omega arith) in
+    let none = no-turn (sim p) (length (now (a .trace))) (a .t .0) (toBag (now (a .bag))) (l .left) (progressOf (l .trace) (now (a .tables)) (l .state) (l .p)) (omega arith) in
     record { same = sym none ∙ l .inv .from-here; beyond = l .inv .beyond }
 
 pub advance-on-spec : {M : Type 1} → statement M

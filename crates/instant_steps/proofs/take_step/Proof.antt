@@ -27,6 +27,7 @@ returns c =
     let p = after-put-next .put-next .ensures in
     record {
       state = p .held ∙ s .state;
+      rules = p .rules ∙ s .rules;
       ready = ready-next (now (a .phases)) (now (a .tables)) _ _ _ (start .pre .fit) (s .carried) (after-next-end .next-end .ensures) p;
       size = s .size;
       bag = s .bag;

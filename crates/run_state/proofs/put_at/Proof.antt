@@ -1,4 +1,4 @@
--- Two regions are written, the others stay.
+-- Two regions are written, the others stay; the rule beside the phase is put back as it was.
 use borrow.Author.Needs.{needs}
 use denote.Ref.{now}
 use Rattle.run_state.proofs.Laws.{entry-put}
@@ -7,9 +7,12 @@ use Rattle.run_state.proofs.put_at.Tie as tie
 
 returns : tie.Need-returns
 returns c =
-    let start : tie.Start = search in let after-u8-to-u64 : tie.After-u8-to-u64 = search in
+    let start : tie.Start = search in
+    let after-beside-at : tie.After-beside-at = search in let after-packed : tie.After-packed = search in
     let a = start .args in
-    rw (after-u8-to-u64 .u8-to-u64 .ensures) (entry-put (a .position) (a .phase) (a .since .0) (now (a .state)) (start .pre) search)
+    let r = after-beside-at .beside-at .result in
+    rw (after-packed .packed .ensures)
+    (entry-put (a .position) (a .phase) r (a .since .0) (now (a .state)) (start .pre) (search) (search) (after-beside-at .beside-at .ensures))
 
 pub put-at-spec : {M : Type 1} → statement M
-put-at-spec = tie.close (tie.spec (λ c. search needs) (λ c. search needs) (λ c. search needs) (λ c. search needs) (λ c. search needs) (λ c. search needs) returns)
+put-at-spec = tie.close (tie.spec (λ c κs. search needs) (λ c κs. search needs) (λ c. search needs) (λ c. search needs) (λ c. search needs) (λ c. search needs) (λ c. search needs) returns)

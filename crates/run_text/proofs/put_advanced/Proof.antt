@@ -16,11 +16,12 @@ returns c =
     let a = start .args in
     let r = after-advance .advance in
     let n : now (after-front .front .result) ≡ [] = after-front .front .ensures in
-    let e : advancedOf (r .last .1 .0) (r .last .1 .1 .1 .1 .0) (r .result) ≡ advance (now (a .model)) (now (a .run)) (a .end) [] (now (a .trace)) = r .ensures ∙ ap (λ b. advance (now (a .model)) (now (a .run)) (a .end) b (now (a .trace))) n in
+    let e : advancedOf (r .last .1 .0) (r .last .1 .1 .1 .1 .0) (r .last .1 .1 .1 .1 .1 .0) (r .result) ≡ advance (now (a .model)) (now (a .run)) (a .end) [] (now (a .trace)) []
+    = r .ensures ∙ ap (λ b. advance (now (a .model)) (now (a .run)) (a .end) b (now (a .trace)) []) n in
     rw (← e, after-put-last .put-last .ensures, after-put-trace .put-trace .ensures, after-front2 .front2 .ensures)
-    (sym (advanced-text (r .last .1 .0) (r .last .1 .1 .1 .1 .0) (r .result) (now (a .out), a .at)))
+    (sym (advanced-text (r .last .1 .0) (r .last .1 .1 .1 .1 .0) (r .last .1 .1 .1 .1 .1 .0) (r .result) (now (a .out), a .at)))
 
 pub put-advanced-spec : {M : Type 1} → statement M
 put-advanced-spec =
-    tie.close (tie.spec (λ c κs. search needs) (λ c κs. search needs) (λ c κs. search needs) (λ c κs. search needs) (λ c κs. search needs)
+    tie.close (tie.spec (λ c κs. search needs) (λ c. search needs) (λ c κs. search needs) (λ c κs. search needs) (λ c κs. search needs) (λ c κs. search needs)
     (λ c. search needs) (λ c. search needs) (λ c. search needs) returns)

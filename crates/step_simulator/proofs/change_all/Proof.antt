@@ -2,11 +2,12 @@
 use borrow.Author.Needs.{needs}
 use Rattle.definition.specs.Limits.{maxComponents}
 use native.Mathlib.Omega.{arith}
-use Rattle.step_simulator.proofs.Laws.{changed-more, changed-none, carried-changed}
-use Rattle.step_simulator.specs.Simulator.{changedAll}
+use Rattle.step_simulator.proofs.Laws.{changed-more, changed-none, parts-more, parts-none, carried-changed}
+use Rattle.step_simulator.specs.Simulator.{changedAll, partsOfAll}
 use Rattle.definition.specs.Engine.{toBag}
-use Rattle.run_state.specs.Held.{heldIn, endsIn}
+use Rattle.run_state.specs.Held.{heldIn, lastRulesIn, endsIn}
 use Rattle.run_state.proofs.Laws.{ends-size}
+use Rattle.law_base.specs.Overlaid.{putParts}
 use Rattle.spec_step.specs.Flags.{marksIn, reachedIn}
 use Rattle.step_due.specs.Due.{CarriedIn}
 use Rattle.model_records.specs.Values.{phasesIn, rulesIn}
@@ -22,7 +23,9 @@ abbrev Inv-loop : tie.InvT-loop
 Inv-loop phases rules tables n flags given state₀ at work₀ i₀ state work i =
     (i ≤ n) × (length work ≡ length work₀) × (length (endsIn state) ≡ maxComponents) × CarriedIn phases tables n state ×
     (changedAll phases rules tables flags (length work₀) (at .0) given (n - i) i (heldIn state)
-    ≡ changedAll phases rules tables flags (length work₀) (at .0) given n 0 (heldIn state₀))
+    ≡ changedAll phases rules tables flags (length work₀) (at .0) given n 0 (heldIn state₀)) ×
+    (putParts (lastRulesIn state) i (partsOfAll phases rules tables flags (length work₀) (at .0) given (n - i) i (heldIn state))
+    ≡ putParts (lastRulesIn state₀) 0 (partsOfAll phases rules tables flags (length work₀) (at .0) given n 0 (heldIn state₀)))
 
 abbrev μ-loop : tie.MeasureT-loop
 μ-loop phases rules tables n flags given state₀ at work₀ i₀ state work i = n - i
@@ -30,7 +33,7 @@ abbrev μ-loop : tie.MeasureT-loop
 loop-holds : tie.Need-loop-holds Inv-loop μ-loop
 loop-holds c =
     let start : tie.Start Inv-loop μ-loop = search in
-    (omega arith, refl, ends-size _ (c .whole .ensures), start .pre .carried, rw sub-zero)
+    (omega arith, refl, ends-size _ (c .whole .ensures), start .pre .carried, rw sub-zero, rw sub-zero)
 
 change-one-requires : tie.Need-change-one-requires Inv-loop μ-loop
 change-one-requires c κs =
@@ -51,10 +54,17 @@ loop-again c =
     let rs = rulesIn (now (a .rules)) in
     let st = heldIn (l .state) in
     let more = changed-more ps t rs (marksIn (now (a .flags))) (reachedIn (now (a .flags))) (length (now (a .work))) (a .at .0) (toBag (now (a .given))) (a .n) (l .i) st (omega arith) in
+    let parts = parts-more ps t rs (marksIn (now (a .flags))) (reachedIn (now (a .flags))) (length (now (a .work))) (a .at .0) (toBag (now (a .given))) (a .n) (l .i) st (lastRulesIn (l .state)) (omega arith) in
     let within : l .i < length (endsIn (l .state)) = omega (arith, l .inv .2, start .pre .few, in-loop .loop-test .taken) in
     let carried = carried-changed ps t rs (a .at .0) (a .n) st _ (endsIn (l .state)) (l .i) _ _ _ within (one .state) (l .inv .3) in
-    let same = m .kept .1 .1 .1 .1 .1 .1 .1 .1 .0 ∙ l .inv .1 in
-    (omega arith, same, rw (one .ends) (simp length-set (l .inv .2)), rw (one .ends) carried, rw (one .state, l .inv .1) more ∙ l .inv .4)
+    let same = m .kept .1 .1 .1 .1 .1 .1 .1 .1 .0 ∙ l .inv .1 in (
+      omega arith,
+      same,
+      rw (one .ends) (simp length-set (l .inv .2)),
+      rw (one .ends) carried,
+      rw (one .state, l .inv .1) more ∙ l .inv .4,
+      rw (one .rules, one .state, l .inv .1) parts ∙ l .inv .5,
+    )
 
 same-length : tie.Need-same-length Inv-loop μ-loop
 same-length c = c .before .loop .inv .1
@@ -67,7 +77,12 @@ returns c =
     let ps = phasesIn (now (a .phases)) in
     let rs = rulesIn (now (a .rules)) in
     let none = changed-none ps (now (a .tables)) rs (marksIn (now (a .flags))) (reachedIn (now (a .flags))) (length (now (a .work))) (a .at .0) (toBag (now (a .given))) in
-    record { state = none (a .n) (l .i) (heldIn (l .state)) (omega arith) ∙ l .inv .4; carried = l .inv .3 }
+    let no-parts = parts-none ps (now (a .tables)) rs (marksIn (now (a .flags))) (reachedIn (now (a .flags))) (length (now (a .work))) (a .at .0) (toBag (now (a .given))) in
+    record {
+      state = none (a .n) (l .i) (heldIn (l .state)) (omega arith) ∙ l .inv .4;
+      rules = no-parts (a .n) (l .i) (heldIn (l .state)) (lastRulesIn (l .state)) (omega arith) ∙ l .inv .5;
+      carried = l .inv .3;
+    }
 
 pub change-all-spec : {M : Type 1} → statement M
 change-all-spec =

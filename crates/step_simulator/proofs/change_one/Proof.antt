@@ -16,8 +16,8 @@ use lib.Dec.{eqb}
 use lib.ListN.{length, take, getD, length-take}
 use Rattle.law_base.proofs.Tests.{and-left, and-right}
 use Rattle.law_stores.proofs.Fronts.{Front}
-use Rattle.run_state.specs.Held.{heldIn, endsIn}
-use Rattle.step_transition.proofs.Laws.{still-state, end-kept}
+use Rattle.run_state.specs.Held.{heldIn, lastRulesIn, endsIn}
+use Rattle.step_transition.proofs.Laws.{still-state, still-rules, end-kept}
 use Rattle.step_simulator.proofs.change_one.Statement.{statement}
 use Rattle.step_simulator.proofs.change_one.Tie as tie
 
@@ -61,8 +61,10 @@ returns c =
     let unreached = keys-unreached (now (a .phases)) t flags (now (a .given)) n (and-right mark _ h) in
     let none : length (take (length (now (a .work))) keys) ≡ 0 = omega (arith, length-take (length (now (a .work))) keys, unreached) in
     let still = still-state (phasesIn (now (a .phases))) t (rulesIn (now (a .rules))) (a .at .0) (heldIn (now (a .state))) (a .i) n (take (length (now (a .work))) keys) none in
+    let no-rule = still-rules (phasesIn (now (a .phases))) t (rulesIn (now (a .rules))) (a .at .0) (heldIn (now (a .state))) (a .i) n _ (lastRulesIn (now (a .state))) (take (length (now (a .work))) keys) none in
     record {
       state = rw (and-left mark _ h) still;
+      rules = no-rule;
       ends = end-kept (endsIn (now (a .state))) (a .i) _ (start .pre .carried);
     }
 
@@ -101,6 +103,7 @@ returns-2 c =
     let changed = c .transition .ensures in
     record {
       state = rw (after-mark-at .mark-at .ensures, after-u16-to-usize .u16-to-usize .ensures, f .held, row .row-in .ensures) at (changed .state);
+      rules = rw (after-mark-at .mark-at .ensures, after-u16-to-usize .u16-to-usize .ensures, f .held, row .row-in .ensures) at (changed .rules);
       ends = changed .ends;
     }
 

@@ -50,6 +50,7 @@ returns c =
     (q .changeable .carried) (q .moment) (after-mark .mark .ensures) (after-reach .reach .ensures))
     (record {
       state = s .state;
+      rules = s .rules;
       carried = s .carried;
       size = b .size ∙ count-bag (rootRoom (length (now (a .work)))) (rootKeysFor (now (a .phases)) t flags);
       bag = b .bag;

@@ -4,13 +4,14 @@ use mathlib.Core.Option.{some}
 use mathlib.Core.Path.{_≡_, _∙_, sym, ap}
 use mathlib.Core.List.{map}
 use denote.Ref.{now}
+use Rattle.definition.specs.Atomic.{toldAs}
 use Rattle.law_base.specs.Keys.{messageOf}
 use Rattle.model_records.specs.Values.{rulesIn}
 use Rattle.spec_step.specs.TableStep.{leads, ruleIn}
 use Rattle.step_rule.specs.Search.{foundOf}
 use native.Mathlib.Omega.{arith}
 use Rattle.step_transition.specs.Changes.{ledOf}
-use Rattle.step_transition.proofs.Laws.{led-none, led-byte}
+use Rattle.step_transition.proofs.Laws.{led-none, led-byte, below-leads}
 use Rattle.step_transition.proofs.decided.Statement.{statement}
 use Rattle.step_transition.proofs.decided.Tie as tie
 
@@ -28,20 +29,38 @@ searched k =
     rw (after-row-in2 .row-in2 .ensures, after-row-in .row-in .ensures) at (k .deciding .ensures)
 
 returns : tie.Need-returns
-unfolding leads
+unfolding leads toldAs
 returns c =
-    let start : tie.Start = search in let told : tie.After-enum-told = search in let after-deciding : tie.After-deciding = search in
-    led-none 256 (omega arith) ∙ ap (leads (rulesIn (now (start .args .rules)))) (sym (ap foundOf (told .enum-told .given .1)) ∙ searched after-deciding)
+    let start : tie.Start = search in let none-told : tie.After-enum-told = search in let after-deciding : tie.After-deciding = search in
+    let answer = c .told .ensures in
+    let found = sym (ap foundOf (none-told .enum-told .given .1)) ∙ searched after-deciding in
+    record {
+      phase = ap ledOf (answer .0) ∙ led-none 256 (omega arith) ∙ ap (leads (rulesIn (now (start .args .rules)))) found;
+      rule = answer .1 ∙ ap toldAs found;
+      two-bytes = answer .2;
+    }
 
 returns-2 : tie.Need-returns-2
-unfolding leads
+unfolding leads toldAs
 returns-2 c =
     let start : tie.Start = search in let after-next-by : tie.After-next-by = search in let after-i : tie.After-i = search in
-    let after-deciding : tie.After-deciding = search in
-    ap ledOf (c .u8-to-u16 .ensures) ∙ led-byte (after-next-by .next-by .result) (search) ∙ ap some (after-next-by .next-by .ensures)
-    ∙ ap (leads (rulesIn (now (start .args .rules)))) (sym (ap foundOf (after-i .i .given .1)) ∙ searched after-deciding)
+    let after-deciding : tie.After-deciding = search in let after-u8-to-u16 : tie.After-u8-to-u16 = search in
+    let answer = c .told2 .ensures in
+    let found = sym (ap foundOf (after-i .i .given .1)) ∙ searched after-deciding in
+    record {
+      phase =
+          ap ledOf (answer .0 ∙ after-u8-to-u16 .u8-to-u16 .ensures) ∙ led-byte (after-next-by .next-by .result) (search) ∙ ap some (after-next-by .next-by .ensures)
+          ∙ ap (leads (rulesIn (now (start .args .rules)))) found;
+      rule = answer .1 ∙ ap toldAs found;
+      two-bytes = answer .2;
+    }
+
+told-requires-2 : tie.Need-told-requires-2
+told-requires-2 c κs =
+    let after-next-by : tie.After-next-by = search in
+    below-leads (after-next-by .next-by .result) (search) (c .u8-to-u16 .ensures)
 
 pub decided-spec : {M : Type 1} → statement M
 decided-spec =
-    tie.close (tie.spec (λ c κs. search needs) (λ c κs. search needs) (λ c κs. search needs) (λ c. search needs) (λ c. search needs) returns
-    (λ c κs. search needs) (λ c κs. search needs) returns-2)
+    tie.close (tie.spec (λ c κs. search needs) (λ c κs. search needs) (λ c κs. search needs) (λ c. search needs) (λ c. search needs)
+    (λ c κs. search needs) returns (λ c κs. search needs) (λ c κs. search needs) told-requires-2 returns-2)
