@@ -67,9 +67,9 @@ ran 'header as C++' "$made/header_as_cpp"
 
 # The inserter: cues that are all taken, cues for which the hold has no rule, a trace that is full again and again, and refusals.
 build inserter "$here/inserter.c"
-# insert NAME STATUS MODEL CUES
+# insert NAME STATUS MODEL CUES [OPTION]
 insert() {
-  "$made/inserter" "$3" "$here/$4.cues" >"$made/$1.out" 2>&1
+  "$made/inserter" "${@:5}" "$3" "$here/$4.cues" >"$made/$1.out" 2>&1
   local status=$?
   agree "inserter $1" "$here/$1.inserted" "$made/$1.out"
   if [ "$status" -ne "$2" ]; then
@@ -89,6 +89,12 @@ insert backwards 1 "$here/captions.model" backwards
 insert crowd 1 "$here/captions.model" crowd
 insert bad_rule 1 "$made/bad_rule.model" captions
 insert jam 1 "$made/jam.model" captions
+# The same with the rules that decided in each instant: between them stands what is put up without.
+for name in captions stray; do
+  insert "$name-rules" 0 "$here/captions.model" "$name" --rules
+  grep -v ' lit' "$made/$name-rules.out" >"$made/$name-others.out"
+  agree "inserter $name with and without rules" "$here/$name.inserted" "$made/$name-others.out"
+done
 
 # The heaviest calls on a stack of 256 KiB.
 build stack "$top/host/stack/stack.c"

@@ -7,15 +7,18 @@
 
 #include "pdevs.h"
 
-/* One atomic, due at every moment but 0 with the message (2, 513), which leaves the root at port 3. */
+/* One atomic, due at every moment but 0 with the message (2, 513), which leaves the root at port 3. Its second rule is for the
+ * value 0 on port 0, where it hears the root; its first is for the value 1. */
 static const uint8_t model[] = {
     2, 0, /**/ 0, 0, 0, 0, 0, /**/ 1, 0, 1, 0, 0,
     1, 0, /**/ 1, 0, 0, 0, /**/ 0, 1, /**/ 2, 1, 2, /**/ 0, 0, 0, 0, 0, 0, 0, 0, 0,
-    0, 0,
-    1, 0, /**/ 1, 2, 0, 3,
+    2, 0, /**/ 1, 0, 0, 0, /**/ 1, 0, 1, 0, 1, 0, /**/ 0, 0, 0, 0, 255, 255, 255, 255,
+          /**/ 1, 0, 0, 0, /**/ 0, 0, 0, 0, 1, 0, /**/ 0, 0, 0, 0, 255, 255, 255, 255,
+    2, 0, /**/ 0, 0, 1, 0, /**/ 1, 2, 0, 3,
 };
 static uint8_t run[PDEVS_MAX_RUN];
 static uint8_t trace[100];
+static uint8_t rules[PDEVS_MAX_RULES_TABLE];
 static int failed;
 
 static void holds(int condition, const char *what) {
@@ -49,9 +52,14 @@ static uint64_t start(void) {
 
 static uint64_t advance(uint64_t t, size_t bag_len) {
     static const uint8_t bag[PDEVS_MAX_BAG + PDEVS_MESSAGE_SIZE] = {0};
-    pdevs_advanced a = pdevs_advance(model, sizeof model, run, sizeof run, t, bag, bag_len, trace, sizeof trace);
-    if (a.number == PDEVS_OK) holds(a.trace_bytes == t * (PDEVS_RECORD_HEAD_SIZE + PDEVS_MESSAGE_SIZE), "the size of a record");
+    pdevs_advanced a = pdevs_advance(model, sizeof model, run, sizeof run, t, bag, bag_len, trace, sizeof trace, rules, sizeof rules);
+    if (a.number == PDEVS_OK) holds(a.trace_bytes == PDEVS_RECORD_HEAD_SIZE + PDEVS_MESSAGE_SIZE, "the size of a record");
     return a.number;
+}
+
+/* Whether the table says this of the one atomic, and has no byte changed beyond it. */
+static int lit(unsigned rule) {
+    return rules[0] + 256u * rules[1] == rule && rules[PDEVS_RULES_TABLE_SIZE(1)] == 7;
 }
 
 static void calls(void) {
@@ -59,13 +67,17 @@ static void calls(void) {
     holds(pdevs_check_model(model, 1) == PDEVS_MODEL_CUT, "a cut model");
     holds(pdevs_start(model, sizeof model, run, PDEVS_RUN_SIZE(1) - 1).number == PDEVS_BUFFER_TOO_SHORT, "a short buffer");
     holds(start() == PDEVS_OK, "a start");
+    memset(rules, 7, sizeof rules);
     holds(advance(1, PDEVS_MAX_BAG + PDEVS_MESSAGE_SIZE) == PDEVS_BAD_BAG, "a bag too long");
     holds(advance(PDEVS_MAX_MOMENT + 1, 0) == PDEVS_BAD_MOMENT, "a moment too late");
+    holds(lit(7 + 256 * 7), "a refused call lights nothing");
     holds(advance(1, PDEVS_MAX_BAG) == PDEVS_OK, "the longest bag");
+    holds(lit(1), "the rule that decided");
     holds(trace[PDEVS_RECORD_MOMENT] == 1 && trace[PDEVS_RECORD_STEP] == 0, "a record's moment and step");
     holds(trace[PDEVS_RECORD_MESSAGE_COUNT] == 1, "a record's message count");
     holds(message[PDEVS_MESSAGE_PORT] == 3, "a message's port");
     holds(message[PDEVS_MESSAGE_VALUE] == 1 && message[PDEVS_MESSAGE_VALUE + 1] == 2, "a message's value");
+    holds(advance(2, 0) == PDEVS_OK && lit(PDEVS_NO_RULE), "an instant without a rule");
     holds(advance(PDEVS_MAX_MOMENT, 0) == PDEVS_BUFFER_TOO_SHORT, "the latest moment, and a trace too short for it");
     holds(pdevs_read(model, sizeof model, run, sizeof run, 1).number == PDEVS_BAD_POSITION, "a position too high");
 }
@@ -74,6 +86,7 @@ int main(void) {
     numbers();
     calls();
     holds(PDEVS_MAX_RUN == 577, "the longest run");
-    holds(strcmp(PDEVS_VERSION, "1.0") == 0, "the version");
+    holds(PDEVS_MAX_RULES_TABLE == 126, "the longest rules table");
+    holds(strcmp(PDEVS_VERSION, "2.0") == 0, "the version");
     return failed;
 }

@@ -2,7 +2,10 @@
  * A small inserter: starts a run of a model file and gives it cues from a list, putting up one line for each record of the
  * trace, that is, for each step with output at the root.
  *
- *     inserter MODEL CUES
+ *     inserter [--rules] MODEL CUES
+ *
+ * With --rules it also shows, after each instant, which rules decided: "MOMENT lit", then "none", or ATOMIC:RULE for each atomic
+ * that a rule has led; both are positions in the file from 0, the atomic's among the atomics.
  *
  * CUES is text, a cue on each line, "MOMENT PORT VALUE", with rising moments; the cues of one moment are given together. A last
  * line "end MOMENT" runs on to that moment without a cue. The exit status is 0 where everything was done, 1 where the engine
@@ -10,6 +13,7 @@
  */
 #include <inttypes.h>
 #include <stdio.h>
+#include <string.h>
 
 #include "pdevs.h"
 
@@ -18,6 +22,8 @@ static uint8_t model[PDEVS_MAX_MODEL + 1];
 static size_t model_len;
 static uint8_t run[PDEVS_MAX_RUN];
 static uint8_t trace[4096];
+static uint8_t rules[PDEVS_MAX_RULES_TABLE];
+static int show_rules;
 
 static uint64_t number_at(const uint8_t *bytes, int width) {
     uint64_t n = 0;
@@ -45,12 +51,42 @@ static void put_up(size_t length) {
 }
 
 /* Advances to t with a bag. Where the trace is full the instants done stand; they are put up, and the call is made again. */
-static uint64_t advance(uint64_t t, const uint8_t *bag, size_t bag_len) {
+static uint64_t advance_at_once(uint64_t t, const uint8_t *bag, size_t bag_len) {
     for (;;) {
-        pdevs_advanced a = pdevs_advance(model, model_len, run, sizeof run, t, bag, bag_len, trace, sizeof trace);
+        pdevs_advanced a = pdevs_advance(model, model_len, run, sizeof run, t, bag, bag_len, trace, sizeof trace, rules, 0);
         put_up(a.trace_bytes);
         if (a.number != PDEVS_BUFFER_TOO_SHORT || a.instants == 0) return a.number;
     }
+}
+
+/* Puts up which rules decided in the instant just done. A started run says how many atomics there are. */
+static void put_up_rules(uint64_t moment) {
+    uint64_t atomics = number_at(run + 8, 2), lit = 0, k;
+    printf("%" PRIu64 " lit", moment);
+    for (k = 0; k < atomics; k++) {
+        uint64_t rule = number_at(rules + PDEVS_RULES_TABLE_SIZE(k), 2);
+        if (rule != PDEVS_NO_RULE) lit++, printf(" %" PRIu64 ":%" PRIu64, k, rule);
+    }
+    printf(lit ? "\n" : " none\n");
+}
+
+/* The same with one instant in each call, since the table tells of the last one only: to each moment at which something is due
+ * before t, then to t with the bag. A bag that is refused is refused there, after the instants before it. */
+static uint64_t advance_by_instants(uint64_t t, const uint8_t *bag, size_t bag_len) {
+    for (;;) {
+        pdevs_reading next = pdevs_read(model, model_len, run, sizeof run, 0); /* refused only without atomics: nothing is due */
+        int earlier = next.number == PDEVS_OK && next.next_due < t;
+        uint64_t now = earlier ? next.next_due : t;
+        pdevs_advanced a = pdevs_advance(model, model_len, run, sizeof run, now, bag, earlier ? 0 : bag_len, trace, sizeof trace,
+                                         rules, sizeof rules);
+        put_up(a.trace_bytes);
+        if (a.instants > 0) put_up_rules(now);
+        if (a.number != PDEVS_OK || !earlier) return a.number;
+    }
+}
+
+static uint64_t advance(uint64_t t, const uint8_t *bag, size_t bag_len) {
+    return show_rules ? advance_by_instants(t, bag, bag_len) : advance_at_once(t, bag, bag_len);
 }
 
 /* What the model does next, by itself. */
@@ -101,8 +137,10 @@ int main(int count, char **arguments) {
     pdevs_written started;
     uint64_t number;
     int status;
-    if (count != 3) {
-        fprintf(stderr, "inserter MODEL CUES\n");
+    show_rules = count > 1 && strcmp(arguments[1], "--rules") == 0;
+    arguments += show_rules;
+    if (count - show_rules != 3) {
+        fprintf(stderr, "inserter [--rules] MODEL CUES\n");
         return 2;
     }
     file = fopen(arguments[1], "rb");

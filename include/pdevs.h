@@ -26,6 +26,9 @@
  * A trace has a record for each step with output at the root: moment (8), step in its instant from 0 (2), message count (2),
  * and 3 bytes for each message, in rising order of port, then value.
  *
+ * A rules table has PDEVS_RULES_TABLE_SIZE(number of atomics) bytes, for each atomic in file order the position (2) of a rule in
+ * the file, counted in rules from 0, or PDEVS_NO_RULE. PDEVS_MAX_RULES_TABLE bytes, 126, hold the table of any model.
+ *
  * A call answers a number: 0 is success, the others are refusals. PDEVS_NUMBERS below has them all, with names and words, in
  * the order of the checks. With 1 to 12 and 16, and with 15 from start and flatten, every other number answered is 0 and no
  * byte of any buffer is changed. 13, 14 and 15 from advance keep what was done before: see there.
@@ -44,9 +47,9 @@
 #include <stdint.h>
 
 /* The version of this interface: the minor number rises where something is added, the major where programs must change. */
-#define PDEVS_VERSION_MAJOR 1
+#define PDEVS_VERSION_MAJOR 2
 #define PDEVS_VERSION_MINOR 0
-#define PDEVS_VERSION PDEVS_VERSION_OF(PDEVS_VERSION_MAJOR, PDEVS_VERSION_MINOR) /* the same as a text, "1.0" */
+#define PDEVS_VERSION PDEVS_VERSION_OF(PDEVS_VERSION_MAJOR, PDEVS_VERSION_MINOR) /* the same as a text, "2.0" */
 #define PDEVS_VERSION_OF(major, minor) PDEVS_VERSION_TEXT(major, minor)
 #define PDEVS_VERSION_TEXT(major, minor) #major "." #minor
 
@@ -87,13 +90,18 @@ enum pdevs_number { PDEVS_NUMBERS(PDEVS_NAMED) };
 #define PDEVS_RECORD_STEP 8
 #define PDEVS_RECORD_MESSAGE_COUNT 10
 
-/* The bytes of a saved run. */
+/* The bytes of a saved run, and of a rules table. */
 #define PDEVS_RUN_SIZE(atomics) (10 + 9 * (atomics))
+#define PDEVS_RULES_TABLE_SIZE(atomics) (2 * (atomics))
+
+/* In a rules table: no rule. No rule of a file has this position. */
+#define PDEVS_NO_RULE 65535
 
 /* Lengths that suffice for every model. A flat model is no longer than the longest model file. */
 #define PDEVS_MAX_MODEL 32072
 #define PDEVS_MAX_ATOMICS 63
 #define PDEVS_MAX_RUN PDEVS_RUN_SIZE(PDEVS_MAX_ATOMICS)
+#define PDEVS_MAX_RULES_TABLE PDEVS_RULES_TABLE_SIZE(PDEVS_MAX_ATOMICS)
 
 /* The longest bag, in messages and in bytes, and the latest moment. */
 #define PDEVS_MAX_BAG_MESSAGES 16
@@ -147,10 +155,19 @@ pdevs_written pdevs_start(const uint8_t *model, size_t model_len, uint8_t *run, 
  * may be made again with the same t and bag and the trace anew: it goes on where this one stopped (where no instant was done,
  * the next one needs a longer trace). After 13 and 14 the same call is refused so again.
  *
- * The bytes of `run` beyond the saved run and those of `trace` beyond `trace_bytes` stay.
+ * `rules` tells which rules decided, so that they can be lit on a drawing. Where at least one instant was done, the table at
+ * its front says for each atomic which rule decided its last external part in the last instant done, also after 13, 14 and
+ * 15. An external part is what messages do to an atomic, be it due just then or not. PDEVS_NO_RULE stands where that part had
+ * no rule, and where no message reached the atomic in that instant. What the atomic does of itself later in it erases
+ * nothing, and what an earlier instant lit does not last. To see every instant, advance to each next due moment in turn.
+ * Where no instant was done, or the table has under 2 bytes an atomic, no byte of it is changed; a short table is no refusal,
+ * and one of length 0 is what a caller lends who does not want to know.
+ *
+ * The bytes of `run` beyond the saved run, of `trace` beyond `trace_bytes` and of `rules` beyond the table stay.
  */
 pdevs_advanced pdevs_advance(const uint8_t *model, size_t model_len, uint8_t *run, size_t run_len,
-                             uint64_t t, const uint8_t *bag, size_t bag_len, uint8_t *trace, size_t trace_len);
+                             uint64_t t, const uint8_t *bag, size_t bag_len, uint8_t *trace, size_t trace_len,
+                             uint8_t *rules, size_t rules_len);
 
 /*
  * Reads the atomic at a position, counted from 0 among the atomics in file order, and the whole model's next due moment.

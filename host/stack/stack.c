@@ -25,6 +25,7 @@ typedef struct {
     size_t count;
     uint64_t steps, trace_bytes; /* of all advances together */
     uint8_t run[RUN];
+    uint8_t rules[PDEVS_MAX_RULES_TABLE + 7];
     uint8_t flat[PDEVS_MAX_MODEL + 7];
     uint8_t trace[TRACE];
 } outcome;
@@ -34,7 +35,8 @@ static void say(outcome *o, uint64_t n) {
 }
 
 static void advance(outcome *o, const uint8_t *model, size_t model_len, uint64_t t, const uint8_t *bag, size_t bag_len, size_t trace_len) {
-    pdevs_advanced a = pdevs_advance(model, model_len, o->run, sizeof o->run, t, bag, bag_len, o->trace, trace_len);
+    pdevs_advanced a = pdevs_advance(model, model_len, o->run, sizeof o->run, t, bag, bag_len, o->trace, trace_len,
+                                     o->rules, sizeof o->rules);
     say(o, a.number);
     say(o, a.instants);
     say(o, a.steps);

@@ -9,6 +9,7 @@ use crate::models::{chains, damage, limits, nests};
 use crate::random::Random;
 use crate::runs::{self, RUN_DAMAGES};
 use crate::workloads::{self, Workload};
+use reference::advance;
 use reference::decode::decode;
 use reference::flatten::flat_form;
 use reference::model::Model;
@@ -35,16 +36,21 @@ impl CallList {
 
     /// Makes a call on the reference and on both engines with both forms. Answers its number.
     fn call(&mut self, call: &Call) -> u64 {
-        let mut trace = Lent::new(call.trace());
-        let answer = call.make(&NEST, &self.file, &mut self.run, &mut trace);
+        let mut beside = call.lent_beside();
+        let answer = call.make(&NEST, &self.file, &mut self.run, &mut beside);
         let forms = [Some(&self.file), self.flat.as_ref()].into_iter().flatten();
         let subjects = forms.flat_map(|file| YARDSTICKS.map(|yardstick| (file, yardstick)));
         for ((file, (name, engine)), run) in subjects.zip(&mut self.runs) {
-            let mut lent = Lent::new(call.trace());
+            let mut lent = call.lent_beside();
             assert_eq!(call.make(&engine, file, run, &mut lent), answer, "{name}: {call}");
-            assert_eq!(run.content(), self.run.content(), "{name}: the run after {call}");
-            assert_eq!(lent.content(), trace.content(), "{name}: the trace after {call}");
-            assert!(run.margins_stay() && lent.margins_stay(), "{name}: bytes outside in {call}");
+            for (what, lent, expected) in [
+                ("run", &*run, &self.run),
+                ("trace", &lent.trace, &beside.trace),
+                ("table of rules", &lent.rules, &beside.rules),
+            ] {
+                assert_eq!(lent.content(), expected.content(), "{name}: the {what} after {call}");
+                assert!(lent.margins_stay(), "{name}: bytes outside the {what} in {call}");
+            }
         }
         answer.number()
     }
@@ -85,7 +91,8 @@ fn calls_on_file(random: &mut Random, file: &[u8]) {
         return calls_on(random, &model);
     }
     let mut list = CallList::new(file, &random.bytes(100));
-    let call = Call::Advance { t: 7, bag: Vec::new(), trace: random.bytes(50) };
+    let (trace, rules) = (random.bytes(50), random.bytes(9));
+    let call = Call::Advance { t: 7, bag: Vec::new(), trace, rules };
     assert_eq!(list.call(&call), number);
 }
 
@@ -141,7 +148,8 @@ fn damaged_runs() {
             if let Some(run) = damage.apply(&mut random, &model, &run) {
                 let mut list = CallList::new(&model.encode(), &run);
                 let t = runs::open_moment(&run);
-                let call = Call::Advance { t, bag: Vec::new(), trace: random.bytes(20) };
+                let (trace, rules) = (random.bytes(20), random.bytes(150));
+                let call = Call::Advance { t, bag: Vec::new(), trace, rules };
                 assert_eq!(list.call(&call), 10, "{}", damage.name);
             }
         }
@@ -161,7 +169,8 @@ fn workloads_run_without_refusal() {
         let mut list = CallList::new(&workload.model, &vec![0; 600]);
         list.call(&Call::Start);
         for call in &workload.calls {
-            let call = Call::Advance { t: call.t, bag: call.bag.clone(), trace: vec![1; 250_000] };
+            let (trace, rules) = (vec![1; 250_000], vec![1; workload.rules_bytes]);
+            let call = Call::Advance { t: call.t, bag: call.bag.clone(), trace, rules };
             assert_eq!(list.call(&call), 0, "{}", workload.name);
         }
     }
@@ -197,9 +206,9 @@ fn stray_cues_are_strays() {
     reference::start(&workload.model, &mut run);
     let mut observed = Observed::default();
     for call in &workload.calls {
-        let (model, bag, trace) = (&workload.model, &call.bag, &mut [0; 1_000]);
-        let dropped = DeadWays::Dropped;
-        reference::advance::advance(model, &mut run, call.t, bag, trace, dropped, &mut observed);
+        let (model, bag, dropped) = (&workload.model, &call.bag, DeadWays::Dropped);
+        let lent = advance::Lent { trace: &mut [0; 1_000], rules: &mut [] };
+        advance::advance(model, &mut run, call.t, bag, lent, dropped, &mut observed);
     }
     let by_ancestors = [0, 9, 9, 9, 9, 9, 9, 1];
     assert_eq!(observed.strays, by_ancestors.map(|atomics| 40 * 14 * atomics));

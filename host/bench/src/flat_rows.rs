@@ -6,13 +6,21 @@ use crate::shared::advance::{self, Accepted, Buffers, Simulator};
 use crate::shared::deciding::entered;
 use crate::shared::held::{due_after, Held, NEVER};
 use crate::shared::keys::{put_given, put_sent};
+use crate::shared::lights::Lights;
 use crate::shared::tables::{is_output, Tables, PORTS, PORT_NODES};
 use crate::shared::unchecked::{at, front, put};
 use reference::limits;
 use reference::Advanced;
 
-pub fn advance(model: &[u8], run: &mut [u8], t: u64, bag: &[u8], trace: &mut [u8]) -> Advanced {
-    advance::advance::<FlatRows>(model, run, t, bag, trace)
+pub fn advance(
+    model: &[u8],
+    run: &mut [u8],
+    t: u64,
+    bag: &[u8],
+    trace: &mut [u8],
+    rules: &mut [u8],
+) -> Advanced {
+    advance::advance::<FlatRows>(model, run, t, bag, trace, rules)
 }
 
 /// A row is the node where a route begins, and above that the port where it ends.
@@ -68,13 +76,13 @@ impl Simulator for FlatRows {
         dues.iter().fold(NEVER, |least, &due| least.min(due))
     }
 
-    fn step(
+    fn step<L: Lights>(
         &self,
         accepted: &Accepted,
         state: &mut State,
         now: u64,
         given: &[u8],
-        buffers: &mut Buffers,
+        buffers: &mut Buffers<L>,
     ) -> usize {
         let tables = accepted.tables;
         let emits = emits(tables, state, now, !given.is_empty());
@@ -86,7 +94,8 @@ impl Simulator for FlatRows {
             if is_due || length > 0 {
                 let bag = front(buffers.bag, length);
                 let held = &mut state.held;
-                let entered = entered(accepted.model, tables, held, position, now, is_due, bag);
+                let lights = &mut buffers.lights;
+                let entered = entered(accepted, held, position, now, is_due, bag, lights);
                 let Some(phase) = entered else { continue };
                 held.change(position, phase, now);
                 put(&mut state.dues, position, due_of(accepted, held, position));

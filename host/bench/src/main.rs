@@ -164,7 +164,7 @@ fn main() -> ExitCode {
     let begun = Instant::now();
     println!("best of {} rounds, engines in turn within each round; caches warm", arguments.rounds);
     println!(
-        "the run buffer is put back before each pass over the calls; the trace is not cleared"
+        "the run buffer is put back before each pass over the calls; trace and rules are not cleared"
     );
     if cfg!(debug_assertions) {
         println!("CHECKS ARE ON: these figures mean nothing; use bench/run.sh");

@@ -31,13 +31,14 @@ impl Measured {
     }
 }
 
-/// The model that is run, and the run and trace that are lent.
+/// The model that is run, and the run, trace and table of rules that are lent.
 struct Bench<'w> {
     model: &'w [u8],
     calls: &'w [Advance],
     started: Vec<u8>,
     run: Vec<u8>,
     trace: Vec<u8>,
+    rules: Vec<u8>,
 }
 
 /// What an engine answers to everything, and the bytes that it writes.
@@ -46,7 +47,8 @@ struct Outcome {
     check: u64,
     flat: Vec<u8>,
     started: Vec<u8>,
-    advances: Vec<(Advanced, Vec<u8>)>,
+    /// With the trace and the table of rules after each.
+    advances: Vec<(Advanced, Vec<u8>, Vec<u8>)>,
     run: Vec<u8>,
     readings: Vec<Reading>,
 }
@@ -59,17 +61,17 @@ pub fn measure(
     model: &[u8],
     rounds: usize,
 ) -> Result<Measured, String> {
-    let expected = outcome(&engines[0].1, model, &workload.calls);
+    let expected = outcome(&engines[0].1, model, workload);
     for (name, engine) in engines {
-        if outcome(engine, model, &workload.calls) != expected {
+        if outcome(engine, model, workload) != expected {
             return Err(format!("{}: {name} has another outcome", workload.name));
         }
     }
-    let answers = || expected.advances.iter().map(|(answer, _)| answer);
+    let answers = || expected.advances.iter().map(|(answer, ..)| answer);
     if let Some(answer) = answers().find(|answer| answer.number != 0) {
         return Err(format!("{}: refused by {}", workload.name, answer.number));
     }
-    let mut bench = Bench::new(model, &workload.calls, &expected.started);
+    let mut bench = Bench::new(model, workload, &expected.started);
     let passes = bench.passes_in_a_round(&engines[0].1);
     let mut best = vec![f64::INFINITY; engines.len()];
     for round in 0..rounds {
@@ -84,7 +86,7 @@ pub fn measure(
 }
 
 /// Makes all five calls on a model, advance as listed.
-fn outcome(engine: &Functions, model: &[u8], calls: &[Advance]) -> Outcome {
+fn outcome(engine: &Functions, model: &[u8], workload: &Workload) -> Outcome {
     let mut flat = vec![0; model.len() + 4 * limits::COUPLINGS];
     let written = engine.flatten(model, &mut flat);
     flat.truncate(written.bytes as usize);
@@ -94,9 +96,10 @@ fn outcome(engine: &Functions, model: &[u8], calls: &[Advance]) -> Outcome {
     let started = run.clone();
     let mut trace = vec![0; TRACE_BYTES];
     let mut advances = Vec::new();
-    for call in calls {
-        let answer = engine.advance(model, &mut run, call.t, &call.bag, &mut trace);
-        advances.push((answer, trace[..answer.trace_bytes as usize].to_vec()));
+    for call in &workload.calls {
+        let mut rules = vec![0; workload.rules_bytes];
+        let answer = engine.advance(model, &mut run, call.t, &call.bag, &mut trace, &mut rules);
+        advances.push((answer, trace[..answer.trace_bytes as usize].to_vec(), rules));
     }
     let positions = 0..limits::COMPONENTS as u64;
     let readings = positions.map(|position| engine.read(model, &run, position)).collect();
@@ -104,17 +107,18 @@ fn outcome(engine: &Functions, model: &[u8], calls: &[Advance]) -> Outcome {
 }
 
 impl<'w> Bench<'w> {
-    fn new(model: &'w [u8], calls: &'w [Advance], started: &[u8]) -> Bench<'w> {
+    fn new(model: &'w [u8], workload: &'w Workload, started: &[u8]) -> Bench<'w> {
         let (started, run) = (started.to_vec(), started.to_vec());
-        Bench { model, calls, started, run, trace: vec![0; TRACE_BYTES] }
+        let (trace, rules) = (vec![0; TRACE_BYTES], vec![0; workload.rules_bytes]);
+        Bench { model, calls: &workload.calls, started, run, trace, rules }
     }
 
-    /// One pass over the calls from the started run. The trace is not cleared between calls.
+    /// One pass over the calls from the started run. Trace and rules are not cleared between calls.
     fn pass(&mut self, engine: &Functions) {
         self.run.copy_from_slice(&self.started);
         for call in self.calls {
-            let (run, trace) = (&mut self.run, &mut self.trace);
-            black_box(engine.advance(self.model, run, call.t, &call.bag, trace));
+            let (run, trace, rules) = (&mut self.run, &mut self.trace, &mut self.rules);
+            black_box(engine.advance(self.model, run, call.t, &call.bag, trace, rules));
         }
     }
 

@@ -8,14 +8,22 @@ mod sort;
 use crate::shared::advance::{self, Accepted, Buffers, Simulator};
 use crate::shared::deciding::entered;
 use crate::shared::held::{due_after, Held, NEVER};
+use crate::shared::lights::Lights;
 use crate::shared::tables::{is_output, PORTS, PORT_NODES};
 use crate::shared::unchecked::{at, front, put};
 use collect::Flow;
 use reference::limits;
 use reference::Advanced;
 
-pub fn advance(model: &[u8], run: &mut [u8], t: u64, bag: &[u8], trace: &mut [u8]) -> Advanced {
-    advance::advance::<Pulled>(model, run, t, bag, trace)
+pub fn advance(
+    model: &[u8],
+    run: &mut [u8],
+    t: u64,
+    bag: &[u8],
+    trace: &mut [u8],
+    rules: &mut [u8],
+) -> Advanced {
+    advance::advance::<Pulled>(model, run, t, bag, trace, rules)
 }
 
 /// It computes nothing in a call beyond the tables.
@@ -40,13 +48,13 @@ impl Simulator for Pulled {
         due_of_coupled(accepted, held, 0)
     }
 
-    fn step(
+    fn step<L: Lights>(
         &self,
         accepted: &Accepted,
         held: &mut Held,
         now: u64,
         given: &[u8],
-        buffers: &mut Buffers,
+        buffers: &mut Buffers<L>,
     ) -> usize {
         let tables = accepted.tables;
         let marks = marks(accepted, held, now);
@@ -71,7 +79,8 @@ impl Simulator for Pulled {
             }
             if is_due || length > 0 {
                 let bag = front(buffers.bag, length);
-                let phase = entered(accepted.model, tables, held, position, now, is_due, bag);
+                let lights = &mut buffers.lights;
+                let phase = entered(accepted, held, position, now, is_due, bag, lights);
                 if let Some(phase) = phase {
                     held.change(position, phase, now);
                 }
@@ -114,6 +123,7 @@ type ByComponent = [u16; limits::COMPONENTS];
 
 /// By component: an atomic that is due has its phase record and 1, and a coupled component is marked
 /// where a child is. With it every output is read before any transition.
+#[inline(always)]
 fn marks(accepted: &Accepted, held: &Held, now: u64) -> ByComponent {
     let tables = accepted.tables;
     let mut marks = [0; limits::COMPONENTS];
@@ -132,6 +142,7 @@ fn marks(accepted: &Accepted, held: &Held, now: u64) -> ByComponent {
 }
 
 /// By component: something may reach its inputs.
+#[inline(always)]
 fn reached(accepted: &Accepted, marks: &ByComponent, is_given: bool) -> ByComponent {
     let tables = accepted.tables;
     let mut reached = [0; limits::COMPONENTS];

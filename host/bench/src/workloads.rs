@@ -11,6 +11,7 @@ mod stations;
 use reference::builder::Builder;
 use reference::decode::decode;
 use reference::flatten::flat_form;
+use reference::lit_rules;
 use reference::records::{Phase, Rule};
 use reference::routes;
 
@@ -24,6 +25,8 @@ pub struct Workload {
     pub name: String,
     pub model: Vec<u8>,
     pub calls: Vec<Advance>,
+    /// The length of the table of rules that each call lends: 0, or just enough.
+    pub rules_bytes: usize,
 }
 
 impl Workload {
@@ -33,7 +36,15 @@ impl Workload {
     }
 
     fn with_calls(name: impl Into<String>, model: &Builder, calls: Vec<Advance>) -> Workload {
-        Workload { name: name.into(), model: model.file(), calls }
+        Workload { name: name.into(), model: model.file(), calls, rules_bytes: 0 }
+    }
+
+    /// The same calls, each with a table of rules.
+    fn lit(mut self) -> Workload {
+        let atomics = decode(&self.model).expect("an accepted model").atomics().len();
+        self.name += ", lit";
+        self.rules_bytes = lit_rules::length(atomics);
+        self
     }
 
     /// The model's flat form.

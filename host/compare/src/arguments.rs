@@ -7,6 +7,7 @@ use crate::models::nests::VALUES;
 use crate::random::Random;
 use crate::runs::open_moment;
 use reference::limits::{HIGHEST_TIME, NEVER_DUE, UNBOUNDED};
+use reference::lit_rules;
 use reference::model::Model;
 use reference::saved_run::SavedRun;
 
@@ -83,7 +84,21 @@ fn advance(random: &mut Random, file: &[u8], model: &Model, known: &Known, run: 
     };
     let bag = bag(random);
     let trace_length = trace_length(random, file, run, t, &bag);
-    Call::Advance { t, bag, trace: random.bytes(trace_length) }
+    let trace = random.bytes(trace_length);
+    Call::Advance { t, bag, trace, rules: rules_table(random, known.atomics as usize) }
+}
+
+/// A table of rules, too short or not, with any first bytes.
+pub fn rules_table(random: &mut Random, atomics: usize) -> Vec<u8> {
+    let needed = lit_rules::length(atomics);
+    let length = match random.below(10) {
+        0 => 0,
+        1 => needed.saturating_sub(1),
+        2 => random.index(needed + 1),
+        3..=6 => needed,
+        _ => needed + 1 + random.index(20),
+    };
+    random.bytes(length)
 }
 
 fn time(random: &mut Random, known: &Known, open: u64, next_due: u64) -> u64 {
@@ -173,8 +188,8 @@ fn trace_length(random: &mut Random, file: &[u8], run: &[u8], t: u64, bag: &[u8]
         };
     }
     let mut scratch = vec![0; 4 * LONG_TRACE];
-    let needed =
-        reference::advance(file, &mut run.to_vec(), t, bag, &mut scratch).trace_bytes as usize;
+    let needed = reference::advance(file, &mut run.to_vec(), t, bag, &mut scratch, &mut [])
+        .trace_bytes as usize;
     match random.below(8) {
         0..=2 => needed,
         3..=5 => needed.saturating_sub(1),

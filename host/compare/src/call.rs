@@ -8,8 +8,22 @@ use std::fmt;
 #[derive(Clone)]
 pub enum Call {
     Start,
-    Advance { t: u64, bag: Vec<u8>, trace: Vec<u8> },
-    Read { position: u64 },
+    /// With the first bytes of the lent trace and of the lent table of rules.
+    Advance {
+        t: u64,
+        bag: Vec<u8>,
+        trace: Vec<u8>,
+        rules: Vec<u8>,
+    },
+    Read {
+        position: u64,
+    },
+}
+
+/// The buffers that a call lends beside the run; empty where it lends none.
+pub struct LentBeside {
+    pub trace: Lent,
+    pub rules: Lent,
 }
 
 #[derive(Clone, Copy, Debug, PartialEq, Eq)]
@@ -32,11 +46,11 @@ impl fmt::Display for Call {
     fn fmt(&self, out: &mut fmt::Formatter) -> fmt::Result {
         match self {
             Call::Start => write!(out, "start"),
-            Call::Advance { t, bag, trace } => {
+            Call::Advance { t, bag, trace, rules } => {
+                let lengths = [trace.len(), rules.len()];
                 write!(
                     out,
-                    "advance to {t} with the bag {bag:?} and a trace of {} bytes",
-                    trace.len()
+                    "advance to {t} with the bag {bag:?} and {lengths:?} bytes of trace and rules"
                 )
             }
             Call::Read { position } => write!(out, "reading of position {position}"),
@@ -61,18 +75,31 @@ impl Call {
         }
     }
 
+    /// The first bytes of the table of rules that the call lends.
+    pub fn rules(&self) -> &[u8] {
+        match self {
+            Call::Advance { rules, .. } => rules,
+            _ => &[],
+        }
+    }
+
+    pub fn lent_beside(&self) -> LentBeside {
+        LentBeside { trace: Lent::new(self.trace()), rules: Lent::new(self.rules()) }
+    }
+
     /// Makes the call on an engine.
     pub fn make(
         &self,
         engine: &dyn Engine,
         model: &[u8],
         run: &mut Lent,
-        trace: &mut Lent,
+        beside: &mut LentBeside,
     ) -> Answer {
         match self {
             Call::Start => Answer::Written(engine.start(model, run.buffer())),
             Call::Advance { t, bag, .. } => {
-                Answer::Advanced(engine.advance(model, run.buffer(), *t, bag, trace.buffer()))
+                let (trace, rules) = (beside.trace.buffer(), beside.rules.buffer());
+                Answer::Advanced(engine.advance(model, run.buffer(), *t, bag, trace, rules))
             }
             Call::Read { position } => {
                 Answer::Reading(engine.read(model, run.content(), *position))

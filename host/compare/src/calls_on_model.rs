@@ -9,6 +9,8 @@ use crate::relations::Succeeded;
 use crate::runs;
 use reference::decode::decode;
 use reference::flatten::flat_form;
+use reference::limits::COMPONENTS;
+use reference::lit_rules;
 use reference::model::Model;
 
 pub const NAMES: [&str; 2] =
@@ -24,12 +26,14 @@ pub fn calls_on_file(
         return accepted(comparison, random, file, &model);
     }
     comparison.check_model(file)?;
-    let lengths = [random.index(40), random.index(700), random.index(40)];
+    let lengths = [40, 700, 40, 9].map(|limit| random.index(limit));
     comparison.flatten(file, &random.bytes(lengths[0]))?;
     let mut list = comparison.list(file, &random.bytes(lengths[1]));
     list.call(&Call::Start)?;
     let (t, bag, trace) = (random.next(), arguments::bag(random), random.bytes(lengths[2]));
-    list.call(&Call::Advance { t, bag, trace })?;
+    // Long enough for any model, so that a byte written would show.
+    let rules = random.bytes(lit_rules::length(COMPONENTS) + lengths[3]);
+    list.call(&Call::Advance { t, bag, trace, rules })?;
     list.call(&Call::Read { position: arguments::position(random, 3) })?;
     Ok(())
 }
@@ -91,6 +95,8 @@ fn accepted(
                 bag,
                 answer,
                 records,
+                rules_before: call.rules(),
+                rules_after: &outcome.rules,
             };
             if answer.number == 0 && random.percent(6) {
                 succeeded.holds_for_any_order(random)?;

@@ -8,9 +8,9 @@ use crate::models::damage::{self, Damage};
 use crate::models::{chains, limits, nests};
 use crate::random::Random;
 use crate::runs::{self, RunDamage, RUN_DAMAGES};
-use crate::special;
 #[cfg(test)]
-use crate::{counts::Counts, notice, worked};
+use crate::{counts::Counts, worked};
+use crate::{notice, rules_table, special};
 use reference::decode::decode;
 use reference::model::Model;
 
@@ -21,6 +21,8 @@ pub fn names() -> Vec<&'static str> {
     names.extend(RUN_DAMAGES.iter().map(|damage| damage.name));
     names.extend(special::names());
     names.extend(calls_on_model::NAMES);
+    names.extend(notice::NOTICED);
+    names.extend(rules_table::names());
     names
 }
 
@@ -133,8 +135,9 @@ fn damaged_run(
     let position = random.below(3);
     let mut list = comparison.list(&model.encode(), &run);
     let (bag, trace) = (arguments::bag(random), random.bytes(20));
+    let rules = arguments::rules_table(random, model.atomics().len());
     let t = random.pick(&[0, runs::open_moment(&run), u64::MAX]);
-    for call in [Call::Read { position }, Call::Advance { t, bag, trace }] {
+    for call in [Call::Read { position }, Call::Advance { t, bag, trace, rules }] {
         let answer = list.call(&call)?.answer;
         if answer.number() != 10 {
             return Err(format!("{}: {answer:?} instead of 10", damage.name));
@@ -185,7 +188,7 @@ fn bytes_changed(comparison: &mut Comparison, random: &mut Random) -> Compared<(
 #[test]
 fn fixed_cases_of_every_seed_meet_everything() {
     for seed in 0..40 {
-        let counts = Counts::new(names().into_iter().chain(notice::NOTICED));
+        let counts = Counts::new(names());
         let mut comparison = Comparison::new(Vec::new(), counts);
         worked::compare(&mut comparison).expect("the worked table");
         for number in 0..fixed() {

@@ -6,6 +6,7 @@ use crate::engine::{Engine, Form, Subject, Yardstick};
 use crate::laws::{self, Buffers};
 use crate::lent::Lent;
 use crate::notice;
+use crate::rules_table;
 use reference::decode::decode;
 use reference::model::Model;
 use reference::Written;
@@ -30,10 +31,11 @@ pub struct CallList<'c> {
     runs: Vec<Lent>,
 }
 
-/// What all engines answer to a call, and the content of the trace it lent.
+/// What all engines answer to a call, and the content of the trace and of the table of rules it lent.
 pub struct Outcome {
     pub answer: Answer,
     pub trace: Vec<u8>,
+    pub rules: Vec<u8>,
 }
 
 impl Comparison {
@@ -107,8 +109,9 @@ impl CallList<'_> {
     /// Makes a call on every engine.
     pub fn call(&mut self, call: &Call) -> Compared<Outcome> {
         let run_before = self.run.content().to_vec();
-        let mut trace = Lent::new(call.trace());
-        let answer = call.make(&self.yardstick, &self.file, &mut self.run, &mut trace);
+        let mut beside = call.lent_beside();
+        let answer = call.make(&self.yardstick, &self.file, &mut self.run, &mut beside);
+        let (trace, rules) = (beside.trace.content(), beside.rules.content());
         let observed = self.yardstick.take_observed();
         for (subject, run) in self.comparison.subjects.iter().zip(&mut self.runs) {
             let model = match (subject.form, &self.flat) {
@@ -117,17 +120,22 @@ impl CallList<'_> {
                 // A refused file has no flat form.
                 (Form::Flat, None) => continue,
             };
-            let mut lent = Lent::new(call.trace());
+            let mut lent = call.lent_beside();
             let engine: &dyn Engine = subject.engine.as_ref();
             let other = call.make(engine, model, run, &mut lent);
-            same(subject.name, "run buffer", &other, &answer, run, self.run.content())
-                .and_then(|()| same(subject.name, "trace", &other, &answer, &lent, trace.content()))
-                .map_err(|difference| {
+            for (what, lent, content) in [
+                ("run buffer", &*run, self.run.content()),
+                ("trace", &lent.trace, trace),
+                ("table of rules", &lent.rules, rules),
+            ] {
+                let found = same(subject.name, what, &other, &answer, lent, content);
+                found.map_err(|difference| {
                     format!("{difference}\nin {call}\n{}", shown("model", &self.file))
                 })?;
+            }
         }
-        let before = Buffers { run: &run_before, trace: call.trace() };
-        let after = Buffers { run: self.run.content(), trace: trace.content() };
+        let before = Buffers { run: &run_before, trace: call.trace(), rules: call.rules() };
+        let after = Buffers { run: self.run.content(), trace, rules };
         laws::test(self.model.as_ref(), call, &answer, &before, &after).map_err(|law| {
             format!("{law}\nin {call}, answered {answer:?}\n{}", shown("model", &self.file))
         })?;
@@ -136,7 +144,8 @@ impl CallList<'_> {
         counts.number(call.kind(), answer.number());
         counts.transitions(&observed);
         notice::notice(counts, self.model.as_ref(), call, &answer, &run_before, &observed);
-        Ok(Outcome { answer, trace: trace.content().to_vec() })
+        rules_table::notice(counts, self.model.as_ref(), call, &answer, &observed.last_instant);
+        Ok(Outcome { answer, trace: trace.to_vec(), rules: rules.to_vec() })
     }
 }
 

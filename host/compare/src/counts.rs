@@ -1,7 +1,9 @@
 //! What a comparison run has met, and what it must meet to pass.
 
 use crate::call::Kind;
+use crate::rules_table;
 use reference::limits::ANCESTORS;
+use reference::lit_rules::LastInstant;
 use reference::observed::Observed;
 use std::collections::BTreeMap;
 
@@ -59,6 +61,7 @@ impl Counts {
         let named = names_to_meet.into_iter().map(|name| (name, 0)).collect();
         let mut counts = Counts { named, ..Counts::default() };
         counts.transitions(&Observed::default());
+        counts.kinds(rules_table::kinds(&LastInstant::default()));
         counts
     }
 
@@ -84,7 +87,12 @@ impl Counts {
             ("none", observed.unchanged),
             ("coupled component whose bag dies inside", observed.bags_lost_inside),
         ];
-        for (name, count) in kinds.into_iter().chain(STRAYS.into_iter().zip(observed.strays)) {
+        self.kinds(kinds.into_iter().chain(STRAYS.into_iter().zip(observed.strays)));
+    }
+
+    /// Counts how often kinds of transitions, or of what they light, were met.
+    pub fn kinds(&mut self, kinds: impl Iterator<Item = (&'static str, u64)>) {
+        for (name, count) in kinds {
             let met = self.transitions.entry(name).or_default();
             met.in_all_cases += count;
             met.on_random_models += if self.on_a_random_model { count } else { 0 };
@@ -105,7 +113,7 @@ impl Counts {
         for (row, (_, name)) in self.numbers.iter().zip(KINDS) {
             println!("{name:>12}{}", columns(row));
         }
-        println!("transitions in all cases, and those on random models:");
+        println!("transitions and what they light in all cases, and those on random models:");
         for (name, Met { in_all_cases, on_random_models }) in &self.transitions {
             println!("{in_all_cases:>12}{on_random_models:>12}  {name}");
         }

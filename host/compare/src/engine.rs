@@ -2,6 +2,7 @@
 
 use std::cell::Cell;
 
+use reference::advance::Lent;
 pub use reference::engine::Engine;
 use reference::engine::{FLAT_MACHINE, NEST};
 use reference::nest::DeadWays;
@@ -78,10 +79,12 @@ impl Engine for Yardstick {
         t: u64,
         bag: &[u8],
         trace: &mut [u8],
+        rules: &mut [u8],
     ) -> Advanced {
         let mut observed = self.observed.take();
+        let lent = Lent { trace, rules };
         let answer =
-            reference::advance::advance(model, run, t, bag, trace, self.dead_ways, &mut observed);
+            reference::advance::advance(model, run, t, bag, lent, self.dead_ways, &mut observed);
         self.observed.set(observed);
         answer
     }

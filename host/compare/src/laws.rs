@@ -3,8 +3,9 @@
 
 use crate::call::{Answer, Call};
 #[cfg(test)]
-use reference::examples::tick_among_strays;
-use reference::limits::{HIGHEST_PORT, ROOT_BAG, STEPS_OF_AN_INSTANT, UNBOUNDED};
+use reference::examples::{relayed_hold, tick_among_strays};
+use reference::limits::{HIGHEST_PORT, NO_RULE, ROOT_BAG, STEPS_OF_AN_INSTANT, UNBOUNDED};
+use reference::lit_rules;
 use reference::little_endian::{u16_at, u64_at};
 use reference::model::Model;
 use reference::records::Message;
@@ -12,10 +13,12 @@ use reference::saved_run::{self, AtomicRun, SavedRun};
 use reference::trace::HEAD_BYTES;
 use reference::Advanced;
 
-/// The run buffer and the lent trace, before or after a call.
+/// The run buffer, the lent trace and the lent table of rules, before or after a call.
+#[derive(PartialEq)]
 pub struct Buffers<'b> {
     pub run: &'b [u8],
     pub trace: &'b [u8],
+    pub rules: &'b [u8],
 }
 
 fn holds(condition: bool, what: &str) -> Result<(), String> {
@@ -33,10 +36,7 @@ pub fn test(
     let undone_instant = matches!(answer, Answer::Advanced(a) if matches!(a.number, 13..=15));
     if answer.number() != 0 && !undone_instant {
         holds(answer.is_otherwise_zero(), "a refusal comes with zeros")?;
-        return holds(
-            before.run == after.run && before.trace == after.trace,
-            "a refusal writes no byte",
-        );
+        return holds(before == after, "a refusal writes no byte");
     }
     let model = model.ok_or("a refused file gave an outcome")?;
     let length = saved_run::length(model.atomics().len());
@@ -51,6 +51,7 @@ pub fn test(
         }
         (Call::Advance { t, bag, .. }, Answer::Advanced(answer)) => {
             test_advance(*t, !bag.is_empty(), answer, before, after)?;
+            test_lit_rules(model, answer.instants, &run_after, before.rules, after.rules)?;
             let run_before = SavedRun::read_fitting(model, before.run);
             let run_before = run_before.map_err(|_| "a run that does not fit was advanced")?;
             test_phases_without_rules(model, answer.steps, &run_before, &run_after)
@@ -100,6 +101,34 @@ fn test_advance(
         "records are of done instants",
     )?;
     holds(moments.len() as u64 <= answer.instants, "records stand for steps of instants done")
+}
+
+/// The table of rules stays where there is nothing to tell or no room for it. An entry names a rule of its
+/// atomic, which has begun a stay in the last instant.
+fn test_lit_rules(
+    model: &Model,
+    instants: u64,
+    run_after: &SavedRun,
+    before: &[u8],
+    after: &[u8],
+) -> Result<(), String> {
+    let atomics = model.atomics();
+    let length = lit_rules::length(atomics.len());
+    if instants == 0 || before.len() < length {
+        return holds(before == after, "without an instant, or too short, the table stays");
+    }
+    holds(before[length..] == after[length..], "bytes past the table's entries stay")?;
+    let last_instant = run_after.atomics.iter().map(|atomic| atomic.last).max();
+    for (rank, (atomic, now)) in atomics.into_iter().zip(&run_after.atomics).enumerate() {
+        let entry = u16_at(after, lit_rules::length(rank));
+        if entry != NO_RULE {
+            let rule = model.rules.get(usize::from(entry));
+            let is_its_own = rule.is_some_and(|rule| usize::from(rule.component) == atomic);
+            holds(is_its_own, "an entry names a rule of its atomic")?;
+            holds(Some(now.last) == last_instant, "a rule that is lit began a stay just then")?;
+        }
+    }
+    Ok(())
 }
 
 /// Whatever reaches an atomic in a phase that no rule names, it stays there until it is due, and then
@@ -169,15 +198,41 @@ fn a_stay_begun_afresh_by_a_stray_is_told() {
     for (open, last, t, right, wrong) in
         [(0, 0, 3, 0, 3), (0, 0, 5, 5, 3), (3, 2, 4, 2, 4), (6, 5, 13, 10, 13)]
     {
-        let call = Call::Advance { t, bag: vec![0; 3], trace: Vec::new() };
+        let call = Call::Advance { t, bag: vec![0; 3], trace: Vec::new(), rules: Vec::new() };
         let answer = Advanced { number: 0, instants: 2, steps: 2, trace_bytes: 0 };
         let law = |last_after| {
-            let before = Buffers { run: &run(open, last), trace: &[] };
-            let after = Buffers { run: &run(t + 1, last_after), trace: &[] };
+            let before = Buffers { run: &run(open, last), trace: &[], rules: &[] };
+            let after = Buffers { run: &run(t + 1, last_after), trace: &[], rules: &[] };
             test(Some(&model), &call, &Answer::Advanced(answer), &before, &after)
         };
         assert_eq!(law(right), Ok(()));
         let told = "this does not hold: a phase without rules lasts until it is due";
         assert_eq!(law(wrong), Err(told.into()));
+    }
+}
+
+#[test]
+fn a_table_that_cannot_be_is_told() {
+    let model = relayed_hold(1, 0).model();
+    // The relay had its last transition in an earlier instant, the hold in this one.
+    let run = SavedRun { open: 7, atomics: [4, 6].map(|last| AtomicRun { phase: 1, last }).into() };
+    let law = |instants: u64, before: &[u8], after: &[u8]| {
+        test_lit_rules(&model, instants, &run, before, after)
+    };
+    let lit = |relay: u8, hold: u8| [relay, 255, hold, 0, 9];
+    let right = [255, 255, 4, 0, 9];
+    assert_eq!(law(1, &[9; 5], &right), Ok(()));
+    assert_eq!(law(1, &[9; 3], &[9; 3]), Ok(()));
+    assert_eq!(law(0, &[9; 5], &[9; 5]), Ok(()));
+    for (instants, before, after) in [
+        (0, &[9; 5][..], &right[..]),
+        (1, &[9; 3], &right[..3]),
+        (1, &[8; 5], &right),
+        (1, &[9; 5], &lit(254, 4)),
+        (1, &[9; 5], &lit(255, 2)),
+        (1, &[9; 5], &lit(255, 8)),
+        (1, &[9; 5], &[0, 0, 4, 0, 9]),
+    ] {
+        assert!(law(instants, before, after).is_err(), "{after:?} after {before:?}");
     }
 }

@@ -4,7 +4,7 @@
 //! `compare --calls N --seed S` runs until N calls are compared; `--case K` repeats one case alone.
 //! The run fails where an answer or a byte of a lent buffer differs, where a line of the papers does
 //! not hold, and where a refusal number, a kind of transition or a boundary was never met. Each kind of
-//! transition must be met on random models too: a run of less than 10,000 calls may have too few of them.
+//! transition must be met on random models too: a run of less than 20,000 calls may have too few of them.
 
 mod arguments;
 mod call;
@@ -20,6 +20,7 @@ mod naive_routes;
 mod notice;
 mod random;
 mod relations;
+mod rules_table;
 mod runs;
 mod special;
 mod worked;
@@ -110,7 +111,7 @@ fn main() -> ExitCode {
     let subjects = engine::subjects();
     let names: Vec<&str> = subjects.iter().map(|subject| subject.name).collect();
     println!("seed {}, engines: {}", arguments.seed, names.join("; "));
-    let counts = Counts::new(cases::names().into_iter().chain(notice::NOTICED));
+    let counts = Counts::new(cases::names());
     let mut comparison = Comparison::new(subjects, counts);
     let begun = Instant::now();
     if let Err(fault) = run(&arguments, &mut comparison) {

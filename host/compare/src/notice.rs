@@ -86,7 +86,7 @@ pub fn notice(
             let highest = open_moment(run_before) == HIGHEST_OPEN_MOMENT;
             meet(read && highest, "read: open moment 10^12 + 1");
         }
-        (Call::Advance { t, bag, trace }, Answer::Advanced(advanced)) => {
+        (Call::Advance { t, bag, trace, .. }, Answer::Advanced(advanced)) => {
             let open = open_moment(run_before);
             let done = number == 0;
             meet(exact && done, "advance: run exactly long enough");

@@ -4,6 +4,7 @@ use crate::call::{Answer, Call};
 use crate::comparison::{CallList, Compared, Comparison};
 use reference::builder::{bag, Builder};
 use reference::examples::{cue_source, endless};
+use reference::limits::NO_RULE;
 use reference::little_endian::u64_at;
 use reference::saved_run;
 use reference::trace::HEAD_BYTES;
@@ -22,6 +23,8 @@ struct Row {
     /// The moments of the records; each has the one message (1, 8) in step 0.
     records: Vec<u64>,
     open: u64,
+    /// The rules lit for the two atomics; none where the table stays as it was.
+    lit: Option<[u16; 2]>,
 }
 
 impl Row {
@@ -36,9 +39,13 @@ impl Row {
             steps: 6,
             records: vec![20, 30],
             open: 31,
+            lit: Some([NO_RULE, 1]),
         }
     }
 }
+
+/// The lent table of rules, with room for two atomics.
+const FIRST_RULES: [u8; 5] = [0xA5; 5];
 
 fn rows() -> Vec<Row> {
     let cues = || cue_source(0, 1);
@@ -70,6 +77,7 @@ fn rows() -> Vec<Row> {
             steps: 1,
             records: vec![],
             open: 1,
+            lit: Some([NO_RULE; 2]),
             ..Row::new("[E]", cues())
         },
         Row::new("[F]", cue_source(0, 2)),
@@ -80,6 +88,7 @@ fn rows() -> Vec<Row> {
             steps: 0,
             records: vec![],
             open: 0,
+            lit: None,
             ..Row::new("[G]", endless())
         },
         Row {
@@ -88,6 +97,7 @@ fn rows() -> Vec<Row> {
             instants: 0,
             steps: 0,
             records: vec![],
+            lit: None,
             ..Row::new("[H]", cues())
         },
     ]
@@ -110,7 +120,8 @@ fn run_row(row: &Row, list: &mut CallList) -> Compared<()> {
     let mut outcome = None;
     for (t, bag) in &row.calls {
         let trace = vec![0xA5; row.trace_length];
-        outcome = Some(list.call(&Call::Advance { t: *t, bag: bag.clone(), trace })?);
+        let rules = FIRST_RULES.to_vec();
+        outcome = Some(list.call(&Call::Advance { t: *t, bag: bag.clone(), trace, rules })?);
     }
     let bytes = row.records.len() * (HEAD_BYTES + 3);
     let expected = Answer::Advanced(Advanced {
@@ -130,6 +141,14 @@ fn run_row(row: &Row, list: &mut CallList) -> Compared<()> {
     }
     if outcome.trace[..bytes] != records {
         return Err("the records differ from the table".into());
+    }
+    let mut rules = FIRST_RULES;
+    if let Some([first, second]) = row.lit {
+        rules[..2].copy_from_slice(&first.to_le_bytes());
+        rules[2..4].copy_from_slice(&second.to_le_bytes());
+    }
+    if outcome.rules != rules {
+        return Err(format!("the table of rules is {:?}, not {rules:?}", outcome.rules));
     }
     if u64_at(list.run(), 0) != row.open {
         return Err(format!("the open moment is {}, not {}", u64_at(list.run(), 0), row.open));

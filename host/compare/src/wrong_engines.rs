@@ -1,15 +1,15 @@
 //! Engines with one fault each, made of the reference: the comparison must find every one.
 
+mod lit_rules;
 mod stays;
 
 use crate::cases;
 use crate::comparison::Comparison;
 use crate::counts::Counts;
 use crate::engine::{Engine, Form, Subject};
-use crate::notice;
 use crate::random::Random;
 use crate::{special, worked};
-use reference::flat_machine::{entry_after, Change};
+use reference::flat_machine::{changed, Change};
 use reference::little_endian::{put_u64, u64_at};
 use reference::{Advanced, Reading, Written};
 use std::ops::Range;
@@ -39,6 +39,7 @@ enum Fault {
     NextDueNeverIs0,
     PositionOfOneByte,
     FlatteningCopies,
+    AboutLitRules(lit_rules::Wrong),
 }
 
 const FAULTS: [Fault; 19] = [
@@ -91,7 +92,7 @@ struct Faulty(Fault);
 /// The transition of an engine that is the flat machine but for that; none for other engines.
 fn transition(fault: Fault) -> Option<Box<Change<'static>>> {
     Some(match fault {
-        Fault::NoneInTheFlatMachine => Box::new(entry_after),
+        Fault::NoneInTheFlatMachine => Box::new(changed),
         Fault::TakesARuleIntoTheSamePhaseForAStray => Box::new(stays::same_phase_is_a_stray),
         Fault::ConfluentWithoutARuleKeepsTheLastMoment { order } => {
             Box::new(move |brought| stays::confluent_keeps_last_moment(order, brought))
@@ -127,6 +128,7 @@ impl Engine for Faulty {
         t: u64,
         bag: &[u8],
         trace: &mut [u8],
+        rules: &mut [u8],
     ) -> Advanced {
         let given = match self.0 {
             Fault::ForgetsTheBag if bag.len() <= 48 => Vec::new(),
@@ -135,12 +137,19 @@ impl Engine for Faulty {
         };
         let before = run.to_vec();
         let mut answer = match (transition(self.0), self.0) {
-            (Some(mut change), _) => stays::advance_by(&mut change, model, run, t, &given, trace),
-            (None, Fault::BeginsTheStayAfreshAtAStray) => {
-                let model = stays::with_rules_for_strays(model);
-                reference::advance(&model, run, t, &given, trace)
+            (Some(mut change), _) => {
+                stays::advance_by(&mut change, model, run, t, &given, trace, rules)
             }
-            (None, _) => reference::advance(model, run, t, &given, trace),
+            (None, Fault::BeginsTheStayAfreshAtAStray) => {
+                let (run_here, trace_here) = (&mut before.clone(), &mut trace.to_vec());
+                reference::advance(model, run_here, t, &given, trace_here, rules);
+                let model = stays::with_rules_for_strays(model);
+                reference::advance(&model, run, t, &given, trace, &mut [])
+            }
+            (None, Fault::AboutLitRules(wrong)) => {
+                wrong.advance(model, run, t, &given, trace, rules)
+            }
+            (None, _) => reference::advance(model, run, t, &given, trace, rules),
         };
         let used = answer.trace_bytes as usize;
         match (self.0, answer.number) {
@@ -189,8 +198,7 @@ impl Engine for Faulty {
 fn comparison_with(fault: Fault) -> Comparison {
     let engine = Box::new(Faulty(fault));
     let subject = Subject { name: "faulty", engine, form: Form::AsGiven };
-    let counts = Counts::new(cases::names().into_iter().chain(notice::NOTICED));
-    Comparison::new(vec![subject], counts)
+    Comparison::new(vec![subject], Counts::new(cases::names()))
 }
 
 /// Runs the worked table and the cases of these numbers, until a difference is found.
@@ -215,7 +223,8 @@ fn find_on_random_models(fault: Fault, models: u64) -> Option<String> {
 
 #[test]
 fn every_fault_is_found() {
-    for fault in FAULTS {
+    let about_lit_rules = lit_rules::ALL.map(|(wrong, ..)| Fault::AboutLitRules(wrong));
+    for fault in FAULTS.into_iter().chain(about_lit_rules) {
         assert!(find(fault, 0..600).is_some(), "{fault:?} was not found");
     }
 }
@@ -234,6 +243,26 @@ fn rows_alone_find_what_is_wrong_about_stays() {
             special::strays::on_each_level(&mut comparison_with(fault), &mut Random::new(1));
         let difference = found.expect_err("a row tells the fault");
         assert!(difference.starts_with(&format!("{row}, ")), "{fault:?} is told by {difference}");
+    }
+}
+
+#[test]
+fn random_models_alone_find_what_is_wrong_about_lit_rules() {
+    for (wrong, _, models) in lit_rules::ALL {
+        let found = find_on_random_models(Fault::AboutLitRules(wrong), models);
+        assert!(found.is_some(), "{wrong:?} was not found");
+    }
+}
+
+#[test]
+fn rows_alone_find_what_is_wrong_about_lit_rules() {
+    for (wrong, row, _) in lit_rules::ALL {
+        let mut comparison = comparison_with(Fault::AboutLitRules(wrong));
+        let mut random = Random::new(1);
+        let found = special::lit_rules::on_each_level(&mut comparison, &mut random)
+            .and_then(|()| special::lit_rules::positions(&mut comparison, &mut random));
+        let difference = found.expect_err("a row tells the fault");
+        assert!(difference.starts_with(&format!("{row}, ")), "{wrong:?} is told by {difference}");
     }
 }
 

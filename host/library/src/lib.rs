@@ -51,6 +51,8 @@ extern "C" {
         bag_len: usize,
         trace: *mut u8,
         trace_len: usize,
+        rules: *mut u8,
+        rules_len: usize,
     ) -> PdevsAdvanced;
     fn pdevs_read(
         model: *const u8,
@@ -81,7 +83,14 @@ pub fn start(model: &[u8], run: &mut [u8]) -> Written {
     unsafe { pdevs_start(model.as_ptr(), model.len(), run.as_mut_ptr(), run.len()) }.into()
 }
 
-pub fn advance(model: &[u8], run: &mut [u8], t: u64, bag: &[u8], trace: &mut [u8]) -> Advanced {
+pub fn advance(
+    model: &[u8],
+    run: &mut [u8],
+    t: u64,
+    bag: &[u8],
+    trace: &mut [u8],
+    rules: &mut [u8],
+) -> Advanced {
     let answer = unsafe {
         pdevs_advance(
             model.as_ptr(),
@@ -93,6 +102,8 @@ pub fn advance(model: &[u8], run: &mut [u8], t: u64, bag: &[u8], trace: &mut [u8
             bag.len(),
             trace.as_mut_ptr(),
             trace.len(),
+            rules.as_mut_ptr(),
+            rules.len(),
         )
     };
     Advanced {

@@ -3,10 +3,17 @@
 use crate::answers::{Advanced, Reading, BAD_POSITION, BUFFER_TOO_SHORT, SUCCESS};
 use crate::checks;
 use crate::limits;
+use crate::lit_rules::{LastInstant, LitRules};
 use crate::nest::{self, DeadWays};
 use crate::observed::Observed;
 use crate::records::Message;
 use crate::root_coordinator::RootCoordinator;
+
+/// The buffers that an advance writes beside the run: the trace, and the table of rules that decided.
+pub struct Lent<'l> {
+    pub trace: &'l mut [u8],
+    pub rules: &'l mut [u8],
+}
 
 /// Advances a run to the moment t, with the bag given there.
 pub fn advance(
@@ -14,7 +21,7 @@ pub fn advance(
     run: &mut [u8],
     t: u64,
     bag: &[u8],
-    trace: &mut [u8],
+    lent: Lent,
     dead_ways: DeadWays,
     observed: &mut Observed,
 ) -> Advanced {
@@ -28,14 +35,26 @@ pub fn advance(
     };
     let root = nest::root(&model, dead_ways);
     let mut coordinator = RootCoordinator::load(&root, &saved.atomics);
-    let (answer, open) = run_to(&mut coordinator, saved.open, t, &given, trace, observed);
+    let trace = lent.trace;
+    let Ran { answer, open, lit } =
+        run_to(&mut coordinator, saved.open, t, &given, trace, observed);
+    if let Some(lit) = lit {
+        lit.write(lent.rules);
+    }
     saved.open = open;
     coordinator.save(&mut saved.atomics);
     saved.write(run);
     answer
 }
 
-/// Does the instants due before t, then t with the bag. Answers the call's numbers and the open moment.
+/// What the instants of a call came to: its numbers, the open moment, and what the last instant lit.
+struct Ran {
+    answer: Advanced,
+    open: u64,
+    lit: Option<LitRules>,
+}
+
+/// Does the instants due before t, then t with the bag.
 fn run_to(
     coordinator: &mut RootCoordinator,
     first_open: u64,
@@ -43,32 +62,41 @@ fn run_to(
     given: &[Message],
     trace: &mut [u8],
     observed: &mut Observed,
-) -> (Advanced, u64) {
-    let mut answer = Advanced::refused(SUCCESS);
-    let mut open = first_open;
+) -> Ran {
+    let mut ran = Ran { answer: Advanced::refused(SUCCESS), open: first_open, lit: None };
+    let mut lit_earlier = vec![false; coordinator.atomics()];
     loop {
         let due = coordinator.due();
         let now = due.filter(|&due| due < t).unwrap_or(t);
         let bag = if now == t { given } else { &[] };
         if due == Some(now) || !bag.is_empty() {
-            let instant = match coordinator.instant(now, bag, observed) {
-                Ok(instant) => instant,
-                Err(number) => return (Advanced { number, ..answer }, open),
+            let instant = coordinator.instant(now, bag, observed);
+            let room = &mut trace[ran.answer.trace_bytes as usize..];
+            let length = instant.records.len();
+            ran.answer.number = match instant.number {
+                SUCCESS if length > room.len() => BUFFER_TOO_SHORT,
+                number => number,
             };
-            let written = answer.trace_bytes as usize;
-            let end = written + instant.records.len();
-            if end > trace.len() {
-                return (Advanced { number: BUFFER_TOO_SHORT, ..answer }, open);
+            if ran.answer.number != SUCCESS {
+                if let Some(last) = &ran.lit {
+                    observed.last_instant.left_undone(last, &instant.lit);
+                }
+                return ran;
             }
-            trace[written..end].copy_from_slice(&instant.records);
+            room[..length].copy_from_slice(&instant.records);
             *coordinator = instant.after;
-            answer.instants += 1;
-            answer.steps += instant.steps;
-            answer.trace_bytes = end as u64;
-            open = now + 1;
+            ran.answer.instants += 1;
+            ran.answer.steps += instant.steps;
+            ran.answer.trace_bytes += length as u64;
+            ran.open = now + 1;
+            observed.last_instant = LastInstant::new(&instant.lit, &lit_earlier);
+            let lit_here = instant.lit.rules().map(|rule| rule.is_some());
+            lit_earlier.iter_mut().zip(lit_here).for_each(|(earlier, here)| *earlier |= here);
+            ran.lit = Some(instant.lit);
         }
         if now == t {
-            return (answer, t + 1);
+            ran.open = t + 1;
+            return ran;
         }
     }
 }

@@ -12,12 +12,13 @@ pub trait Engine {
         t: u64,
         bag: &[u8],
         trace: &mut [u8],
+        rules: &mut [u8],
     ) -> Advanced;
     fn read(&self, model: &[u8], run: &[u8], position: u64) -> Reading;
     fn flatten(&self, model: &[u8], out: &mut [u8]) -> Written;
 }
 
-type Advancing = fn(&[u8], &mut [u8], u64, &[u8], &mut [u8]) -> Advanced;
+type Advancing = fn(&[u8], &mut [u8], u64, &[u8], &mut [u8], &mut [u8]) -> Advanced;
 
 /// The functions of one engine.
 pub struct Functions {
@@ -61,8 +62,9 @@ impl Engine for Functions {
         t: u64,
         bag: &[u8],
         trace: &mut [u8],
+        rules: &mut [u8],
     ) -> Advanced {
-        (self.advance)(model, run, t, bag, trace)
+        (self.advance)(model, run, t, bag, trace, rules)
     }
 
     fn read(&self, model: &[u8], run: &[u8], position: u64) -> Reading {

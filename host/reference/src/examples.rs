@@ -192,3 +192,70 @@ pub fn tick_among_strays(ancestors: usize, order: u8) -> Builder {
     (1..=tick).for_each(|inside| model.couple(inside - 1, 0, inside, 0));
     model
 }
+
+/// What a `relayed_hold` hears beside the cues of a `hold`: it flashes, and its relay jams.
+pub const FLASH: u16 = 3;
+pub const JAM: u16 = 6;
+
+/// Where the relay and the hold of a `relayed_hold` stand among its atomics.
+pub const RELAY: usize = 0;
+pub const RELAYED: usize = 1;
+
+/// A hold with so many ancestors that hears the root's input 0, and a relay under the root that hears
+/// input 1 and tells the hold of it one step later: several steps at one moment. The relay sends the
+/// first cue by itself at 4. It stands before the hold in the file, and after it in the tree where
+/// there are components around the hold. The hold flashes in phase 2, for no time, and pauses in phase 3.
+pub fn relayed_hold(ancestors: usize, order: u8) -> Builder {
+    let mut model = Builder::new();
+    let outermost = model.coupled_chain(0, usize::from(ancestors > 1));
+    let relay_phases = [
+        phase(4, 1, &[(0, CUE)]),
+        phase(NEVER, 1, &[]),
+        phase(0, 1, &[(0, CUE), (0, AGAIN)]),
+        phase(0, 1, &[(0, STRAY)]),
+        phase(0, 4, &[]),
+    ];
+    let relay = model.atomic(0, &relay_phases);
+    let innermost = model.coupled_chain(outermost, ancestors.saturating_sub(2));
+    let hold_phases = [
+        phase(NEVER, 0, &[]),
+        phase(5, 0, &[(0, 100)]),
+        phase(0, 3, &[(0, 101)]),
+        phase(7, 0, &[(0, 102)]),
+    ];
+    let hold = model.atomic_from(innermost, 0, order, &hold_phases);
+    for (cue, to) in [(CUE, 2), (STRAY, 3), (JAM, 4)] {
+        model.rule(Rule { port: 1, ..rule(relay, 1, cue, to) });
+    }
+    for (from, cue, low_elapsed, high_elapsed, to) in [
+        (0, CUE, 0, UNBOUNDED, 1),
+        (1, AGAIN, 0, UNBOUNDED, 1),
+        (1, FLASH, 0, UNBOUNDED, 2),
+        (1, AT_THE_END, 5, 5, 3),
+        (0, AT_THE_END, 0, 0, 3),
+    ] {
+        model.rule(Rule { low_elapsed, high_elapsed, ..rule(hold, from, cue, to) });
+    }
+    let way_down: Vec<usize> = (0..=hold).filter(|&component| component != relay).collect();
+    for pair in way_down.windows(2) {
+        model.couple(pair[0], 0, pair[1], 0);
+        model.couple(pair[1], 0, pair[0], 0);
+    }
+    model.couple(0, 1, relay, 1);
+    model.couple(relay, 0, way_down[1], 0);
+    model
+}
+
+/// So many rules of one atomic, joined to the root's input 0: each but the last wants value 9, and the
+/// last wants 7.
+pub fn last_rule_decides(rules: usize) -> Builder {
+    let mut model = Builder::new();
+    let resting: Vec<_> = (0..64).map(|_| phase(NEVER, 0, &[])).collect();
+    let atomic = model.atomic(0, &resting);
+    model.couple(0, 0, atomic, 0);
+    for number in 1..=rules {
+        let (value, to) = if number == rules { (7, 63) } else { (9, 1) };
+        model.rule(rule(atomic, 0, value, to));
+    }
+    model
+}

@@ -7,7 +7,8 @@ use crate::answers::{
 };
 use crate::atomic::Atomic;
 use crate::checks;
-use crate::limits;
+use crate::limits::{self, NO_RULE};
+use crate::lit_rules;
 use crate::little_endian::{put_u64, u64_at};
 use crate::model::Model;
 use crate::records::{Coupling, Message};
@@ -39,11 +40,18 @@ pub fn read(flat: &[u8], run: &[u8], position: u64) -> Reading {
 }
 
 /// Advance takes its instants in turn, each on a copy of the state.
-pub fn advance(flat: &[u8], run: &mut [u8], t: u64, bag: &[u8], trace: &mut [u8]) -> Advanced {
-    advance_by(&mut entry_after, flat, run, t, bag, trace)
+pub fn advance(
+    flat: &[u8],
+    run: &mut [u8],
+    t: u64,
+    bag: &[u8],
+    trace: &mut [u8],
+    rules: &mut [u8],
+) -> Advanced {
+    advance_by(&mut changed, flat, run, t, bag, trace, rules)
 }
 
-/// Advance of a machine whose atomics change as is said here. Only tests say anything but `entry_after`:
+/// Advance of a machine whose atomics change as is said here. Only tests say anything but `changed`:
 /// they try what a machine with a wrong transition would do.
 pub fn advance_by(
     change: &mut Change,
@@ -52,6 +60,7 @@ pub fn advance_by(
     t: u64,
     bag: &[u8],
     trace: &mut [u8],
+    rules: &mut [u8],
 ) -> Advanced {
     let (model, given) = match checks::model_and_run(flat, run)
         .and_then(|(model, saved)| Ok((model, checks::time_and_bag(saved.open, t, bag)?)))
@@ -62,7 +71,7 @@ pub fn advance_by(
     let machine = Machine::new(&model);
     let mut answer = Advanced::refused(SUCCESS);
     while let Some(moment) = machine.next_instant(run, t, &given) {
-        let mut copy = run[..saved_run::length(machine.atomics.len())].to_vec();
+        let mut copy = machine.copy_of(run);
         let mut records = Vec::new();
         let given_here = if moment == t { &given[..] } else { &[] };
         let steps = match machine.steps_at(change, &mut copy, moment, given_here, &mut records) {
@@ -73,8 +82,11 @@ pub fn advance_by(
         if records.len() as u64 > room {
             return Advanced { number: BUFFER_TOO_SHORT, ..answer };
         }
-        put_u64(&mut copy, 0, moment + 1);
-        run[..copy.len()].copy_from_slice(&copy);
+        put_u64(&mut copy.run, 0, moment + 1);
+        run[..copy.run.len()].copy_from_slice(&copy.run);
+        if rules.len() >= copy.rules.len() {
+            rules[..copy.rules.len()].copy_from_slice(&copy.rules);
+        }
         let rest = &mut trace[answer.trace_bytes as usize..];
         rest[..records.len()].copy_from_slice(&records);
         answer.instants += 1;
@@ -95,16 +107,27 @@ pub struct Brought<'s> {
     pub bag: &'s [Message],
 }
 
-/// Says the entry of an atomic after a step.
-pub type Change<'c> = dyn FnMut(&Brought) -> AtomicRun + 'c;
+/// What a step makes of an atomic: its entry in the run, and in the table of rules, where it has an
+/// external part in this step.
+#[derive(Clone, Copy, Debug, PartialEq, Eq)]
+pub struct After {
+    pub entry: AtomicRun,
+    pub rule: Option<u16>,
+}
 
-/// The entry of an atomic after a step. It stays as it is where nothing happens to the atomic, and where
-/// it is not due and no rule holds for its bag.
-pub fn entry_after(brought: &Brought) -> AtomicRun {
+/// Says what a step makes of an atomic.
+pub type Change<'c> = dyn FnMut(&Brought) -> After + 'c;
+
+/// The entry stays as it is where nothing happens to the atomic, and where it is not due and no rule holds
+/// for its bag.
+pub fn changed(brought: &Brought) -> After {
     let Brought { atomic, entry, moment, is_due, bag, .. } = *brought;
     let old = entry.phase;
-    let led = |from: u8, elapsed: u64| {
-        atomic.deciding_rule(from, elapsed, bag).map(|(_, next_phase)| next_phase)
+    let mut rule = None;
+    let mut led = |from: u8, elapsed: u64| {
+        let deciding = atomic.deciding_rule(from, elapsed, bag);
+        rule = Some(deciding.map_or(NO_RULE, |(position, _)| position as u16));
+        deciding.map(|(_, next_phase)| next_phase)
     };
     let entered = match (is_due, bag.is_empty()) {
         (false, true) => None,
@@ -119,12 +142,18 @@ pub fn entry_after(brought: &Brought) -> AtomicRun {
             Some(atomic.next_phase(led(old, advance).unwrap_or(old)))
         }
     };
-    entered.map_or(entry, |phase| AtomicRun { phase, last: moment })
+    After { entry: entered.map_or(entry, |phase| AtomicRun { phase, last: moment }), rule }
 }
 
 struct Machine<'m> {
     atomics: Vec<Atomic<'m>>,
     couplings: &'m [Coupling],
+}
+
+/// What an instant works on: a copy of the state, and of the rules that it lights.
+struct Copied {
+    run: Vec<u8>,
+    rules: Vec<u8>,
 }
 
 /// A message at the port that it leaves: an atomic by its rank from 1, or the root's input as 0.
@@ -156,6 +185,15 @@ impl<'m> Machine<'m> {
         Machine { atomics, couplings: &flat.couplings }
     }
 
+    /// Of the rules an instant takes none over.
+    fn copy_of(&self, run: &[u8]) -> Copied {
+        let atomics = self.atomics.len();
+        Copied {
+            run: run[..saved_run::length(atomics)].to_vec(),
+            rules: NO_RULE.to_le_bytes().repeat(atomics),
+        }
+    }
+
     fn due(&self, state: &[u8], rank: usize) -> Option<u64> {
         let advance = self.atomics[rank].advance(phase(state, rank))?;
         Some(last(state, rank) + advance)
@@ -180,18 +218,18 @@ impl<'m> Machine<'m> {
     fn steps_at(
         &self,
         change: &mut Change,
-        state: &mut [u8],
+        copy: &mut Copied,
         moment: u64,
         given: &[Message],
         records: &mut Vec<u8>,
     ) -> Result<u64, u64> {
         let mut root_bags = Vec::new();
-        root_bags.push(self.step(change, state, moment, given));
-        while self.next_due(state) == Some(moment) {
+        root_bags.push(self.step(change, copy, moment, given));
+        while self.next_due(&copy.run) == Some(moment) {
             if root_bags.len() as u64 == limits::STEPS_OF_AN_INSTANT {
                 return Err(STILL_DUE);
             }
-            root_bags.push(self.step(change, state, moment, &[]));
+            root_bags.push(self.step(change, copy, moment, &[]));
         }
         if root_bags.iter().any(|bag| bag.len() > limits::ROOT_BAG) {
             return Err(ROOT_BAG_LIMIT);
@@ -208,10 +246,11 @@ impl<'m> Machine<'m> {
     fn step(
         &self,
         change: &mut Change,
-        state: &mut [u8],
+        copy: &mut Copied,
         moment: u64,
         given: &[Message],
     ) -> Vec<Message> {
+        let state = &mut copy.run;
         let is_due: Vec<bool> =
             (0..self.atomics.len()).map(|rank| self.due(state, rank) == Some(moment)).collect();
         let mut sent: Vec<Sent> =
@@ -226,8 +265,12 @@ impl<'m> Machine<'m> {
             let (is_due, bag) = (is_due[rank], &bags[rank + 1][..]);
             let after = change(&Brought { atomic, rank, entry, moment, is_due, bag });
             let at = HEAD_BYTES + ATOMIC_BYTES * rank;
-            state[at] = after.phase;
-            put_u64(state, at + 1, after.last);
+            state[at] = after.entry.phase;
+            put_u64(state, at + 1, after.entry.last);
+            if let Some(rule) = after.rule {
+                let at = lit_rules::length(rank);
+                copy.rules[at..at + 2].copy_from_slice(&rule.to_le_bytes());
+            }
         }
         bags.swap_remove(0)
     }

@@ -16,6 +16,7 @@ pub mod examples;
 pub mod flat_machine;
 pub mod flatten;
 pub mod limits;
+pub mod lit_rules;
 pub mod little_endian;
 pub mod model;
 pub mod nest;
@@ -32,6 +33,7 @@ pub use answers::{Advanced, Reading, Written};
 pub use flatten::flatten;
 pub use saved_run::start;
 
+use advance::Lent;
 use nest::DeadWays;
 use observed::Observed;
 
@@ -40,7 +42,15 @@ pub fn check_model(model: &[u8]) -> u64 {
     decode::decode(model).err().unwrap_or(answers::SUCCESS)
 }
 
-/// Advances a run to the moment t, with the bag given there.
-pub fn advance(model: &[u8], run: &mut [u8], t: u64, bag: &[u8], trace: &mut [u8]) -> Advanced {
-    advance::advance(model, run, t, bag, trace, DeadWays::Dropped, &mut Observed::default())
+/// Advances a run to the moment t, with the bag given there, and lights what decided in the last instant.
+pub fn advance(
+    model: &[u8],
+    run: &mut [u8],
+    t: u64,
+    bag: &[u8],
+    trace: &mut [u8],
+    rules: &mut [u8],
+) -> Advanced {
+    let lent = Lent { trace, rules };
+    advance::advance(model, run, t, bag, lent, DeadWays::Dropped, &mut Observed::default())
 }

@@ -21,5 +21,8 @@ pub const GIVEN_MESSAGES: usize = 16;
 pub const STEPS_OF_AN_INSTANT: u64 = 1_024;
 pub const ROOT_BAG: usize = 4_096;
 
+/// In a rules table: no rule.
+pub const NO_RULE: u16 = 65_535;
+
 /// The next due moment that reading answers where nothing is ever due.
 pub const NEVER_DUE: u64 = u64::MAX;

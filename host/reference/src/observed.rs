@@ -2,6 +2,7 @@
 
 use crate::atomic::{Atomic, AtomicState, Led};
 use crate::limits;
+use crate::lit_rules::LastInstant;
 
 #[derive(Clone, Copy, Debug, Default, PartialEq, Eq)]
 pub struct Observed {
@@ -46,6 +47,8 @@ pub struct Observed {
     pub deepest_transition: usize,
     /// External transitions of a coupled component below the root whose bag reached no atomic.
     pub bags_lost_inside: u64,
+    /// The last instant done in the last call.
+    pub last_instant: LastInstant,
 }
 
 impl Observed {

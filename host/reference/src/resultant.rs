@@ -2,6 +2,7 @@
 //! its state is the total state (s_d, e_d) of every child, and it is a Parallel DEVS model itself.
 
 use crate::atomic::{Atomic, AtomicState};
+use crate::lit_rules::{Told, Transition};
 use crate::observed::Observed;
 use crate::records::Message;
 
@@ -29,6 +30,12 @@ pub enum State {
 pub struct TotalState {
     pub state: State,
     pub elapsed: u64,
+}
+
+/// Where a transition led, and what the transitions of the atomics in it tell.
+pub struct Changed {
+    pub state: State,
+    pub told: Vec<Told>,
 }
 
 pub struct Resultant<'m> {
@@ -65,15 +72,15 @@ impl Devs<'_> {
     }
 
     /// δint
-    pub fn internal(&self, state: &State, observed: &mut Observed) -> State {
+    pub fn internal(&self, state: &State, observed: &mut Observed) -> Changed {
         match (self, state) {
             (Devs::Atomic { atomic, ancestors, .. }, State::Atomic(state)) => {
                 observed.internal(*ancestors, *state);
-                State::Atomic(atomic.internal(*state))
+                self.changed(atomic.internal(*state), Transition::Internal)
             }
             (Devs::Coupled(resultant), State::Children(children)) => {
                 // δint is δcon with no input: INF' is then INF, and so are the other sets.
-                State::Children(resultant.confluent(children, &[], observed))
+                resultant.confluent(children, &[], observed)
             }
             _ => unreachable!("the state of another component"),
         }
@@ -86,35 +93,44 @@ impl Devs<'_> {
         elapsed: u64,
         bag: &[Message],
         observed: &mut Observed,
-    ) -> State {
+    ) -> Changed {
         match (self, state) {
             (Devs::Atomic { atomic, ancestors, .. }, State::Atomic(state)) => {
                 let led = atomic.external(*state, elapsed, bag);
                 observed.external(*ancestors, *state, elapsed, &led);
                 observed.external_part(state.spent + elapsed, bag.len(), led.rule.is_some());
-                State::Atomic(led.state)
+                self.changed(led.state, Transition::External { rule: led.rule })
             }
             (Devs::Coupled(resultant), State::Children(children)) => {
-                State::Children(resultant.external(children, elapsed, bag, observed))
+                resultant.external(children, elapsed, bag, observed)
             }
             _ => unreachable!("the state of another component"),
         }
     }
 
     /// δcon
-    pub fn confluent(&self, state: &State, bag: &[Message], observed: &mut Observed) -> State {
+    pub fn confluent(&self, state: &State, bag: &[Message], observed: &mut Observed) -> Changed {
         match (self, state) {
             (Devs::Atomic { atomic, ancestors, .. }, State::Atomic(state)) => {
                 let led = atomic.confluent(*state, bag);
                 observed.confluent(*ancestors, atomic, *state, &led);
                 observed.external_part(0, bag.len(), led.rule.is_some());
-                State::Atomic(led.state)
+                let internal_first = atomic.internal_first();
+                self.changed(led.state, Transition::Confluent { internal_first, rule: led.rule })
             }
             (Devs::Coupled(resultant), State::Children(children)) => {
-                State::Children(resultant.confluent(children, bag, observed))
+                resultant.confluent(children, bag, observed)
             }
             _ => unreachable!("the state of another component"),
         }
+    }
+
+    /// What an atomic's own transition answers.
+    fn changed(&self, state: AtomicState, transition: Transition) -> Changed {
+        let Devs::Atomic { rank, ancestors, .. } = *self else {
+            unreachable!("the transition of another component");
+        };
+        Changed { state: State::Atomic(state), told: vec![Told { rank, ancestors, transition }] }
     }
 }
 
@@ -180,20 +196,23 @@ impl Resultant<'_> {
         e: u64,
         given: &[Message],
         observed: &mut Observed,
-    ) -> Vec<TotalState> {
+    ) -> Changed {
         let bags = self.input_bags(given);
         let mut next = Vec::with_capacity(children.len());
+        let mut told = Vec::new();
         for (place, child) in children.iter().enumerate() {
             let elapsed = child.elapsed + e;
             next.push(if bags[place].is_empty() {
                 observed.unchanged += self.atomics_at(place);
                 TotalState { state: child.state.clone(), elapsed }
             } else {
-                let state = self.external_of(place, &child.state, elapsed, &bags[place], observed);
-                TotalState { state, elapsed: 0 }
+                let changed =
+                    self.external_of(place, &child.state, elapsed, &bags[place], observed);
+                told.extend(changed.told);
+                TotalState { state: changed.state, elapsed: 0 }
             });
         }
-        next
+        Changed { state: State::Children(next), told }
     }
 
     /// The case of an imminent component. Every output is read before any child changes.
@@ -202,7 +221,7 @@ impl Resultant<'_> {
         children: &[TotalState],
         given: &[Message],
         observed: &mut Observed,
-    ) -> Vec<TotalState> {
+    ) -> Changed {
         let advance = self.time_advance(children).expect("an imminent component is due");
         let imminent = self.imminent(children);
         let mut bags = self.input_bags(given);
@@ -214,6 +233,7 @@ impl Resultant<'_> {
             }
         }
         let mut next = Vec::with_capacity(children.len());
+        let mut told = Vec::new();
         for (place, TotalState { state, elapsed }) in children.iter().enumerate() {
             let (devs, bag) = (&self.children[place], &bags[place]);
             let changed = match (imminent[place], bag.is_empty()) {
@@ -226,9 +246,10 @@ impl Resultant<'_> {
                     continue;
                 }
             };
-            next.push(TotalState { state: changed, elapsed: 0 });
+            told.extend(changed.told);
+            next.push(TotalState { state: changed.state, elapsed: 0 });
         }
-        next
+        Changed { state: State::Children(next), told }
     }
 
     /// δext,d of the child at a place.
@@ -239,7 +260,7 @@ impl Resultant<'_> {
         elapsed: u64,
         bag: &[Message],
         observed: &mut Observed,
-    ) -> State {
+    ) -> Changed {
         let before = observed.transitions();
         let next = self.children[place].external(state, elapsed, bag, observed);
         observed.bags_lost_inside += u64::from(observed.transitions() == before);

@@ -1,8 +1,9 @@
 //! The root coordinator: it keeps the root's state and the moment of its last event, takes
 //! steps, and judges an instant as a whole.
 
-use crate::answers::{ROOT_BAG_LIMIT, STILL_DUE};
+use crate::answers::{ROOT_BAG_LIMIT, STILL_DUE, SUCCESS};
 use crate::limits;
+use crate::lit_rules::{LitRules, Told};
 use crate::nest;
 use crate::observed::Observed;
 use crate::records::Message;
@@ -12,32 +13,41 @@ use crate::trace;
 
 pub struct RootCoordinator<'n, 'm> {
     root: &'n Devs<'m>,
+    atomics: usize,
     state: State,
     last: u64,
 }
 
-/// An instant that neither 13 nor 14 refuses: where it leads, and its steps and records.
+/// An instant as it was taken, and the number by which it is left undone, or 0: where it leads, its steps
+/// and records, and the rules that it lit.
 pub struct Instant<'n, 'm> {
+    pub number: u64,
     pub after: RootCoordinator<'n, 'm>,
     pub steps: u64,
     pub records: Vec<u8>,
+    pub lit: LitRules,
 }
 
 /// The row "each instant" down to 14, over the whole instant: first 13, then 14.
-pub fn judge(still_due: bool, largest_root_bag: usize) -> Result<(), u64> {
+pub fn judge(still_due: bool, largest_root_bag: usize) -> u64 {
     if still_due {
-        Err(STILL_DUE)
+        STILL_DUE
     } else if largest_root_bag > limits::ROOT_BAG {
-        Err(ROOT_BAG_LIMIT)
+        ROOT_BAG_LIMIT
     } else {
-        Ok(())
+        SUCCESS
     }
 }
 
 impl<'n, 'm> RootCoordinator<'n, 'm> {
     pub fn load(root: &'n Devs<'m>, atomics: &[AtomicRun]) -> Self {
         let (state, last) = nest::load(root, atomics);
-        RootCoordinator { root, state, last }
+        RootCoordinator { root, atomics: atomics.len(), state, last }
+    }
+
+    /// How many atomics the model has.
+    pub fn atomics(&self) -> usize {
+        self.atomics
     }
 
     pub fn save(&self, atomics: &mut [AtomicRun]) {
@@ -49,36 +59,34 @@ impl<'n, 'm> RootCoordinator<'n, 'm> {
         self.root.time_advance(&self.state).map(|advance| self.last + advance)
     }
 
-    /// One step at a moment where something is due or the bag is not empty. Answers the root's output bag.
-    fn step(&mut self, now: u64, given: &[Message], observed: &mut Observed) -> Bag {
+    /// One step at a moment where something is due or the bag is not empty. Answers the root's output bag,
+    /// and what the transitions told.
+    fn step(&mut self, now: u64, given: &[Message], observed: &mut Observed) -> (Bag, Vec<Told>) {
         let imminent = self.due() == Some(now);
         let output = if imminent { self.root.output(&self.state) } else { Bag::new() };
-        self.state = match (imminent, given.is_empty()) {
+        let changed = match (imminent, given.is_empty()) {
             (true, true) => self.root.internal(&self.state, observed),
             (false, false) => self.root.external(&self.state, now - self.last, given, observed),
             (true, false) => self.root.confluent(&self.state, given, observed),
             (false, true) => unreachable!("no step is taken"),
         };
+        self.state = changed.state;
         self.last = now;
-        output
+        (output, changed.told)
     }
 
     /// All steps at one moment, on a copy: the caller decides whether the instant stands.
-    pub fn instant(
-        &self,
-        now: u64,
-        given: &[Message],
-        observed: &mut Observed,
-    ) -> Result<Instant<'n, 'm>, u64> {
-        let mut copy =
-            RootCoordinator { root: self.root, state: self.state.clone(), last: self.last };
+    pub fn instant(&self, now: u64, given: &[Message], observed: &mut Observed) -> Instant<'n, 'm> {
+        let mut copy = RootCoordinator { state: self.state.clone(), ..*self };
+        let mut lit = LitRules::none(self.atomics);
         let mut steps = 0;
         let mut records = Vec::new();
         let mut largest_root_bag = 0;
         let mut bag = given;
         observed.given_where_due += u64::from(!given.is_empty() && self.due() == Some(now));
         while steps < limits::STEPS_OF_AN_INSTANT && (!bag.is_empty() || copy.due() == Some(now)) {
-            let output = copy.step(now, bag, observed);
+            let (output, told) = copy.step(now, bag, observed);
+            lit.add(told);
             largest_root_bag = largest_root_bag.max(output.len());
             // A larger bag needs no record: the instant will be left undone.
             if !output.is_empty() && output.len() <= limits::ROOT_BAG {
@@ -89,7 +97,7 @@ impl<'n, 'm> RootCoordinator<'n, 'm> {
         }
         let still_due = copy.due() == Some(now);
         observed.instant(steps, still_due, !given.is_empty(), largest_root_bag);
-        judge(still_due, largest_root_bag)?;
-        Ok(Instant { after: copy, steps, records })
+        let number = judge(still_due, largest_root_bag);
+        Instant { number, after: copy, steps, records, lit }
     }
 }

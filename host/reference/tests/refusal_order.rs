@@ -106,10 +106,12 @@ fn advance_model_run_time_bag() {
     let mut trace = vec![JUNK; 8];
     let mut number = |model: &[u8], run: &[u8], t: u64| {
         let mut lent = run.to_vec();
-        let answer = reference::advance(model, &mut lent, t, &bad_bag, &mut trace);
+        let mut rules = [JUNK; 4];
+        let answer = reference::advance(model, &mut lent, t, &bad_bag, &mut trace, &mut rules);
         assert_eq!(answer, Advanced::refused(answer.number));
         assert_eq!(lent, run);
         assert_eq!(trace, [JUNK; 8]);
+        assert_eq!(rules, [JUNK; 4]);
         answer.number
     };
     let late = 1_000_000_000_001;

@@ -2,12 +2,14 @@
 //! written back. Nothing is taken from the heap.
 
 use super::held::Held;
+use super::lights::{Dark, Lights, Lit};
 use super::model_file::ModelFile;
 use super::tables::Tables;
 use super::trace_records::put_step;
 use super::unchecked::front;
 use reference::answers::{Advanced, BAD_BAG, BAD_TIME, BUFFER_TOO_SHORT, STILL_DUE, SUCCESS};
 use reference::limits;
+use reference::lit_rules;
 use reference::records::Message;
 
 /// Records of an instant up to this length need no second pass.
@@ -24,10 +26,11 @@ pub struct Accepted<'c> {
     pub tables: &'c Tables,
 }
 
-/// What is lent to a step: room for one atomic's bag, and for the root's output bag.
-pub struct Buffers<'b> {
+/// What is lent to a step: room for one atomic's bag, for the root's output bag, and for the rules lit.
+pub struct Buffers<'b, L> {
     pub bag: &'b mut [u32],
     pub root: &'b mut [u32],
+    pub lights: L,
 }
 
 /// A way of taking steps, with what it computes once in a call.
@@ -44,13 +47,13 @@ pub trait Simulator {
     fn next_due(&self, accepted: &Accepted, state: &Self::State) -> u64;
 
     /// Takes a step. Answers the length of the root's output bag, which stands sorted in its buffer.
-    fn step(
+    fn step<L: Lights>(
         &self,
         accepted: &Accepted,
         state: &mut Self::State,
         now: u64,
         given: &[u8],
-        buffers: &mut Buffers,
+        buffers: &mut Buffers<L>,
     ) -> usize;
 }
 
@@ -61,13 +64,14 @@ pub fn check_model(file: &[u8]) -> u64 {
     filled.err().unwrap_or(SUCCESS)
 }
 
-/// Advances a run to the moment t, with the bag given there.
+/// Advances a run to the moment t, with the bag given there, and lights what decided in the last instant.
 pub fn advance<S: Simulator>(
     file: &[u8],
     run: &mut [u8],
     t: u64,
     given: &[u8],
     trace: &mut [u8],
+    rules: &mut [u8],
 ) -> Advanced {
     let model = match ModelFile::read(file) {
         Ok(model) => model,
@@ -89,13 +93,12 @@ pub fn advance<S: Simulator>(
     }
     let accepted = Accepted { model: &model, tables: &tables };
     let call = Call { simulator: S::new(&accepted), accepted, t, given };
-    let state = call.simulator.state(&call.accepted, held);
-    if tables.routes <= FEW_ROUTES {
-        let mut bag = [0; FEW_ROUTES * INTO_ATOMIC];
-        let mut root = [0; FEW_ROUTES * INTO_ROOT];
-        call.run(open, state, run, trace, Buffers { bag: &mut bag, root: &mut root })
+    let state = &mut call.simulator.state(&call.accepted, held);
+    let lent = Lent { run, trace, rules };
+    if lent.rules.len() < lit_rules::length(tables.atomics).max(1) {
+        call.run_with_buffers(open, state, lent, Dark)
     } else {
-        call.run_with_large_buffers(open, state, run, trace)
+        call.run_lit(open, state, lent)
     }
 }
 
@@ -103,6 +106,13 @@ fn bag_is_legal(given: &[u8]) -> bool {
     given.len().is_multiple_of(Message::BYTES)
         && given.len() <= limits::GIVEN_MESSAGES * Message::BYTES
         && given.chunks_exact(Message::BYTES).all(|message| message[0] <= limits::HIGHEST_PORT)
+}
+
+/// The buffers that a call writes.
+struct Lent<'l> {
+    run: &'l mut [u8],
+    trace: &'l mut [u8],
+    rules: &'l mut [u8],
 }
 
 /// A call that has passed the checks.
@@ -122,40 +132,61 @@ struct Ran {
 }
 
 impl<S: Simulator> Call<'_, S> {
-    /// A function of its own, so that a small call does not pay for these.
+    /// A function of its own, so that a call without a table does not pay for it.
     #[inline(never)]
-    fn run_with_large_buffers(
+    fn run_lit(&self, open: u64, state: &mut S::State, lent: Lent) -> Advanced {
+        self.run_with_buffers(open, state, lent, Lit::new())
+    }
+
+    #[inline(always)]
+    fn run_with_buffers<L: Lights>(
         &self,
         open: u64,
-        state: S::State,
-        run: &mut [u8],
-        trace: &mut [u8],
+        state: &mut S::State,
+        lent: Lent,
+        lights: L,
+    ) -> Advanced {
+        if self.accepted.tables.routes > FEW_ROUTES {
+            return self.run_with_large_buffers(open, state, lent, lights);
+        }
+        let mut bag = [0; FEW_ROUTES * INTO_ATOMIC];
+        let mut root = [0; FEW_ROUTES * INTO_ROOT];
+        self.run(open, state, lent, Buffers { bag: &mut bag, root: &mut root, lights })
+    }
+
+    /// A function of its own, so that a small call does not pay for these.
+    #[inline(never)]
+    fn run_with_large_buffers<L: Lights>(
+        &self,
+        open: u64,
+        state: &mut S::State,
+        lent: Lent,
+        lights: L,
     ) -> Advanced {
         let mut bag = [0; limits::ROUTES as usize * INTO_ATOMIC];
         let mut root = [0; limits::ROUTES as usize * INTO_ROOT];
-        self.run(open, state, run, trace, Buffers { bag: &mut bag, root: &mut root })
+        self.run(open, state, lent, Buffers { bag: &mut bag, root: &mut root, lights })
     }
 
     /// Does the instants due before t, then t with the given bag, and writes the run back.
     #[inline(never)]
-    fn run(
+    fn run<L: Lights>(
         &self,
         open: u64,
-        mut state: S::State,
-        run: &mut [u8],
-        trace: &mut [u8],
-        mut buffers: Buffers,
+        state: &mut S::State,
+        lent: Lent,
+        mut buffers: Buffers<L>,
     ) -> Advanced {
         let mut scratch = [0; SCRATCH];
         let mut answer = Advanced::refused(SUCCESS);
         let mut open = open;
-        let mut due = self.simulator.next_due(&self.accepted, &state);
+        let mut due = self.simulator.next_due(&self.accepted, state);
         loop {
             let (now, given) = if due < self.t { (due, &[][..]) } else { (self.t, self.given) };
             if due == now || !given.is_empty() {
                 let mut after = state.clone();
                 let ran = self.instant(&mut after, due, now, given, &mut scratch, &mut buffers);
-                let rest = &mut trace[answer.trace_bytes as usize..];
+                let rest = &mut lent.trace[answer.trace_bytes as usize..];
                 answer.number = match ran.number {
                     SUCCESS if ran.used > rest.len() => BUFFER_TOO_SHORT,
                     number => number,
@@ -168,10 +199,11 @@ impl<S: Simulator> Call<'_, S> {
                 } else {
                     self.instant(&mut state.clone(), due, now, given, rest, &mut buffers);
                 }
+                buffers.lights.keep();
                 answer.instants += 1;
                 answer.steps += ran.steps;
                 answer.trace_bytes += ran.used as u64;
-                state = after;
+                *state = after;
                 due = ran.due;
                 open = now + 1;
             }
@@ -180,21 +212,26 @@ impl<S: Simulator> Call<'_, S> {
                 break;
             }
         }
-        S::held(&state).save(open, self.accepted.tables.atomics, run);
+        let atomics = self.accepted.tables.atomics;
+        S::held(state).save(open, atomics, lent.run);
+        if answer.instants > 0 {
+            buffers.lights.write(atomics, lent.rules);
+        }
         answer
     }
 
     /// All steps at one moment. Records are put where they fit, and counted in any case: one function
     /// for a first pass into a scratch and a second one into the trace.
-    fn instant(
+    fn instant<L: Lights>(
         &self,
         state: &mut S::State,
         due: u64,
         now: u64,
         given: &[u8],
         out: &mut [u8],
-        buffers: &mut Buffers,
+        buffers: &mut Buffers<L>,
     ) -> Ran {
+        buffers.lights.begin();
         let mut ran = Ran { number: SUCCESS, steps: 0, used: 0, due };
         let mut given = given;
         while ran.due == now || !given.is_empty() {

@@ -1,8 +1,8 @@
 //! The deciding rule, searched over the range of the rules that name an atomic, and the transitions.
 
+use super::advance::Accepted;
 use super::held::Held;
-use super::model_file::ModelFile;
-use super::tables::Tables;
+use super::lights::Lights;
 use super::unchecked::{at, u16_at, u32_at};
 use reference::limits;
 use reference::records::{Phase, Rule};
@@ -28,28 +28,34 @@ fn holds(rules: &[u8], place: usize, atomic_and_phase: u16, elapsed: u64, bag: &
     u32::from(u16_at(rules, place + 8)) <= count_between(bag, low, high)
 }
 
-/// Where the first rule that holds leads, and `otherwise` where no rule holds.
-#[inline(always)]
-fn external(
-    model: &ModelFile,
-    tables: &Tables,
+/// An atomic's external part: its bag, and where the rule that decides is noted.
+struct External<'e, L> {
+    accepted: &'e Accepted<'e>,
+    position: usize,
     number: usize,
-    phase: u8,
-    elapsed: u64,
-    bag: &[u32],
-    otherwise: u8,
-) -> u8 {
-    let atomic_and_phase = number as u16 | (u16::from(phase) << 8);
-    let from = usize::from(at(&tables.rules_from, number));
-    let to = usize::from(at(&tables.rules_to, number));
-    let mut place = Rule::BYTES * from;
-    for _ in from..to {
-        if holds(model.rules, place, atomic_and_phase, elapsed, bag) {
-            return at(model.rules, place + 2);
+    bag: &'e [u32],
+    lights: &'e mut L,
+}
+
+impl<L: Lights> External<'_, L> {
+    /// Where the first rule that holds leads, and `otherwise` where no rule holds.
+    #[inline(always)]
+    fn lead(self, phase: u8, elapsed: u64, otherwise: u8) -> u8 {
+        let Accepted { model, tables } = *self.accepted;
+        let atomic_and_phase = self.number as u16 | (u16::from(phase) << 8);
+        let from = usize::from(at(&tables.rules_from, self.number));
+        let to = usize::from(at(&tables.rules_to, self.number));
+        let mut place = Rule::BYTES * from;
+        for rule in from..to {
+            if holds(model.rules, place, atomic_and_phase, elapsed, self.bag) {
+                self.lights.light(self.position, rule as u16);
+                return at(model.rules, place + 2);
+            }
+            place += Rule::BYTES;
         }
-        place += Rule::BYTES;
+        self.lights.light(self.position, limits::NO_RULE);
+        otherwise
     }
-    otherwise
 }
 
 /// A number that no phase has.
@@ -58,22 +64,24 @@ const NO_PHASE: u8 = u8::MAX;
 /// The phase that an atomic enters, due or with a bag or both. None where it is not due and no rule
 /// holds for its bag, so that its phase and last moment stay.
 #[inline(always)]
-pub fn entered(
-    model: &ModelFile,
-    tables: &Tables,
+pub fn entered<L: Lights>(
+    accepted: &Accepted,
     held: &Held,
     position: usize,
     now: u64,
     is_due: bool,
     bag: &[u32],
+    lights: &mut L,
 ) -> Option<u8> {
+    let Accepted { model, tables } = *accepted;
     let number = usize::from(at(&tables.numbers, position));
     let first = usize::from(at(&tables.first_phases, number));
     let next = |phase: u8| at(model.phases, Phase::BYTES * (first + usize::from(phase)) + 4);
     let phase = at(&held.phases, position);
+    let external = External { accepted, position, number, bag, lights };
     if !is_due {
         let elapsed = now - at(&held.lasts, position);
-        let entered = external(model, tables, number, phase, elapsed, bag, NO_PHASE);
+        let entered = external.lead(phase, elapsed, NO_PHASE);
         return (entered != NO_PHASE).then_some(entered);
     }
     if bag.is_empty() {
@@ -81,8 +89,8 @@ pub fn entered(
     }
     if at(&tables.orders, number) == 0 {
         let next = next(phase);
-        return Some(external(model, tables, number, next, 0, bag, next));
+        return Some(external.lead(next, 0, next));
     }
     let advance = u64::from(u32_at(model.phases, Phase::BYTES * (first + usize::from(phase))));
-    Some(next(external(model, tables, number, phase, advance, bag, phase)))
+    Some(next(external.lead(phase, advance, phase)))
 }

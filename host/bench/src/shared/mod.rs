@@ -5,6 +5,7 @@ pub mod advance;
 pub mod deciding;
 pub mod held;
 pub mod keys;
+pub mod lights;
 pub mod model_file;
 pub mod tables;
 pub mod trace_records;

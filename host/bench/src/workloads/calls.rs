@@ -8,9 +8,11 @@ pub fn all() -> Vec<Workload> {
     vec![
         Workload::with_calls("small, idle", &small(), idle_calls(400)),
         Workload::with_calls("small, one bag", &small(), bag_calls(400)),
+        Workload::with_calls("small, one bag", &small(), bag_calls(400)).lit(),
         stations::cue_calls(),
         Workload::with_calls("maximal, idle", &maximal(), idle_calls(40)),
         Workload::with_calls("maximal, one bag", &maximal(), bag_calls(40)),
+        Workload::with_calls("maximal, one bag", &maximal(), bag_calls(40)).lit(),
     ]
 }
 

@@ -17,6 +17,7 @@ pub fn all() -> Vec<Workload> {
     vec![
         Workload::long_call("chain of 5 stations", &chain(5, 0, Some(PERIOD)), 4_000),
         Workload::long_call("chain of 15 stations", &chain(15, 0, Some(PERIOD)), 2_000),
+        Workload::long_call("chain of 15 stations", &chain(15, 0, Some(PERIOD)), 2_000).lit(),
         Workload::long_call("chain of 8, 3 shells", &chain(8, 3, Some(PERIOD)), 2_000),
     ]
 }

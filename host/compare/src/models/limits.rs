@@ -1,7 +1,9 @@
 //! Models at each limit and one past it, with the number that each must get.
 
 use reference::builder::{phase, rule, Builder, NEVER};
-use reference::examples::{atomic_behind_rows, dead_ways, dead_ways_up_and_down, repeated_way_out};
+use reference::examples::{
+    atomic_behind_rows, dead_ways, dead_ways_up_and_down, last_rule_decides, repeated_way_out,
+};
 use reference::records::Phase;
 
 /// A name, the number that the model must get, and the model's file.
@@ -20,8 +22,8 @@ pub const LIMITS: [Limit; 30] = [
     ("65 phases of an atomic", 4, || phases(&[65]).file()),
     ("512 phases", 0, || phases(&[64; 8]).file()),
     ("513 phases", 3, || phases(&[57; 9]).file()),
-    ("1,024 rules", 0, || rules(1_024).file()),
-    ("1,025 rules", 3, || rules(1_025).file()),
+    ("1,024 rules", 0, || last_rule_decides(1_024).file()),
+    ("1,025 rules", 3, || last_rule_decides(1_025).file()),
     ("1,024 couplings", 0, || atomic_behind_rows(1_024, 16_384).file()),
     ("1,025 couplings", 3, || atomic_behind_rows(1_025, 16_384).file()),
     ("1,024 routes by 32 times 32", 0, || repeated_way_out(32, 32).file()),
@@ -99,18 +101,6 @@ fn phases(counts: &[usize]) -> Builder {
     counts.iter().for_each(|&count| {
         model.atomic(0, &resting(count));
     });
-    model
-}
-
-fn rules(count: usize) -> Builder {
-    let mut model = Builder::new();
-    let atomic = model.atomic(0, &resting(64));
-    model.couple(0, 0, atomic, 0);
-    // The first message of value 7 finds the last rule only.
-    for number in 0..count {
-        let last = number + 1 == count;
-        model.rule(rule(atomic, 0, if last { 7 } else { 9 }, if last { 63 } else { 1 }));
-    }
     model
 }
 

@@ -24,6 +24,9 @@ struct Style {
     tame: bool,
     advances: [u32; 8],
     most_phases: u64,
+    /// How many rules that no bag satisfies stand before the others, so that those have positions of two
+    /// bytes.
+    idle_rules: u64,
     rows: usize,
     /// How many components hear the one around them on port 0, beside those rows: what is given at the
     /// root reaches the lowest levels only through a row on each.
@@ -46,6 +49,7 @@ fn style(random: &mut Random) -> Style {
         tame: random.percent(96),
         advances: if random.percent(85) { SHORT_ADVANCES } else { LONG_ADVANCES },
         most_phases: if random.percent(90) { 4 } else { 64 },
+        idle_rules: if random.percent(10) { random.between(200, 640) } else { 0 },
         rows: components * random.index(5),
         hearing_percent: random.pick(&[0, 0, 70, 100]),
         highest_port: random.pick(&[0, 1, 1, 3]),
@@ -141,8 +145,9 @@ fn add_rules(random: &mut Random, builder: &mut Builder, style: &Style, atomics:
     if atomics.is_empty() {
         return;
     }
-    let rules = random.index(atomics.len() * 6 + 1);
-    for _ in 0..rules {
+    let rules = random.index(atomics.len() * 6 + 1) as u64;
+    for number in 0..style.idle_rules + rules {
+        let is_idle = number < style.idle_rules;
         let Made { number, advances } = &atomics[random.index(atomics.len())];
         let phase = random.index(advances.len());
         let (low_value, high_value) = value_range(random);
@@ -154,7 +159,7 @@ fn add_rules(random: &mut Random, builder: &mut Builder, style: &Style, atomics:
             port: random.between(0, style.highest_port) as u8,
             low_value,
             high_value,
-            least_count: random.pick(&[0, 1, 1, 1, 1, 2, 3, 5]),
+            least_count: if is_idle { u16::MAX } else { random.pick(&[0, 1, 1, 1, 1, 2, 3, 5]) },
             low_elapsed,
             high_elapsed,
         });

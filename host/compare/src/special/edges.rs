@@ -28,8 +28,9 @@ fn expect_numbers(
     Ok(())
 }
 
+/// The table of rules has room for the few atomics of these models.
 fn advance(t: u64, bag: &[u8]) -> Call {
-    Call::Advance { t, bag: bag.to_vec(), trace: Vec::new() }
+    Call::Advance { t, bag: bag.to_vec(), trace: Vec::new(), rules: vec![0x5A; 5] }
 }
 
 fn read(position: u64) -> Call {

@@ -2,10 +2,12 @@
 
 mod bags;
 mod edges;
+pub mod lit_rules;
 mod steps;
 pub mod strays;
 mod ways;
 
+use crate::arguments::rules_table;
 use crate::call::{Answer, Call};
 use crate::comparison::{Compared, Comparison};
 use crate::random::Random;
@@ -16,7 +18,7 @@ use reference::Advanced;
 
 pub type Special = fn(&mut Comparison, &mut Random) -> Compared<()>;
 
-pub const CASES: [Special; 19] = [
+pub const CASES: [Special; 21] = [
     bags::largest_atomic_bags,
     bags::atomic_bag_through_levels,
     bags::largest_root_bags,
@@ -25,6 +27,8 @@ pub const CASES: [Special; 19] = [
     edges::lengths,
     edges::times_and_positions,
     edges::given_bags,
+    lit_rules::on_each_level,
+    lit_rules::positions,
     steps::zero_stay_steps,
     steps::long_elapsed,
     steps::highest_time,
@@ -40,7 +44,8 @@ pub const CASES: [Special; 19] = [
 
 /// The names of the boundaries that the cases count.
 pub fn names() -> impl Iterator<Item = &'static str> {
-    bags::NAMES.into_iter().chain(steps::NAMES).chain(strays::names()).chain(ways::NAMES)
+    let rows = lit_rules::names().chain(strays::names());
+    bags::NAMES.into_iter().chain(steps::NAMES).chain(rows).chain(ways::NAMES)
 }
 
 /// Starts a model and advances it once, expecting an answer.
@@ -52,12 +57,14 @@ fn expect(
     expected: Advanced,
 ) -> Compared<Vec<u8>> {
     let (t, bag, trace_length) = call;
-    let length = saved_run::length(model.model().atomics().len());
+    let atomics = model.model().atomics().len();
+    let length = saved_run::length(atomics);
     let beyond = random.index(4);
     let mut list = comparison.list(&model.file(), &random.bytes(length + beyond));
     list.call(&Call::Start)?;
     let trace = random.bytes(trace_length);
-    let answer = list.call(&Call::Advance { t, bag, trace })?.answer;
+    let rules = rules_table(random, atomics);
+    let answer = list.call(&Call::Advance { t, bag, trace, rules })?.answer;
     if answer != Answer::Advanced(expected) {
         return Err(format!("{answer:?} instead of {expected:?} at {t}"));
     }

@@ -1,6 +1,7 @@
 //! Stray cues: a hold on each level of a nest, and where it stands after each call.
 
 use super::{expect, success};
+use crate::arguments::rules_table;
 use crate::call::{Answer, Call};
 use crate::comparison::{Compared, Comparison};
 use crate::random::Random;
@@ -180,12 +181,13 @@ fn run_row(
     model: &Builder,
     stops: &[Stop],
 ) -> Compared<()> {
-    let length = saved_run::length(model.model().atomics().len());
-    let mut list = comparison.list(&model.file(), &random.bytes(length));
+    let atomics = model.model().atomics().len();
+    let mut list = comparison.list(&model.file(), &random.bytes(saved_run::length(atomics)));
     list.call(&Call::Start)?;
     for &(t, values, [phase, last, next_due]) in stops {
         let given: Vec<(u8, u16)> = values.iter().map(|&value| (0, value)).collect();
-        list.call(&Call::Advance { t, bag: bag(&given), trace: random.bytes(60) })?;
+        let (trace, rules) = (random.bytes(60), rules_table(random, atomics));
+        list.call(&Call::Advance { t, bag: bag(&given), trace, rules })?;
         let answer = list.call(&Call::Read { position: 0 })?.answer;
         let expected = Reading { number: 0, phase, last, next_due };
         if answer != Answer::Reading(expected) {

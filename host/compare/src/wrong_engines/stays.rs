@@ -1,11 +1,12 @@
 //! Wrong readings of a stay and of the cues in it, made of the reference: its nest on a changed model,
-//! or its flat machine with another transition.
+//! or its flat machine with another transition. They light the right rules, so that they are found by
+//! their stays.
 
 use reference::builder::rule;
 use reference::decode::decode;
-use reference::flat_machine::{self, entry_after, Brought, Change};
+use reference::flat_machine::{self, changed, After, Brought, Change};
 use reference::flatten::flat_form;
-use reference::limits::RULES;
+use reference::limits::{NO_RULE, RULES};
 use reference::records::Rule;
 use reference::saved_run::AtomicRun;
 use reference::Advanced;
@@ -37,10 +38,12 @@ pub fn advance_by(
     t: u64,
     bag: &[u8],
     trace: &mut [u8],
+    rules: &mut [u8],
 ) -> Advanced {
     match decode(file) {
         Ok(model) => {
-            flat_machine::advance_by(change, &flat_form(&model).encode(), run, t, bag, trace)
+            let flat = flat_form(&model).encode();
+            flat_machine::advance_by(change, &flat, run, t, bag, trace, rules)
         }
         Err(number) => Advanced::refused(number),
     }
@@ -48,10 +51,10 @@ pub fn advance_by(
 
 /// Tells a stray by the phase: an atomic that is not due and stays in its phase keeps its last moment,
 /// be it that a rule has led there.
-pub fn same_phase_is_a_stray(brought: &Brought) -> AtomicRun {
-    let after = entry_after(brought);
-    if !brought.is_due && after.phase == brought.entry.phase {
-        return brought.entry;
+pub fn same_phase_is_a_stray(brought: &Brought) -> After {
+    let after = changed(brought);
+    if !brought.is_due && after.entry.phase == brought.entry.phase {
+        return After { entry: brought.entry, ..after };
     }
     after
 }
@@ -59,22 +62,19 @@ pub fn same_phase_is_a_stray(brought: &Brought) -> AtomicRun {
 /// Keeps the last moment in a confluent transition of this order in which no rule holds. Only where the
 /// stay in the phase entered would then be over before now does it begin afresh: an overdue atomic would
 /// show at once, and this fault should be found without it.
-pub fn confluent_keeps_last_moment(order: u8, brought: &Brought) -> AtomicRun {
-    let Brought { atomic, entry, moment, is_due, bag, .. } = *brought;
-    let after = entry_after(brought);
-    if !is_due || bag.is_empty() || atomic.internal_first() != (order == 0) {
+pub fn confluent_keeps_last_moment(order: u8, brought: &Brought) -> After {
+    let Brought { atomic, entry, moment, is_due, .. } = *brought;
+    let after = changed(brought);
+    let without_rule = is_due && after.rule == Some(NO_RULE);
+    if !without_rule || atomic.internal_first() != (order == 0) {
         return after;
     }
-    let rule = match order {
-        0 => atomic.deciding_rule(atomic.next_phase(entry.phase), 0, bag),
-        _ => atomic.deciding_rule(entry.phase, moment - entry.last, bag),
-    };
-    let advance = atomic.advance(after.phase);
+    let advance = atomic.advance(after.entry.phase);
     let over = advance.is_some_and(|advance| entry.last + advance < moment);
-    if rule.is_some() || over {
+    if over {
         return after;
     }
-    AtomicRun { last: entry.last, ..after }
+    After { entry: AtomicRun { last: entry.last, ..after.entry }, ..after }
 }
 
 /// The moment of the last stray of each atomic's stay. A saved run has no place for it, so that an
@@ -82,10 +82,10 @@ pub fn confluent_keeps_last_moment(order: u8, brought: &Brought) -> AtomicRun {
 pub type Strays = BTreeMap<usize, u64>;
 
 /// Searches in order 1 with what the last stray left of the advance, instead of all of it.
-pub fn order_1_searches_with_what_is_left(strays: &mut Strays, brought: &Brought) -> AtomicRun {
+pub fn order_1_searches_with_what_is_left(strays: &mut Strays, brought: &Brought) -> After {
     let Brought { atomic, rank, entry, moment, is_due, bag } = *brought;
-    let after = entry_after(brought);
-    if !is_due && after == entry {
+    let after = changed(brought);
+    if !is_due && after.entry == entry {
         if !bag.is_empty() {
             strays.insert(rank, moment);
         }
@@ -95,7 +95,7 @@ pub fn order_1_searches_with_what_is_left(strays: &mut Strays, brought: &Brought
         Some(stray) if is_due && !bag.is_empty() && !atomic.internal_first() => {
             let rule = atomic.deciding_rule(entry.phase, moment - stray, bag);
             let led = rule.map_or(entry.phase, |(_, next_phase)| next_phase);
-            AtomicRun { phase: atomic.next_phase(led), last: moment }
+            After { entry: AtomicRun { phase: atomic.next_phase(led), last: moment }, ..after }
         }
         _ => after,
     }

@@ -2,8 +2,10 @@
 //! possible, on the flat form, and on the flat machine, with the same outcome on all of them.
 #![allow(dead_code)]
 
+use reference::advance::Lent;
 use reference::builder::Builder;
 use reference::decode::decode;
+use reference::lit_rules;
 use reference::nest::DeadWays;
 use reference::observed::Observed;
 use reference::records::Message;
@@ -45,36 +47,42 @@ pub fn advance_observed(
     bag: &[u8],
     trace: &mut [u8],
 ) -> (Advanced, Observed) {
+    let atomics = decode(file).expect("an accepted model").atomics().len();
+    let mut rules = vec![JUNK; lit_rules::length(atomics) + 1];
+    advance_lighting(file, run, t, bag, trace, &mut rules)
+}
+
+/// The same with a table of rules.
+pub fn advance_lighting(
+    file: &[u8],
+    run: &mut [u8],
+    t: u64,
+    bag: &[u8],
+    trace: &mut [u8],
+    rules: &mut [u8],
+) -> (Advanced, Observed) {
     let model = decode(file).expect("an accepted model");
     let flat = flat(file);
     let few_ways = routes::ports_passed(&model) < 10_000;
     let literal = if few_ways { DeadWays::Kept } else { DeadWays::Dropped };
     let mut observed = Observed::default();
-    let mut others = [
-        (run.to_vec(), trace.to_vec()),
-        (run.to_vec(), trace.to_vec()),
-        (run.to_vec(), trace.to_vec()),
-    ];
+    let mut others = [(); 3].map(|()| (run.to_vec(), trace.to_vec(), rules.to_vec()));
+    let lent = Lent { trace, rules };
     let answer =
-        reference::advance::advance(file, run, t, bag, trace, DeadWays::Dropped, &mut observed);
+        reference::advance::advance(file, run, t, bag, lent, DeadWays::Dropped, &mut observed);
     let [kept, on_flat, machine] = &mut others;
+    let lent = Lent { trace: &mut kept.1, rules: &mut kept.2 };
+    let not_observed = &mut Observed::default();
     let answers = [
-        reference::advance::advance(
-            file,
-            &mut kept.0,
-            t,
-            bag,
-            &mut kept.1,
-            literal,
-            &mut Observed::default(),
-        ),
-        reference::advance(&flat, &mut on_flat.0, t, bag, &mut on_flat.1),
-        flat_machine::advance(&flat, &mut machine.0, t, bag, &mut machine.1),
+        reference::advance::advance(file, &mut kept.0, t, bag, lent, literal, not_observed),
+        reference::advance(&flat, &mut on_flat.0, t, bag, &mut on_flat.1, &mut on_flat.2),
+        flat_machine::advance(&flat, &mut machine.0, t, bag, &mut machine.1, &mut machine.2),
     ];
     assert_eq!(answers, [answer; 3]);
     for other in &others {
         assert!(other.0 == run, "the run buffers differ");
         assert!(other.1 == trace, "the traces differ");
+        assert!(other.2 == rules, "the tables of rules differ");
     }
     (answer, observed)
 }
