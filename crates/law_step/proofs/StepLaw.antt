@@ -117,54 +117,68 @@ module _ (m : Model) (w : WellFormed m) (t : List ℕ) (h : Tabled m t) (st : St
       abbrev pub after : Stepped State
       after = tableStep (m .phases) t (m .rules) (length (atomics (m .components))) room now x st
 
-      -- one entry
-      entry-after : (j : ℕ) → j < length (atomics (m .components)) → heldAt (after .state) j ≡ entryAfter m now x (entries m w st) (atomicAtPlace m w st j)
-      unfolding tableStep entryAfter due dueAt
-      entry-after j l =
+      -- ---- the atomic at a place: what the tables say of it is what the definition does
+
+      abbrev number : ℕ → ℕ
+      number j = getD t (numbersAt + j) 0
+
+      number-own : (j : ℕ) → j < length (atomics (m .components)) → number j ≡ atomicAtPlace m w st j
+      number-own j l = h .numbers j l
+
+      number-below : (j : ℕ) → j < length (atomics (m .components)) → number j < length (m .components)
+      number-below j l = omega (arith, number-own j l, atomic-below (m .components) (atomicAtPlace m w st j) (atomic-at m w st j l))
+
+      number-timed : (j : ℕ) → j < length (atomics (m .components)) → isUp marked (number j) ≡ true → eqb (phaseAt m (number j) (heldAt st j .phase) .advance) neverField ≡ false
+      unfolding due dueAt
+      number-timed j l u =
+          let c = atomicAtPlace m w st j in
+          ap (λ d. eqb (phaseAt m d (heldAt st j .phase) .advance) neverField) (number-own j l)
+          ∙ due-timed m c now (heldAt st j) (ap (λ r. sameTime (dueOf m c r) (finite now)) (sym (place-entry m w st j l))
+          ∙ sym (up-due m w st t h now (k .soon) c (atomic-at m w st j l)) ∙ ap (isUp marked) (sym (number-own j l)) ∙ u)
+
+      -- of all that depends on a component, on whether it is due, on its bag in any order, and on its entry
+      at-place : {A : Type 0} (f : ℕ → Bool → Bag → Entry → A) → ((c : ℕ) (b : Bool) (y z : Bag) (r : Entry) → Same y z → f c b y r ≡ f c b z r)
+          → (j : ℕ) → j < length (atomics (m .components))
+          → f (number j) (isUp marked (number j)) (map messageOf (take room (keysInto (m .phases) t marked flags x (number j)))) (heldAt st j)
+          ≡ f (atomicAtPlace m w st j) (due m at now (leaf (atomicAtPlace m w st j))) (bagAt m at now (atomicAtPlace m w st j) (root m) x) (at (atomicAtPlace m w st j))
+      unfolding due dueAt
+      at-place f same j l =
           let c = atomicAtPlace m w st j in
           let e = atomic-at m w st j l in
-          let q : getD t (numbersAt + j) 0 ≡ c = h .numbers j l in
-          let r = place-entry m w st j l in
           let b = up-due m w st t h now (k .soon) c e in
           let whole : take room (keysInto (m .phases) t marked flags x c) ≡ keysInto (m .phases) t marked flags x c = take-all room _ (omega (arith, bag-length c e)) in
+          ap (λ d. f d (isUp marked d) (map messageOf (take room (keysInto (m .phases) t marked flags x d))) (heldAt st j)) (number-own j l)
+          ∙ ap (λ z. f c (isUp marked c) (map messageOf z) (heldAt st j)) whole
+          ∙ ap (λ z. f c z (map messageOf (keysInto (m .phases) t marked flags x c)) (heldAt st j)) b
+          ∙ same c _ _ (bagAt m at now c (root m) x) (heldAt st j) (bag-same c e)
+          ∙ ap (f c (due m at now (leaf c)) (bagAt m at now c (root m) x)) (sym (place-entry m w st j l))
+
+      -- what holds at each place holds of the atomics in file order
+      by-place : {A : Type 0} (g f : ℕ → A) → ((j : ℕ) → j < length (atomics (m .components)) → g j ≡ f (atomicAtPlace m w st j))
+          → map g (upFrom 0 (length (atomics (m .components)))) ≡ map f (atomics (m .components))
+      by-place g f each =
+          map-up g (λ j. f (atomicAtPlace m w st j)) 0 (length (atomics (m .components))) (λ j a b. each j (omega arith))
+          ∙ sym (take-up f (atomics (m .components)) 0 (length (atomics (m .components))) (omega arith)) ∙ ap (map f) (take-length (atomics (m .components)))
+
+      -- ---- its entry, and what decides its external part
+
+      entry-after : (j : ℕ) → j < length (atomics (m .components)) → heldAt (after .state) j ≡ entryAfter m now x (entries m w st) (atomicAtPlace m w st j)
+      unfolding tableStep entryAfter
+      entry-after j l =
           all-own m w t h now marked flags room x (length (atomics (m .components))) 0 j st (omega arith) (omega arith)
-          (omega (arith, q, atomic-below (m .components) c e)) (omega (arith, k .phases)) (omega (arith, k .lasts))
-          (λ u. ap (λ d. eqb (phaseAt m d (heldAt st j .phase) .advance) neverField) q
-          ∙ due-timed m c now (heldAt st j) (ap (λ r. sameTime (dueOf m c r) (finite now)) (sym r) ∙ sym b ∙ ap (isUp marked) (sym q) ∙ u))
-          ∙ ap (λ d. moved m now d (isUp marked d) (map messageOf (take room (keysInto (m .phases) t marked flags x d))) (heldAt st j)) q
-          ∙ ap (λ z. moved m now c (isUp marked c) (map messageOf z) (heldAt st j)) whole
-          ∙ ap (λ z. moved m now c z (map messageOf (keysInto (m .phases) t marked flags x c)) (heldAt st j)) b
-          ∙ moved-same m now c _ _ (bagAt m at now c (root m) x) (heldAt st j) (bag-same c e)
-          ∙ ap (moved m now c (due m at now (leaf c)) (bagAt m at now c (root m) x)) (sym r)
+          (number-below j l) (omega (arith, k .phases)) (omega (arith, k .lasts)) (number-timed j l)
+          ∙ at-place (moved m now) (moved-same m now) j l
+
+      part-after : (j : ℕ) → j < length (atomics (m .components)) → getD (after .out .decided) j none ≡ partAfter m now x (entries m w st) (atomicAtPlace m w st j)
+      unfolding tableStep partAfter
+      part-after j l =
+          ap (λ i. getD (after .out .decided) i none) (sym (sub-zero j))
+          ∙ parts-own m w t h now marked flags room x (length (atomics (m .components))) 0 j st (omega arith) (omega arith) (number-below j l) (number-timed j l)
+          ∙ at-place (part m now) (part-of-same m now) j l
 
       pub table-state : entriesOf (length (atomics (m .components))) (after .state) ≡ step m now x (entries m w st) .state
       unfolding entriesOf
-      table-state =
-          map-up (heldAt (after .state)) (λ j. entryAfter m now x (entries m w st) (atomicAtPlace m w st j)) 0 (length (atomics (m .components))) (λ j a b. entry-after j (omega arith))
-          ∙ sym (take-up (entryAfter m now x (entries m w st)) (atomics (m .components)) 0 (length (atomics (m .components))) (omega arith))
-          ∙ ap (map (entryAfter m now x (entries m w st))) (take-length (atomics (m .components)))
-          ∙ sym (step-moved m w now x (entries m w st) is-ready)
-
-      -- what decides its external part
-      part-after : (j : ℕ) → j < length (atomics (m .components)) → getD (after .out .decided) j none ≡ partAfter m now x (entries m w st) (atomicAtPlace m w st j)
-      unfolding tableStep partAfter due dueAt
-      part-after j l =
-          let c = atomicAtPlace m w st j in
-          let e = atomic-at m w st j l in
-          let q : getD t (numbersAt + j) 0 ≡ c = h .numbers j l in
-          let r = place-entry m w st j l in
-          let b = up-due m w st t h now (k .soon) c e in
-          let whole : take room (keysInto (m .phases) t marked flags x c) ≡ keysInto (m .phases) t marked flags x c = take-all room _ (omega (arith, bag-length c e)) in
-          ap (λ i. getD (after .out .decided) i none) (sym (sub-zero j))
-          ∙ parts-own m w t h now marked flags room x (length (atomics (m .components))) 0 j st (omega arith) (omega arith)
-          (omega (arith, q, atomic-below (m .components) c e))
-          (λ u. ap (λ d. eqb (phaseAt m d (heldAt st j .phase) .advance) neverField) q
-          ∙ due-timed m c now (heldAt st j) (ap (λ r. sameTime (dueOf m c r) (finite now)) (sym r) ∙ sym b ∙ ap (isUp marked) (sym q) ∙ u))
-          ∙ ap (λ d. part m now d (isUp marked d) (map messageOf (take room (keysInto (m .phases) t marked flags x d))) (heldAt st j)) q
-          ∙ ap (λ z. part m now c (isUp marked c) (map messageOf z) (heldAt st j)) whole
-          ∙ ap (λ z. part m now c z (map messageOf (keysInto (m .phases) t marked flags x c)) (heldAt st j)) b
-          ∙ part-of-same m now c _ _ (bagAt m at now c (root m) x) (heldAt st j) (bag-same c e)
-          ∙ ap (part m now c (due m at now (leaf c)) (bagAt m at now c (root m) x)) (sym r)
+      table-state = by-place (heldAt (after .state)) (entryAfter m now x (entries m w st)) entry-after ∙ sym (step-moved m w now x (entries m w st) is-ready)
 
       pub table-decided : after .out .decided ≡ step m now x (entries m w st) .out .decided
       unfolding tableStep
@@ -173,10 +187,7 @@ module _ (m : Model) (w : WellFormed m) (t : List ℕ) (h : Tabled m t) (st : St
           let row = after .out .decided in
           let long = parts-length (m .phases) t (m .rules) marked flags room now x n 0 st in
           sym (map-id row) ∙ ap (map (λ p. p)) (sym (take-all n row (omega (arith, long)))) ∙ take-up (λ p. p) row none n (omega (arith, long))
-          ∙ map-up (λ j. getD row j none) (λ j. partAfter m now x (entries m w st) (atomicAtPlace m w st j)) 0 n (λ j a b. part-after j (omega arith))
-          ∙ sym (take-up (partAfter m now x (entries m w st)) (atomics (m .components)) 0 n (omega arith))
-          ∙ ap (map (partAfter m now x (entries m w st))) (take-length (atomics (m .components)))
-          ∙ sym (step-decided m w now x (entries m w st) is-ready)
+          ∙ by-place (λ j. getD row j none) (partAfter m now x (entries m w st)) part-after ∙ sym (step-decided m w now x (entries m w st) is-ready)
 
       -- the root's whole bag, which has at most 4 messages a route
       root-whole : Same (map messageOf (rootKeys (m .phases) t marked flags)) (step m now x (entries m w st) .out .bag)
