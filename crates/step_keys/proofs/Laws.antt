@@ -1,13 +1,13 @@
 -- Laws of putting: one list after another, one message more of a bag, of the slots of a phase record, of the given bytes. Assumes nothing.
-use mathlib.Core.Path.{_≡_, refl, sym, _∙_}
+use mathlib.Core.Path.{_≡_, refl, sym, ap₂, _∙_}
 use mathlib.Core.List.{List, [], _∷_, _++_}
 use mathlib.Core.Bool.{Bool, true, false, cond}
-use Prim.Native.Nat.{ℕ, zero, suc, _+_, _*_, _/_, _≤_, _<_, min}
+use Prim.Native.Nat.{ℕ, zero, suc, _+_, _*_, _-_, _/_, _≤_, _<_, min}
 use native.Mathlib.Omega.{arith}
 use native.Mathlib.Nat.{add-zero}
 use native.Mathlib.Numerals.{add-one}
 use lib.Dec.{eqb}
-use lib.ListN.{length, drop, getD, length-take}
+use lib.ListN.{length, take, drop, getD, length-take}
 use lib.Seq.{drop-cons, drop-length, getD-take}
 use Rattle.definition.specs.Bytes.{Bytes, numberAt}
 use Rattle.definition.specs.Limits.{messageSize}
@@ -97,6 +97,14 @@ output-at r j h =
 pub sent-in : (s : Bytes) (i : ℕ) {bytes : Bytes} → i < length s / 18 → bytes ≡ row 18 i s → toPhase bytes ≡ getD (phasesIn s) i noPhase
 unfolding phasesIn
 sent-in s i h e = rw e (sym (record-in 18 toPhase s i noPhase h))
+
+-- The bytes that end where so many records do as a mark says are the record before the mark.
+pub mark-row : (s : Bytes) (mark : ℕ) → (mark ≡ 0 → ⊥) → take (18 * mark - (18 * mark - 18)) (drop (18 * mark - 18) s) ≡ row 18 (mark - 1) s
+unfolding row
+mark-row s mark some =
+    let size : 18 * mark - (18 * mark - 18) ≡ 18 = omega (arith, some) in
+    let place : 18 * mark - 18 ≡ 18 * (mark - 1) = omega (arith, some) in
+    ap₂ (λ n p. take n (drop p s)) size place
 
 pub sent-out : (s : Bytes) (q i port : ℕ) (st : List ℕ × ℕ) → length s / 18 ≤ i → puts port (valuesOn q (outputs (getD (phasesIn s) i noPhase))) st ≡ st
 unfolding phasesIn noPhase outputs valuesOn puts

@@ -67,19 +67,20 @@ fn put_slots(phase: &[u8], q: u8, own: u8, buf: &mut [u32], at: usize) -> usize
     next
 }
 
-// What an atomic with this mark puts out on port q.
+// What an atomic with this mark puts out on port q. Its phase record ends where so many records do as the mark says: whether it lies within the
+// section is one product, which is also its place. The number of records would be a quotient, computed in every call that collects a port.
 pub fn put_sent(phases: &[u8], mark: u32, q: u8, own: u8, buf: &mut [u32], at: usize) -> usize
     ensures { λ r. ⌜ (now (buf .exit), r) ≡ puts own (sentOn (phasesIn (now (phases .entry))) mark q) (now (buf .entry), at) ⌝ }
 {
     if mark == 0 {
         return at;
     }
-    let i = (mark - 1) as usize;
-    if phases.len() / PHASE_SIZE <= i {
+    let end = PHASE_SIZE * (mark as usize);
+    if phases.len() < end {
         return at;
     }
-    let phase = model_records::record_bytes(phases, PHASE_SIZE, i);
-    put_slots(phase, q, own, buf, at)
+    let start = end - PHASE_SIZE;
+    put_slots(&phases[start..end], q, own, buf, at)
 }
 
 // What is given at the root's input port q.
