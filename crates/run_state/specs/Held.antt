@@ -23,11 +23,11 @@ endAt = 2 * maxComponents
 abbrev pub nextDueAt : ℕ
 nextDueAt = 3 * maxComponents
 
-abbrev pub hadAt : ℕ
-hadAt = nextDueAt + 1
+abbrev pub toldAt : ℕ
+toldAt = nextDueAt + 1
 
 abbrev pub stateSize : ℕ
-stateSize = hadAt + 1
+stateSize = toldAt + 1
 
 -- A region by position.
 unfoldable pub row : ℕ → List ℕ → List ℕ
@@ -52,12 +52,12 @@ unfoldable pub whereSet : ℕ → List ℕ → List ℕ
 whereSet m [] = []
 whereSet m (r ∷ rs) = cond (eqb (m % 2) 1) r noPosition ∷ whereSet (m / 2) rs
 
--- Who had an external part in the instant: a bit for each position.
+-- Whose rule is one of the instant: a bit for each position.
 unfoldable pub bitsIn : List ℕ → ℕ
-bitsIn w = getD w hadAt 0
+bitsIn w = getD w toldAt 0
 
-unfoldable pub had : List ℕ → ℕ → Bool
-had w i = eqb (bitsIn w / 2 ^ i % 2) 1
+unfoldable pub isTold : List ℕ → ℕ → Bool
+isTold w i = eqb (bitsIn w / 2 ^ i % 2) 1
 
 -- By position, the rule of the last external part in an instant.
 unfoldable pub lastRulesIn : List ℕ → List ℕ
@@ -87,8 +87,14 @@ pub record EntryPut (w₀ w : List ℕ) (i p last : ℕ) : Type 0 where
   pub ends : endsIn w ≡ endsIn w₀
   pub next : nextIn w ≡ nextIn w₀
 
-pub record RulePut (w₀ w : List ℕ) (i rule : ℕ) : Type 0 where
+pub record NoRulePut (w₀ w : List ℕ) (i : ℕ) : Type 0 where
   pub held : heldIn w ≡ heldIn w₀
+  pub rules : lastRulesIn w ≡ set (lastRulesIn w₀) i noPosition
+  pub ends : endsIn w ≡ endsIn w₀
+  pub next : nextIn w ≡ nextIn w₀
+
+pub record LedPut (w₀ w : List ℕ) (i p last rule : ℕ) : Type 0 where
+  pub held : heldIn w ≡ changedAt (heldIn w₀) i p last
   pub rules : lastRulesIn w ≡ set (lastRulesIn w₀) i rule
   pub ends : endsIn w ≡ endsIn w₀
   pub next : nextIn w ≡ nextIn w₀

@@ -1,11 +1,12 @@
 // The state of a run inside a call: one lent array of words, so that a function is handed one thing. By the position of an atomic in file
 // order: its phase and the rule of its last external part, in one word; its last moment; and when it is due as a number, 2^64 - 1 for
-// never. And two words: when the whole model is next due; and who had an external part in the instant, a bit for each position.
+// never. And two words: when the whole model is next due; and whose rule is one of the instant, a bit for each position.
 ghost use mathlib.Core.Path.{_≡_};
 ghost use Prim.Native.Nat.{_+_, _*_, _^_, _<_};
-ghost use lib.ListN.{getD, length};
+ghost use lib.Bits.{bitOr};
+ghost use lib.ListN.{getD, set, length};
 ghost use Rattle.definition.specs.Limits.{maxComponents};
-ghost use Rattle.run_state.specs.Held.{stateSize, heldIn, rulesBeside, bitsIn, had, lastRulesIn, endsIn, nextIn, EntryPut, RulePut, RulesCleared, EndPut, NextPut};
+ghost use Rattle.run_state.specs.Held.{stateSize, lastAt, toldAt, heldIn, rulesBeside, bitsIn, isTold, lastRulesIn, endsIn, nextIn, EntryPut, NoRulePut, LedPut, RulesCleared, EndPut, NextPut};
 use clock::Moment;
 use limits::MAX_COMPONENTS;
 use limits::NO_POSITION;
@@ -23,9 +24,9 @@ const PHASE_VALUES: u64 = 256;
 
 const RULE_VALUES: u64 = 65536;
 
-const HAD_AT: usize = NEXT_AT + 1;
+const TOLD_AT: usize = NEXT_AT + 1;
 
-pub const STATE_SIZE: usize = HAD_AT + 1;
+pub const STATE_SIZE: usize = TOLD_AT + 1;
 
 // What the laws of a step call a state: the phases and the last moments by position.
 pub struct State {
@@ -50,7 +51,7 @@ pub fn phase_at(state: &[u64; STATE_SIZE], position: usize) -> u8
     (state[position] % PHASE_VALUES) as u8
 }
 
-// The rule that stands beside its phase, whether or not it had an external part in the instant.
+// The rule that stands beside its phase, whether or not it is one of the instant.
 fn beside_at(state: &[u64; STATE_SIZE], position: usize) -> u16
     requires { ⌜ position < maxComponents ⌝ }
     ensures { λ r. ⌜ r ≡ getD (rulesBeside (now (state .entry))) position 0 ⌝ }
@@ -69,13 +70,13 @@ fn bit_of(position: usize) -> u64
 fn bits_in(state: &[u64; STATE_SIZE]) -> u64
     ensures { λ r. ⌜ r ≡ bitsIn (now (state .entry)) ⌝ }
 {
-    state[HAD_AT]
+    state[TOLD_AT]
 }
 
-// Whether it had an external part in the instant.
-fn had_at(state: &[u64; STATE_SIZE], position: usize) -> bool
+// Whether the rule beside it is one of the instant.
+fn is_told(state: &[u64; STATE_SIZE], position: usize) -> bool
     requires { ⌜ position < maxComponents ⌝ }
-    ensures { λ r. ⌜ r ≡ had (now (state .entry)) position ⌝ }
+    ensures { λ r. ⌜ r ≡ isTold (now (state .entry)) position ⌝ }
 {
     bits_in(state) / bit_of(position) % 2 == 1
 }
@@ -86,7 +87,7 @@ pub fn rule_at(state: &[u64; STATE_SIZE], position: usize) -> u16
     ensures { λ r. ⌜ r ≡ getD (lastRulesIn (now (state .entry))) position 0 ⌝ }
 {
     whole(state);
-    if had_at(state, position) {
+    if is_told(state, position) {
         beside_at(state, position)
     } else {
         NO_POSITION
@@ -122,33 +123,59 @@ fn packed(phase: u8, rule: u16) -> u64
     u8_to_u64(phase) + PHASE_VALUES * u16_to_u64(rule)
 }
 
+// Phase, rule and last moment of a position.
+fn put_words(state: &mut [u64; STATE_SIZE], position: usize, phase: u8, since: Moment, rule: u16)
+    requires { ⌜ position < maxComponents ⌝ }
+    ensures { λ _. ⌜ now (state .exit) ≡ set (set (now (state .entry)) position (phase + 256 * rule)) (lastAt + position) (since .0) ⌝ }
+{
+    state[position] = packed(phase, rule);
+    state[LAST_AT + position] = since.0;
+}
+
 // The atomic at a position is in a phase since a moment.
 pub fn put_at(state: &mut [u64; STATE_SIZE], position: usize, phase: u8, since: Moment)
     requires { ⌜ position < maxComponents ⌝ }
     ensures { λ _. ⌜ EntryPut (now (state .entry)) (now (state .exit)) position phase (since .0) ⌝ }
 {
-    state[position] = packed(phase, beside_at(state, position));
-    state[LAST_AT + position] = since.0;
+    let kept = beside_at(state, position);
+    put_words(state, position, phase, since, kept);
 }
 
-// Its last external part was decided by a rule.
-pub fn put_rule(state: &mut [u64; STATE_SIZE], position: usize, rule: u16)
+// The rule beside it is one of the instant. Without a test whether the bit is set: a jump costs more than the store that it spares.
+fn put_told(state: &mut [u64; STATE_SIZE], position: usize)
     requires { ⌜ position < maxComponents ⌝ }
-    ensures { λ _. ⌜ RulePut (now (state .entry)) (now (state .exit)) position rule ⌝ }
+    ensures { λ _. ⌜ now (state .exit) ≡ set (now (state .entry)) toldAt (bitOr (bitsIn (now (state .entry))) (2 ^ position)) ⌝ }
+{
+    state[TOLD_AT] = bits_in(state) | bit_of(position);
+}
+
+// Its last external part had no rule, which the table tells as it tells that there was none: its bit goes.
+pub fn put_no_rule(state: &mut [u64; STATE_SIZE], position: usize)
+    requires { ⌜ position < maxComponents ⌝ }
+    ensures { λ _. ⌜ NoRulePut (now (state .entry)) (now (state .exit)) position ⌝ }
 {
     whole(state);
-    state[position] = packed(phase_at(state, position), rule);
-    if !had_at(state, position) {
-        state[HAD_AT] = bits_in(state) + bit_of(position);
-    }
+    let bit = bit_of(position);
+    state[TOLD_AT] = (bits_in(state) | bit) ^ bit;
 }
 
-// No atomic has had an external part: one store, for an instant that has a table to fill and for one that has none.
+// Its last external part was decided by the rule at a position, or by none, and led into a phase, in which it is since a moment. The moment is
+// stored last: who reads it next then has it without a load.
+pub fn put_led(state: &mut [u64; STATE_SIZE], position: usize, phase: u8, since: Moment, rule: u16)
+    requires { ⌜ position < maxComponents ⌝ }
+    ensures { λ _. ⌜ LedPut (now (state .entry)) (now (state .exit)) position phase (since .0) rule ⌝ }
+{
+    whole(state);
+    put_told(state, position);
+    put_words(state, position, phase, since, rule);
+}
+
+// No atomic has had an external part in the instant: one store, with a table to fill and without.
 pub fn clear_rules(state: &mut [u64; STATE_SIZE])
     ensures { λ _. ⌜ RulesCleared (now (state .entry)) (now (state .exit)) ⌝ }
 {
     whole(state);
-    state[HAD_AT] = 0;
+    state[TOLD_AT] = 0;
 }
 
 // When it is due.

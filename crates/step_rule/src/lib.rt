@@ -147,7 +147,8 @@ fn decided_at(
     let Found::At(j) = found else {
         return Found::Nothing;
     };
-    Found::At(i + j)
+    let position = i + j;
+    Found::At(position)
 }
 
 // Where the search stops: at `end`, or after the last record where that comes first.

@@ -4,7 +4,7 @@ use mathlib.Core.Path.{_≡_, refl, sym, ap, _∙_}
 use mathlib.Core.List.{List, [], _∷_, map}
 use mathlib.Core.Option.{Option, none, some}
 use mathlib.Core.Bool.{Bool, true, false}
-use Prim.Native.Nat.{ℕ, _-_, _≤_, _<_}
+use Prim.Native.Nat.{ℕ, _-_, _%_, _≤_, _<_}
 use native.Mathlib.Omega.{arith}
 use lib.ListN.{length, getD, set}
 use lib.Seq.{getD-set-same, set-getD}
@@ -16,7 +16,7 @@ use Rattle.run_state.specs.Held.{changedAt}
 use Rattle.law_base.specs.Keys.{messageOf}
 use Rattle.law_base.specs.Overlaid.{putPart}
 use Rattle.spec_step.specs.TableStep.{leads, ledInto, phaseIn, ruleIn, confluentIn, confluentRule, leadBy, partBy, changedBy}
-use Rattle.step_transition.specs.Changes.{ledOf, named}
+use Rattle.step_transition.specs.Changes.{nowhere, ledOf}
 
 -- ---- the state after a transition, by where it leads
 
@@ -83,24 +83,18 @@ module _ (ps : List Phase) (t : List ℕ) (rs : List Rule) (now : ℕ) (st : Sta
 
 -- ---- what the code's answer names
 
-pub led-byte : (r : ℕ) → r < 256 → ledOf r ≡ some r
+pub led-byte : (r p : ℕ) → r < nowhere → r % 256 ≡ p → ledOf r ≡ some p
 unfolding ledOf
-led-byte r h = rw (lt-ltb r 256 h)
+led-byte r p h e = rw (lt-ltb r nowhere h) (ap some e)
 
-pub led-none : (r : ℕ) → 256 ≤ r → ledOf r ≡ none
+pub led-none : (r : ℕ) → nowhere ≤ r → ledOf r ≡ none
 unfolding ledOf
-led-none r h = rw (le-ltb r 256 h)
+led-none r h = rw (le-ltb r nowhere h)
 
-pub below-leads : (p : ℕ) {r : ℕ} → p < 256 → r ≡ p → r < 512
-below-leads p h e = omega arith
-
-pub named-rule : (r : ℕ) → r < 65536 → named r ≡ some r
-unfolding named
-named-rule r h = rw (lt-ltb r 65536 h)
-
-pub named-none : (r : ℕ) → 65536 ≤ r → named r ≡ none
-unfolding named
-named-none r h = rw (le-ltb r 65536 h)
+-- the rule that a transition has put
+pub put-some : (rules : List ℕ) (i r : ℕ) (part : Option ℕ) → some r ≡ part → set rules i r ≡ putPart rules i part
+unfolding putPart
+put-some rules i r part e = ap (putPart rules i) e
 
 -- the due moment of what nothing changes is carried as it was
 pub end-kept : (ends : List ℕ) (i v : ℕ) → getD ends i 0 ≡ v → ends ≡ set ends i v

@@ -4,10 +4,10 @@ use mathlib.Core.List.{List, map}
 use mathlib.Core.Option.{Option, none, some}
 use mathlib.Core.Bool.{Bool, cond}
 use lib.Dec.{ltb}
-use Prim.Native.Nat.{ℕ, _+_, _/_, _%_, _<_}
+use Prim.Native.Nat.{ℕ, _+_, _/_, _%_, _≤_, _<_}
 use lib.ListN.{getD, set}
 use Rattle.definition.specs.Bytes.{Bytes}
-use Rattle.definition.specs.Limits.{maxComponents}
+use Rattle.definition.specs.Limits.{maxComponents, noPosition}
 use Rattle.definition.specs.Model.{Bag, Rule}
 use Rattle.definition.specs.Engine.{dueNumber}
 use Rattle.definition.specs.Atomic.{toldAs}
@@ -19,24 +19,25 @@ use Rattle.model_records.specs.Values.{phasesIn, rulesIn}
 use Rattle.spec_step.specs.Tables.{numbersAt}
 use Rattle.spec_step.specs.TableStep.{leads, ruleIn, leadBy, partBy, dueAtPosition, changedBy}
 
--- The phase that the code's answer names: a byte, and none where it is no byte.
+-- A phase and the position of a rule are three bytes; an answer that is more leads nowhere.
+abbrev pub nowhere : ℕ
+nowhere = 16777216
+
+-- The phase that the code's answer names: its lowest byte, or none.
 unfoldable pub ledOf : ℕ → Option ℕ
-ledOf r = cond (ltb r 256) (some r) none
+ledOf r = cond (ltb r nowhere) (some (r % 256)) none
 
--- The position of a rule that it names, two bytes, and none where it is more.
-unfoldable pub named : ℕ → Option ℕ
-named r = cond (ltb r 65536) (some r) none
-
--- The code's answer to a search: where it leads, and the position of the rule as it is told.
+-- The code's answer to a search: where it leads, and the position of the rule as it is told; what leads nowhere has none.
 pub record Led (r : ℕ) (to found : Option ℕ) : Type 0 where
-  pub phase : ledOf (r % 512) ≡ to
-  pub rule : r / 512 ≡ toldAs found
-  pub two-bytes : r / 512 < 65536
+  pub phase : ledOf r ≡ to
+  pub rule : r / 256 % 65536 ≡ toldAs found
+  pub no-rule : nowhere ≤ r → r / 256 % 65536 ≡ noPosition
 
--- And that of a transition: where it leads, and what decides its external part.
+-- And that of a transition with messages: where it leads, and what decides its external part.
 pub record Leads (r : ℕ) (to decided : Option ℕ) : Type 0 where
-  pub phase : ledOf (r % 512) ≡ to
-  pub part : named (r / 512) ≡ decided
+  pub phase : ledOf r ≡ to
+  pub part : some (r / 256 % 65536) ≡ decided
+  pub no-rule : nowhere ≤ r → r / 256 % 65536 ≡ noPosition
 
 -- The phase that the deciding rule leads to, by the tables of a call.
 abbrev pub leadIn : List ℕ → List Rule → ℕ → ℕ → ℕ → Bag → Option ℕ
@@ -62,12 +63,6 @@ pub record AtomicAt (phases : Bytes) (tables w : List ℕ) (i c : ℕ) : Type 0 
   pub component : c < maxComponents
   pub own : c ≡ getD tables (numbersAt + i) 0
   pub carried : getD (endsIn w) i 0 ≡ endOf phases tables w i
-
--- One rule is put, or none, and all else stays.
-pub record PartPut (w₀ w : List ℕ) (i : ℕ) (part : Option ℕ) : Type 0 where
-  pub held : heldIn w ≡ heldIn w₀
-  pub rules : lastRulesIn w ≡ putPart (lastRulesIn w₀) i part
-  pub ends : endsIn w ≡ endsIn w₀
 
 -- The words hold that state, the rule of the atomic's external part, and its due moment.
 pub record Changed (phases : Bytes) (tables w₀ w : List ℕ) (i : ℕ) (after : State) (part : Option ℕ) : Type 0 where

@@ -3,13 +3,13 @@ ghost use mathlib.Core.Path.{_≡_};
 ghost use mathlib.Core.List.{map};
 ghost use mathlib.Core.Option.{some};
 ghost use Prim.Native.Nat.{_/_, _%_, _<_};
-ghost use lib.ListN.{getD};
+ghost use lib.ListN.{getD, length};
 ghost use Rattle.definition.specs.Limits.{maxComponents};
 ghost use Rattle.definition.specs.Model.{noRule};
 ghost use Rattle.model_records.specs.Values.{phasesIn, rulesIn};
 ghost use Rattle.law_base.specs.Keys.{messageOf};
 ghost use Rattle.spec_step.specs.TableStep.{phaseOr, ruleIn, phaseIn, confluentIn, confluentRule};
-ghost use Rattle.step_transition.specs.Changes.{ledOf, named, leadIn, Led, leadOf, partOf, Leads, PartPut, changeOf, AtomicAt, Changed};
+ghost use Rattle.step_transition.specs.Changes.{nowhere, ledOf, leadIn, Led, leadOf, partOf, Leads, changeOf, AtomicAt, Changed};
 use clock::Moment;
 use clock::Stay;
 use limits::NO_POSITION;
@@ -21,7 +21,7 @@ use table_words::RULES_FROM_AT;
 use table_words::RULES_TO_AT;
 use table_words::TABLE_SIZE;
 use table_words::row_in;
-use widen::u8_to_u16;
+use widen::u8_to_u32;
 use widen::u8_to_usize;
 use widen::u16_to_u32;
 use widen::u16_to_usize;
@@ -44,29 +44,30 @@ fn advance_of(phases: &[u8], tables: &[u16; TABLE_SIZE], c: u16, p: u8) -> Stay
     Stay(u32_to_u64(phase.advance))
 }
 
-// No phase: what leads nowhere answers it.
-const NOWHERE: u16 = 256;
+// What an external part answers is one number, as a state holds it: a phase, above it the position of a rule, and above both whether it leads
+// nowhere. An enum or a struct would go through memory, in two stores that are read as one.
+const PHASE_VALUES: u32 = 256;
 
-// No position: a transition without an external part answers it.
-const NO_PART: u32 = 65536;
+const RULE_VALUES: u32 = 65536;
 
-// What a transition answers is one number, a phase and above it the position of a rule: an enum or a struct would go through memory, in
-// two stores that are read as one.
-const LEADS: u32 = 512;
+const NOWHERE: u32 = PHASE_VALUES * RULE_VALUES;
 
-fn joined(rule: u32, phase: u16) -> u32
-    requires { ⌜ (rule < 8388608) × (phase < 512) ⌝ }
-    ensures { λ r. ⌜ (r % 512 ≡ phase) × (r / 512 ≡ rule) ⌝ }
+fn told(rule: u16, phase: u8) -> u32
+    ensures { λ r. ⌜ (r < nowhere) × (r % 256 ≡ phase) × (r / 256 % 65536 ≡ rule) ⌝ }
 {
-    rule * LEADS + u16_to_u32(phase)
+    u16_to_u32(rule) * PHASE_VALUES + u8_to_u32(phase)
 }
 
-// The same of a position, which is two bytes.
-fn told(rule: u16, phase: u16) -> u32
-    requires { ⌜ phase < 512 ⌝ }
-    ensures { λ r. ⌜ (r % 512 ≡ phase) × (r / 512 ≡ rule) × (r / 512 < 65536) ⌝ }
+fn phase_told(answer: u32) -> u8
+    ensures { λ r. ⌜ r ≡ answer % 256 ⌝ }
 {
-    joined(u16_to_u32(rule), phase)
+    (answer % PHASE_VALUES) as u8
+}
+
+fn rule_told(answer: u32) -> u16
+    ensures { λ r. ⌜ r ≡ answer / 256 % 65536 ⌝ }
+{
+    (answer / PHASE_VALUES % RULE_VALUES) as u16
 }
 
 // The phase that the rule at position i leads to.
@@ -93,18 +94,17 @@ fn decided(
     let first = row_in(tables, RULES_FROM_AT, c);
     let end = row_in(tables, RULES_TO_AT, c);
     let Found::At(i) = step_rule::deciding(rules, first, end, c, p, elapsed, bag) else {
-        return told(NO_POSITION, NOWHERE);
+        return NOWHERE + told(NO_POSITION, 0);
     };
-    told(i, u8_to_u16(next_by(rules, i)))
+    told(i, next_by(rules, i))
 }
 
 // The phase after the external part of a confluent transition: without a rule it stays.
 fn phase_after(p: u8, found: u32) -> u8
-    ensures { λ r. ⌜ r ≡ phaseOr p (ledOf (found % 512)) ⌝ }
+    ensures { λ r. ⌜ r ≡ phaseOr p (ledOf found) ⌝ }
 {
-    let led = found % LEADS;
-    if led < u16_to_u32(NOWHERE) {
-        led as u8
+    if found < NOWHERE {
+        phase_told(found)
     } else {
         p
     }
@@ -127,17 +127,17 @@ fn confluent(
     if row_in(tables, ORDERS_AT, c) == 0 {
         let next = next_of(phases, tables, c, p);
         let found = decided(rules, tables, c, next, Stay(0), bag);
-        return joined(found / LEADS, u8_to_u16(phase_after(next, found)));
+        return told(rule_told(found), phase_after(next, found));
     }
     let advance = advance_of(phases, tables, c, p);
     let found = decided(rules, tables, c, p, advance, bag);
     let led = phase_after(p, found);
-    joined(found / LEADS, u8_to_u16(next_of(phases, tables, c, led)))
+    told(rule_told(found), next_of(phases, tables, c, led))
 }
 
-// Where the transition of the atomic c at position i leads, due or not, with its bag, and the rule of its external part. "where no rule holds,
-// the external transition keeps both phase and last moment": it leads nowhere, as where nothing is due and nothing comes. What the search found
-// tells that, and not the phase: a rule may lead into the same one.
+// Where the transition of the atomic c at position i leads that has messages in its bag, due or not, and the rule of its external part. "where
+// no rule holds, the external transition keeps both phase and last moment": it leads nowhere. What the search found tells that, and not the
+// phase: a rule may lead into the same one.
 fn lead(
     phases: &[u8],
     rules: &[u8],
@@ -149,19 +149,13 @@ fn lead(
     due: bool,
     bag: &[u32],
 ) -> u32
-    requires { ⌜ (i < maxComponents) × (c < maxComponents) ⌝ }
+    requires { ⌜ (i < maxComponents) × (c < maxComponents) × (length (now bag) ≡ 0 → ⊥) ⌝ }
     ensures { λ r. ⌜ Leads r
         (leadOf (now (phases .entry)) (now (rules .entry)) (now (tables .entry)) (at .0) (now (state .entry)) i c due (now (bag .entry)))
         (partOf (now (phases .entry)) (now (rules .entry)) (now (tables .entry)) (at .0) (now (state .entry)) i c due (now (bag .entry))) ⌝ }
 {
     let position = u8_to_usize(i);
     let p = run_state::phase_at(state, position);
-    if bag.len() == 0 {
-        if due {
-            return joined(NO_PART, u8_to_u16(next_of(phases, tables, c, p)));
-        }
-        return joined(NO_PART, NOWHERE);
-    }
     if due {
         return confluent(phases, rules, tables, c, p, bag);
     }
@@ -169,18 +163,8 @@ fn lead(
     decided(rules, tables, c, p, elapsed, bag)
 }
 
-// The rule of the atomic's last external part is put, if the transition had such a part.
-fn put_part(state: &mut [u64; STATE_SIZE], position: usize, rule: u32)
-    requires { ⌜ position < maxComponents ⌝ }
-    ensures { λ _. ⌜ PartPut (now (state .entry)) (now (state .exit)) position (named rule) ⌝ }
-{
-    if rule < NO_PART {
-        run_state::put_rule(state, position, rule as u16);
-    }
-}
-
 // The transition of the atomic c at position i, due or not, with its bag: its entry is set and its due moment carried anew, or neither; and the
-// rule of its external part is put.
+// rule of its external part is put, where it has one.
 pub fn transition(
     phases: &[u8],
     rules: &[u8],
@@ -199,13 +183,20 @@ pub fn transition(
 {
     run_state::whole(state);
     let position = u8_to_usize(i);
-    let answer = lead(phases, rules, tables, state, at, i, c, due, bag);
-    put_part(state, position, answer / LEADS);
-    let led = answer % LEADS;
-    if u16_to_u32(NOWHERE) <= led {
+    if bag.len() == 0 {
+        if due {
+            let next = next_of(phases, tables, c, run_state::phase_at(state, position));
+            run_state::put_at(state, position, next, at);
+            step_due::put_end(phases, tables, c, next, state, i);
+        }
         return;
     }
-    let p = led as u8;
-    run_state::put_at(state, position, p, at);
+    let answer = lead(phases, rules, tables, state, at, i, c, due, bag);
+    if NOWHERE <= answer {
+        run_state::put_no_rule(state, position);
+        return;
+    }
+    let p = phase_told(answer);
+    run_state::put_led(state, position, p, at, rule_told(answer));
     step_due::put_end(phases, tables, c, p, state, i);
 }

@@ -42,8 +42,8 @@ returns-2 c =
     one-moved (a .component) (a .phase) (a .elapsed .0) (map messageOf (now (a .bag))) (rulesIn (now (a .rules))) (a .i) (ruleOf (after-rule-in .rule-in .result)) none
     (after-rule-in .rule-in .ensures) (ap foundOf (sym (c .enum-told .given .1)) ∙ after-deciding-of .deciding-of .ensures)
 
-add-t16 : tie.Need-add-t16
-add-t16 c =
+add-position : tie.Need-add-position
+add-position c =
     let start : tie.Start = search in let after-deciding-of : tie.After-deciding-of = search in
     let a = start .args in
     let j = c .before .found .given .0 .0 in
@@ -62,4 +62,4 @@ returns-3 c =
 pub decided-at-spec : {M : Type 1} → statement M
 decided-at-spec =
     tie.close (tie.spec (λ c κs. search needs) returns rule-in-requires (λ c κs. search needs) (λ c. search needs) (λ c. search needs) returns-2
-    add-t16 returns-3)
+    add-position returns-3)
