@@ -9,14 +9,20 @@ use native.Mathlib.Omega.{arith}
 use lib.ListN.{length, getD, set}
 use lib.Seq.{getD-set-same, set-getD}
 use borrow.Author.Tests.{lt-ltb, le-ltb}
+use Rattle.definition.specs.Bytes.{Bytes}
+use Rattle.definition.specs.Limits.{maxComponents}
 use Rattle.definition.specs.Model.{Phase, Rule}
+use Rattle.definition.specs.Engine.{dueNumber}
 use Rattle.definition.specs.Atomic.{toldAs}
 use Rattle.run_state.specs.declared.State.{State}
-use Rattle.run_state.specs.Held.{changedAt}
+use Rattle.run_state.specs.Held.{heldIn, endsIn, changedAt, EndPut}
+use Rattle.model_records.specs.Values.{phasesIn}
+use Rattle.step_due.specs.Due.{endFor}
+use Rattle.step_due.proofs.Laws.{due-named}
 use Rattle.law_base.specs.Keys.{messageOf}
 use Rattle.law_base.specs.Overlaid.{putPart}
 use Rattle.spec_step.specs.TableStep.{leads, ledInto, phaseIn, ruleIn, confluentIn, confluentRule, leadBy, partBy, changedBy}
-use Rattle.step_transition.specs.Changes.{nowhere, ledOf}
+use Rattle.step_transition.specs.Changes.{nowhere, ledOf, endOf, AtomicAt}
 
 -- ---- the state after a transition, by where it leads
 
@@ -101,6 +107,15 @@ pub end-kept : (ends : List ℕ) (i v : ℕ) → getD ends i 0 ≡ v → ends �
 end-kept ends i v e = sym (set-getD ends i 0) ∙ ap (set ends i) e
 
 -- The phase that was put stands at its position.
-pub phase-put : (st new : State) (k i p last : ℕ) → new ≡ changedAt st k p last → k ≡ i → i < length (st .phase) → p ≡ getD (new .phase) i 0
+phase-put : (st new : State) (i p last : ℕ) → new ≡ changedAt st i p last → i < length (st .phase) → p ≡ getD (new .phase) i 0
 unfolding changedAt
-phase-put st new k i p last e q l = sym (ap (λ (s : State). getD (s .phase) i 0) e ∙ ap (λ j. getD (set (st .phase) j p) i 0) q ∙ getD-set-same (st .phase) i p 0 l)
+phase-put st new i p last e l = sym (ap (λ (s : State). getD (s .phase) i 0) e ∙ getD-set-same (st .phase) i p 0 l)
+
+-- A phase that is entered, and then its due moment: the words carry that of the state that they hold.
+pub entered-ends : (phases : Bytes) (tables w₀ w w₁ : List ℕ) (i c p last : ℕ) → heldIn w ≡ changedAt (heldIn w₀) i p last → length (heldIn w₀ .phase) ≡ maxComponents
+    → endsIn w ≡ endsIn w₀ → AtomicAt phases tables w₀ i c → EndPut w w₁ i (endFor phases tables c p (getD (heldIn w .last) i 0))
+    → endsIn w₁ ≡ set (endsIn w₀) i (endOf phases tables w₁ i)
+entered-ends phases tables w₀ w w₁ i c p last entry size ends here end =
+    let phase = phase-put (heldIn w₀) (heldIn w) i p last entry (omega (arith, size, here .position)) in
+    let named = due-named (phasesIn phases) tables (heldIn w) i c p (here .own) phase in
+    end .ends ∙ rw (ends, end .held) (ap (λ u. set (endsIn w₀) i (dueNumber u)) named)

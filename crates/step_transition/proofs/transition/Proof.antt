@@ -2,29 +2,31 @@
 use borrow.Author.Needs.{needs}
 use mathlib.Core.Path.{_∙_, sym, ap}
 use mathlib.Core.Option.{some}
+use Prim.Native.Nat.{_<_}
 use native.Mathlib.Omega.{arith}
 use denote.Ref.{now}
-use lib.ListN.{set}
+use Rattle.definition.specs.Limits.{maxComponents}
 use Rattle.definition.specs.Engine.{dueNumber}
 use Rattle.run_state.specs.Held.{heldIn, lastRulesIn, endsIn}
 use Rattle.run_state.proofs.Laws.{held-size}
 use Rattle.model_records.specs.Values.{phasesIn, rulesIn}
 use Rattle.spec_step.specs.TableStep.{dueAtPosition, changedBy}
-use Rattle.step_due.proofs.Laws.{due-named}
-use Rattle.step_transition.proofs.Laws.{led-byte, led-none, led-nowhere, led-into, internal-case, still-state, still-rules, put-some, end-kept, phase-put}
+use Rattle.step_transition.proofs.Laws.{led-byte, led-none, led-nowhere, led-into, internal-case, still-state, still-rules, put-some, end-kept, entered-ends}
 use Rattle.step_transition.proofs.transition.Statement.{statement}
 use Rattle.step_transition.proofs.transition.Tie as tie
 
--- internal: the next phase
-put-at-requires : tie.Need-put-at-requires
-put-at-requires c κs =
-    let start : tie.Start = search in let after-u8-to-usize : tie.After-u8-to-usize = search in
-    rw (after-u8-to-usize .u8-to-usize .ensures) (start .pre .position)
+-- The position is one.
+within : (k : tie.After-u8-to-usize) → k .u8-to-usize .result < maxComponents
+within k =
+    let start : tie.Start = search in
+    rw (k .u8-to-usize .ensures) (start .pre .position)
 
+-- internal: the next phase
 phase-at-requires : tie.Need-phase-at-requires
-phase-at-requires c κs =
-    let start : tie.Start = search in let after-u8-to-usize : tie.After-u8-to-usize = search in
-    rw (after-u8-to-usize .u8-to-usize .ensures) (start .pre .position)
+phase-at-requires c κs = let k : tie.After-u8-to-usize = search in within k
+
+put-at-requires : tie.Need-put-at-requires
+put-at-requires c κs = let k : tie.After-u8-to-usize = search in within k
 
 put-end-requires : tie.Need-put-end-requires
 put-end-requires c κs =
@@ -36,21 +38,21 @@ unfolding changedBy
 returns c =
     let start : tie.Start = search in let empty : tie.Then1 = search in let is-due : tie.Then2 = search in
     let after-next-of : tie.After-next-of = search in let after-phase-at : tie.After-phase-at = search in
-    let after-put-at : tie.After-put-at = search in let after-u8-to-usize : tie.After-u8-to-usize = search in let after-whole : tie.After-whole = search in
+    let after-put-at : tie.After-put-at = search in let k : tie.After-u8-to-usize = search in let after-whole : tie.After-whole = search in
     let a = start .args in
     let ps = phasesIn (now (a .phases)) in
+    let rs = rulesIn (now (a .rules)) in
     let st = heldIn (now (a .state)) in
+    let at-i = k .u8-to-usize .ensures in
     let entry = after-put-at .put-at .ensures in
     let end = c .put-end .ensures in
-    let at-i = after-u8-to-usize .u8-to-usize .ensures in
+    let set = rw at-i at (entry .held) in
     let next = rw (after-phase-at .phase-at .ensures, at-i) at (after-next-of .next-of .ensures) in
-    let led = ap some next ∙ internal-case ps (now (a .tables)) (rulesIn (now (a .rules))) (a .at .0) st (a .i) (a .c) (now (a .bag)) (empty .if1 .taken) in
-    let phase = phase-put st _ _ (a .i) _ _ (entry .held) at-i (omega (arith, held-size (now (a .state)) (after-whole .whole .ensures) .0, start .pre .position)) in
-    let named = due-named ps (now (a .tables)) _ (a .i) (a .c) _ (start .pre .own) phase in
+    let led = ap some next ∙ internal-case ps (now (a .tables)) rs (a .at .0) st (a .i) (a .c) (now (a .bag)) (empty .if1 .taken) in
     rw (is-due .if2 .taken) (record {
-      state = end .held ∙ (rw at-i at (entry .held)) ∙ led-into (a .at .0) st (a .i) _ _ led;
-      rules = end .rules ∙ entry .rules ∙ still-rules ps (now (a .tables)) (rulesIn (now (a .rules))) (a .at .0) st (a .i) (a .c) _ _ (now (a .bag)) (empty .if1 .taken);
-      ends = end .ends ∙ rw (entry .ends, end .held) (ap (λ u. set (endsIn (now (a .state))) (a .i) (dueNumber u)) named);
+      state = end .held ∙ set ∙ led-into (a .at .0) st (a .i) _ _ led;
+      rules = end .rules ∙ entry .rules ∙ still-rules ps (now (a .tables)) rs (a .at .0) st (a .i) (a .c) _ _ (now (a .bag)) (empty .if1 .taken);
+      ends = entered-ends (now (a .phases)) (now (a .tables)) (now (a .state)) _ _ (a .i) (a .c) (after-next-of .next-of .result) (a .at .0) set (held-size (now (a .state)) (after-whole .whole .ensures) .0) (entry .ends) (start .pre) end;
     })
 
 -- nothing is due, and nothing comes
@@ -59,10 +61,11 @@ returns-2 c =
     let start : tie.Start = search in let empty : tie.Then1 = search in let not-due : tie.Else2 = search in
     let a = start .args in
     let ps = phasesIn (now (a .phases)) in
+    let rs = rulesIn (now (a .rules)) in
     let st = heldIn (now (a .state)) in
     rw (not-due .if2 .left) (record {
-      state = still-state ps (now (a .tables)) (rulesIn (now (a .rules))) (a .at .0) st (a .i) (a .c) (now (a .bag)) (empty .if1 .taken);
-      rules = still-rules ps (now (a .tables)) (rulesIn (now (a .rules))) (a .at .0) st (a .i) (a .c) _ _ (now (a .bag)) (empty .if1 .taken);
+      state = still-state ps (now (a .tables)) rs (a .at .0) st (a .i) (a .c) (now (a .bag)) (empty .if1 .taken);
+      rules = still-rules ps (now (a .tables)) rs (a .at .0) st (a .i) (a .c) _ _ (now (a .bag)) (empty .if1 .taken);
       ends = end-kept (endsIn (now (a .state))) (a .i) _ (start .pre .carried);
     })
 
@@ -73,29 +76,24 @@ lead-requires c κs =
     (start .pre .position, start .pre .component, else1 .if1 .left)
 
 put-no-rule-requires : tie.Need-put-no-rule-requires
-put-no-rule-requires c κs =
-    let start : tie.Start = search in let after-u8-to-usize : tie.After-u8-to-usize = search in
-    rw (after-u8-to-usize .u8-to-usize .ensures) (start .pre .position)
+put-no-rule-requires c κs = let k : tie.After-u8-to-usize = search in within k
 
 returns-3 : tie.Need-returns-3
 unfolding changedBy
 returns-3 c =
-    let start : tie.Start = search in let nowhere : tie.Then3 = search in let after-lead : tie.After-lead = search in
-    let after-u8-to-usize : tie.After-u8-to-usize = search in
+    let start : tie.Start = search in let nowhere : tie.Then3 = search in let after-lead : tie.After-lead = search in let k : tie.After-u8-to-usize = search in
     let a = start .args in
     let put = c .put-no-rule .ensures in
     let leads = after-lead .lead .ensures in
     let told = ap some (sym (leads .no-rule (nowhere .if3 .taken))) ∙ leads .part in
     record {
       state = put .held ∙ led-nowhere (a .at .0) (heldIn (now (a .state))) (a .i) _ (sym (led-none (after-lead .lead .result) (nowhere .if3 .taken)) ∙ leads .phase);
-      rules = put .rules ∙ (rw (after-u8-to-usize .u8-to-usize .ensures) (put-some (lastRulesIn (now (a .state))) (a .i) _ _ told));
+      rules = put .rules ∙ (rw (k .u8-to-usize .ensures) (put-some (lastRulesIn (now (a .state))) (a .i) _ _ told));
       ends = put .ends ∙ end-kept (endsIn (now (a .state))) (a .i) _ (start .pre .carried ∙ ap (λ st. dueNumber (dueAtPosition (phasesIn (now (a .phases))) (now (a .tables)) st (a .i))) (sym (put .held)));
     }
 
 put-led-requires : tie.Need-put-led-requires
-put-led-requires c κs =
-    let start : tie.Start = search in let after-u8-to-usize : tie.After-u8-to-usize = search in
-    rw (after-u8-to-usize .u8-to-usize .ensures) (start .pre .position)
+put-led-requires c κs = let k : tie.After-u8-to-usize = search in within k
 
 put-end-requires-2 : tie.Need-put-end-requires-2
 put-end-requires-2 c κs =
@@ -107,22 +105,20 @@ unfolding changedBy
 returns-4 c =
     let start : tie.Start = search in let somewhere : tie.Else3 = search in let after-lead : tie.After-lead = search in
     let after-phase-told : tie.After-phase-told = search in let after-rule-told : tie.After-rule-told = search in
-    let after-put-led : tie.After-put-led = search in let after-u8-to-usize : tie.After-u8-to-usize = search in let after-whole : tie.After-whole = search in
+    let after-put-led : tie.After-put-led = search in let k : tie.After-u8-to-usize = search in let after-whole : tie.After-whole = search in
     let a = start .args in
-    let ps = phasesIn (now (a .phases)) in
     let st = heldIn (now (a .state)) in
+    let at-i = k .u8-to-usize .ensures in
     let entry = after-put-led .put-led .ensures in
     let end = c .put-end2 .ensures in
-    let at-i = after-u8-to-usize .u8-to-usize .ensures in
+    let set = rw at-i at (entry .held) in
     let leads = after-lead .lead .ensures in
     let byte = led-byte (after-lead .lead .result) (after-phase-told .phase-told .result) (omega (arith, somewhere .if3 .left)) (sym (after-phase-told .phase-told .ensures)) in
     let told = ap some (after-rule-told .rule-told .ensures) ∙ leads .part in
-    let phase = phase-put st _ _ (a .i) _ _ (entry .held) at-i (omega (arith, held-size (now (a .state)) (after-whole .whole .ensures) .0, start .pre .position)) in
-    let named = due-named ps (now (a .tables)) _ (a .i) (a .c) _ (start .pre .own) phase in
     record {
-      state = end .held ∙ (rw at-i at (entry .held)) ∙ led-into (a .at .0) st (a .i) _ _ (sym byte ∙ leads .phase);
+      state = end .held ∙ set ∙ led-into (a .at .0) st (a .i) _ _ (sym byte ∙ leads .phase);
       rules = end .rules ∙ entry .rules ∙ (rw at-i (put-some (lastRulesIn (now (a .state))) (a .i) _ _ told));
-      ends = end .ends ∙ rw (entry .ends, end .held) (ap (λ u. set (endsIn (now (a .state))) (a .i) (dueNumber u)) named);
+      ends = entered-ends (now (a .phases)) (now (a .tables)) (now (a .state)) _ _ (a .i) (a .c) (after-phase-told .phase-told .result) (a .at .0) set (held-size (now (a .state)) (after-whole .whole .ensures) .0) (entry .ends) (start .pre) end;
     }
 
 pub transition-spec : {M : Type 1} → statement M
