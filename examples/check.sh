@@ -82,6 +82,7 @@ model() { tail -c +9 "$here/$1.bin" >"$made/$1.model"; }
 model busy
 model jam
 model bad_rule
+model nested
 insert captions 0 "$here/captions.model" captions
 insert stray 0 "$here/captions.model" stray
 insert busy 0 "$made/busy.model" busy
@@ -95,6 +96,46 @@ for name in captions stray; do
   grep -v ' lit' "$made/$name-rules.out" >"$made/$name-others.out"
   agree "inserter $name with and without rules" "$here/$name.inserted" "$made/$name-others.out"
 done
+
+# The archive: what the inserter puts up, kept by columns and given back; a day of cues, searched by moment; and refusals.
+build archive "$here/archive.c"
+archive() {
+  "$made/archive" "$@" 2>&1
+  echo "status $?"
+}
+# list_again NAME MODEL: a list of cues whose records the inserter has put up
+list_again() {
+  "$made/archive" keep "$2" "$here/$1.cues" "$made/$1.columns" >/dev/null
+  "$made/archive" list "$made/$1.columns" >"$made/$1.listed"
+  grep '^[0-9].*:' "$here/$1.inserted" >"$made/$1.records"
+  agree "archive $1" "$made/$1.records" "$made/$1.listed"
+}
+list_again captions "$here/captions.model"
+list_again stray "$here/captions.model"
+list_again busy "$made/busy.model"
+awk 'BEGIN { for (t = 0; t < 86400000; t += 5000) print t, 0, 7 + t / 5000 % 2; print "end 86400000" }' >"$made/day.cues"
+{
+  archive keep "$here/captions.model" "$made/day.cues" "$made/day.columns"
+  archive find "$made/day.columns" 0
+  archive find "$made/day.columns" 40
+  archive find "$made/day.columns" 43205000
+  archive find "$made/day.columns" 43205040
+  archive find "$made/day.columns" 43205041
+  archive find "$made/day.columns" 86397040
+  archive list "$made/day.columns" | tail -n 3
+  echo 'end 60' >"$made/short.cues"
+  archive keep "$made/nested.model" "$made/short.cues" "$made/nested.columns"
+  archive find "$made/nested.columns" 55
+  archive keep "$here/full_root_bag.model" "$made/short.cues" "$made/full.columns"
+  archive find "$made/full.columns" 5 | cut -c 1-20 | tail -n 3
+  head -c 648003 "$made/day.columns" >"$made/cut.columns"
+  archive find "$made/cut.columns" 40
+  archive keep "$here/captions.model" "$here/backwards.cues" "$made/backwards.columns"
+  archive list "$made/backwards.columns"
+  archive keep "$made/jam.model" "$here/captions.cues" "$made/jam.columns"
+  archive find "$made/jam.columns" 200
+} >"$made/day.out"
+agree 'archive day' "$here/day.archived" "$made/day.out"
 
 # The heaviest calls on a stack of 256 KiB.
 build stack "$top/host/stack/stack.c"

@@ -82,11 +82,40 @@ static void calls(void) {
     holds(pdevs_read(model, sizeof model, run, sizeof run, 1).number == PDEVS_BAD_POSITION, "a position too high");
 }
 
+static uint64_t number_at(const uint8_t *bytes, int width) {
+    uint64_t n = 0;
+    while (width > 0) n = n * 256 + bytes[--width];
+    return n;
+}
+
+/* Two records by columns, of 1 and 2 messages, and back. */
+static void by_columns(void) {
+    static const uint8_t records[] = {
+        1, 0, 0, 0, 0, 0, 0, 0, /**/ 2, 0, /**/ 1, 0, /**/ 3, 1, 2,
+        1, 0, 0, 0, 0, 0, 0, 0, /**/ 4, 0, /**/ 2, 0, /**/ 0, 5, 0, /**/ 1, 6, 7,
+    };
+    uint8_t columns[PDEVS_COLUMNS_SIZE(sizeof records) + 1], back[sizeof records];
+    pdevs_written w = pdevs_trace_to_columns(records, sizeof records, columns, PDEVS_COLUMNS_SIZE(sizeof records));
+    holds(w.number == PDEVS_OK && w.bytes == PDEVS_COLUMNS_SIZE(sizeof records), "the size of columns");
+    holds(number_at(columns + PDEVS_COLUMNS_RECORD_COUNT, 4) == 2, "the record count");
+    holds(number_at(columns + PDEVS_COLUMNS_MOMENTS + 8, 8) == 1, "the second moment");
+    holds(number_at(columns + PDEVS_COLUMNS_STEPS(2) + 2, 2) == 4, "the second step");
+    holds(number_at(columns + PDEVS_COLUMNS_MESSAGE_COUNTS(2) + 2, 2) == 2, "the second message count");
+    holds(columns[PDEVS_COLUMNS_PORTS(2)] == 3 && columns[PDEVS_COLUMNS_PORTS(2) + 2] == 1, "the first and the last port");
+    holds(number_at(columns + PDEVS_COLUMNS_VALUES(2, 3) + 4, 2) == 6 + 256 * 7, "the last value");
+    w = pdevs_columns_to_trace(columns, w.bytes, back, sizeof back);
+    holds(w.number == PDEVS_OK && w.bytes == sizeof back && memcmp(back, records, sizeof back) == 0, "the trace again");
+    holds(pdevs_trace_to_columns(records, sizeof records - 1, columns, 0).number == PDEVS_NOT_A_TRACE, "a cut trace");
+    holds(pdevs_columns_to_trace(columns, sizeof columns, back, 0).number == PDEVS_NOT_COLUMNS, "a byte left over");
+    holds(pdevs_trace_to_columns(records, sizeof records, columns, sizeof records).number == PDEVS_BUFFER_TOO_SHORT, "no room");
+}
+
 int main(void) {
     numbers();
     calls();
+    by_columns();
     holds(PDEVS_MAX_RUN == 577, "the longest run");
     holds(PDEVS_MAX_RULES_TABLE == 126, "the longest rules table");
-    holds(strcmp(PDEVS_VERSION, "2.0") == 0, "the version");
+    holds(strcmp(PDEVS_VERSION, "2.1") == 0, "the version");
     return failed;
 }

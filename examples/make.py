@@ -2,7 +2,7 @@
 """Writes the example files, from models that can be read here: make.py [FOLDER], by default this one.
 
 NAME.bin is an input of the printing program, an end moment (8 bytes) and a model file; NAME.txt beside it is what the program
-must print. NAME.model is a model file alone: for the inserter with its NAME.cues, and for the test of the stack.
+must print. NAME.model is a model file alone: for the inserter and the archive with its NAME.cues, and for the test of the stack.
 """
 import pathlib
 import struct

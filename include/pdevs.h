@@ -1,5 +1,6 @@
 /*
- * A Parallel DEVS timing engine: reads a model, starts a run, advances it, reads it, flattens a model.
+ * A Parallel DEVS timing engine: reads a model, starts a run, advances it, reads it, flattens a model, and rearranges what a
+ * run has written.
  *
  * Every function is proved, for all bytes and numbers put in: the numbers it answers and the whole content of each lent
  * buffer are those of the engine's definitions. What the functions ask of the caller is at the end of this comment.
@@ -24,14 +25,21 @@
  * A bag has 3 bytes for each message: port (1), value (2). At most 16 messages, in any order.
  *
  * A trace has a record for each step with output at the root: moment (8), step in its instant from 0 (2), message count (2),
- * and 3 bytes for each message, in rising order of port, then value.
+ * and 3 bytes for each message, in rising order of port, then value. The pairs of moment and step rise strictly, moment first.
+ * The traces of successive advances, each given the run buffer as the one before left it, joined in turn are one trace, up to
+ * 4,294,967,295 records: refused advances add nothing to it, and those that 13, 14 or 15 ended add the instants done. A start
+ * begins another one.
+ *
+ * A trace by columns, as an archive keeps it that searches by moment, has the same numbers in another order: record count (4),
+ * all moments (8 each), all steps (2), all message counts (2), all ports (1), all values (2). It has PDEVS_COLUMNS_SIZE(bytes of
+ * the trace) bytes, 4 more than the trace; that of an empty trace is four zero bytes.
  *
  * A rules table has PDEVS_RULES_TABLE_SIZE(number of atomics) bytes, for each atomic in file order the position (2) of a rule in
  * the file, counted in rules from 0, or PDEVS_NO_RULE. PDEVS_MAX_RULES_TABLE bytes, 126, hold the table of any model.
  *
  * A call answers a number: 0 is success, the others are refusals. PDEVS_NUMBERS below has them all, with names and words, in
- * the order of the checks. With 1 to 12 and 16, and with 15 from start and flatten, every other number answered is 0 and no
- * byte of any buffer is changed. 13, 14 and 15 from advance keep what was done before: see there.
+ * the order of the checks. With 1 to 12 and 16 to 18, and with 15 from every call but advance, every other number answered is 0
+ * and no byte of any buffer is changed. 13, 14 and 15 from advance keep what was done before: see there.
  *
  * What is asked of the caller:
  *   - a pointer is not null, also where its length is 0, and is valid for its length (readable; writable where not const);
@@ -48,8 +56,8 @@
 
 /* The version of this interface: the minor number rises where something is added, the major where programs must change. */
 #define PDEVS_VERSION_MAJOR 2
-#define PDEVS_VERSION_MINOR 0
-#define PDEVS_VERSION PDEVS_VERSION_OF(PDEVS_VERSION_MAJOR, PDEVS_VERSION_MINOR) /* the same as a text, "2.0" */
+#define PDEVS_VERSION_MINOR 1
+#define PDEVS_VERSION PDEVS_VERSION_OF(PDEVS_VERSION_MAJOR, PDEVS_VERSION_MINOR) /* the same as a text, "2.1" */
 #define PDEVS_VERSION_OF(major, minor) PDEVS_VERSION_TEXT(major, minor)
 #define PDEVS_VERSION_TEXT(major, minor) #major "." #minor
 
@@ -73,10 +81,12 @@
     ROW(12, PDEVS_BAD_BAG, "the bag's length is no multiple of 3, or it has over 16 messages, or a port above 3")        \
     ROW(13, PDEVS_STILL_DUE, "something is still due at a moment after 1,024 steps there")                               \
     ROW(14, PDEVS_ROOT_BAG_LIMIT, "a step's bag at the root has over 4,096 messages")                                    \
+    ROW(17, PDEVS_NOT_A_TRACE, "the bytes to rearrange are no trace")                                                    \
+    ROW(18, PDEVS_NOT_COLUMNS, "the columns do not come from a trace")                                                   \
     ROW(15, PDEVS_BUFFER_TOO_SHORT, "the records pass the end of the lent trace, or the lent buffer is too short")       \
     ROW(16, PDEVS_BAD_POSITION, "the position is at or above the number of atomics")
 
-/* PDEVS_OK to PDEVS_BAD_POSITION. */
+/* PDEVS_OK to PDEVS_NOT_COLUMNS. */
 #define PDEVS_NAMED(number, name, words) name = number,
 enum pdevs_number { PDEVS_NUMBERS(PDEVS_NAMED) };
 #undef PDEVS_NAMED
@@ -90,9 +100,18 @@ enum pdevs_number { PDEVS_NUMBERS(PDEVS_NAMED) };
 #define PDEVS_RECORD_STEP 8
 #define PDEVS_RECORD_MESSAGE_COUNT 10
 
-/* The bytes of a saved run, and of a rules table. */
+/* The bytes of a saved run, of a rules table, and of a trace by columns. */
 #define PDEVS_RUN_SIZE(atomics) (10 + 9 * (atomics))
 #define PDEVS_RULES_TABLE_SIZE(atomics) (2 * (atomics))
+#define PDEVS_COLUMNS_SIZE(trace_bytes) ((trace_bytes) + 4)
+
+/* In a trace by columns: where the record count and each column begin, by the numbers of records and of messages. */
+#define PDEVS_COLUMNS_RECORD_COUNT 0
+#define PDEVS_COLUMNS_MOMENTS 4
+#define PDEVS_COLUMNS_STEPS(records) (4 + 8 * (size_t)(records))
+#define PDEVS_COLUMNS_MESSAGE_COUNTS(records) (4 + 10 * (size_t)(records))
+#define PDEVS_COLUMNS_PORTS(records) (4 + 12 * (size_t)(records))
+#define PDEVS_COLUMNS_VALUES(records, messages) (4 + 12 * (size_t)(records) + (size_t)(messages))
 
 /* In a rules table: no rule. No rule of a file has this position. */
 #define PDEVS_NO_RULE 65535
@@ -180,6 +199,25 @@ pdevs_reading pdevs_read(const uint8_t *model, size_t model_len, const uint8_t *
  * coupling; every run of it is a run of the nested model. The bytes beyond stay. Numbers: 1 to 9, 15.
  */
 pdevs_written pdevs_flatten(const uint8_t *model, size_t model_len, uint8_t *out, size_t out_len);
+
+/*
+ * Rearranges a trace into columns: writes them at the front of `out`. They take 4 bytes more than the trace, so a buffer of
+ * PDEVS_COLUMNS_SIZE(trace_len) bytes suffices; the bytes beyond stay. The two buffers must not overlap. Numbers: 17, 15.
+ *
+ * 17 says that `trace` is none: a record is cut off or has no message, a pair of moment and step does not lie above the one
+ * before it, messages fall within a record, a port is above 3, or there are over 4,294,967,295 records. Nothing else is asked:
+ * any moment, step and message count that its bytes can hold is taken, and an instant's first record may be of any step.
+ */
+pdevs_written pdevs_trace_to_columns(const uint8_t *trace, size_t trace_len, uint8_t *out, size_t out_len);
+
+/*
+ * Gives the trace back, byte for byte: writes it at the front of `out`. It takes 4 bytes less than its columns; the bytes beyond
+ * stay. The two buffers must not overlap. Numbers: 18, 15.
+ *
+ * 18 says that the columns do not come from a trace: they have under 4 bytes, or not as many as their counts say, or the records
+ * that they tell are no trace. The columns that pdevs_trace_to_columns makes of a trace are the only ones that give it back.
+ */
+pdevs_written pdevs_columns_to_trace(const uint8_t *columns, size_t columns_len, uint8_t *out, size_t out_len);
 
 #ifdef __cplusplus
 }

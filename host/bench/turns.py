@@ -13,10 +13,10 @@ import statistics
 import subprocess
 import sys
 
-PARTS = ("Steps", "One call", "Growth")
-# Name, form or size, and the times of the first yardstick and of the library. Steps and calls have routes and a count between.
-ROW = re.compile(r"^(.{28}) *(nest|flat) +\d+ +\d+ +([\d.]+) +[\d.]+ +([\d.]+) ")
+# Name, form or way or size, and the times of the first yardstick and of the library. Most have two counts between them.
+CALLS = re.compile(r"^(.{28}) *(nest|flat|there|back) +\d+ +\d+ +([\d.]+) +[\d.]+ +([\d.]+) ")
 GROWTH = re.compile(r"^(\S.{24,28}?) +(\d+) +([\d.]+) +[\d.]+ +([\d.]+) ")
+PARTS = {"Steps": CALLS, "One call": CALLS, "Growth": GROWTH, "Columns": CALLS}
 
 
 def place(path, layout):
@@ -37,7 +37,7 @@ def read(path):
         if line.strip() in PARTS:
             part = line.strip()
             continue
-        row = (GROWTH if part == "Growth" else ROW).match(line) if part else None
+        row = PARTS[part].match(line) if part else None
         if row:
             found[part, row[1].strip(), row[2]] = (float(row[3]), float(row[4]))
     return found
@@ -56,7 +56,7 @@ def rows(folder):
             shown += f" {times[0]:10.1f} {times[1]:9.1f} {ratios[of][key]:7.3f}"
         yardstick = [min(run[key][0] for run in runs[name]) for name in ("before", "now")]
         print(f"{shown} {yardstick[1] / yardstick[0]:7.3f}")
-    for parts in (("Steps", "One call"), ("Growth",)):
+    for parts in (("Steps", "One call"), ("Growth",), ("Columns",)):
         for of, name in ((min, "best layout"), (statistics.median, "middle of the layouts")):
             values = [ratios[of][key] for key in common if key[0] in parts]
             if values:

@@ -28,10 +28,21 @@ typedef struct {
     uint8_t rules[PDEVS_MAX_RULES_TABLE + 7];
     uint8_t flat[PDEVS_MAX_MODEL + 7];
     uint8_t trace[TRACE];
+    uint8_t columns[PDEVS_COLUMNS_SIZE(TRACE)];
 } outcome;
 
 static void say(outcome *o, uint64_t n) {
     if (o->count < MAX_ANSWERS) o->answers[o->count++] = n;
+}
+
+/* What an advance has written, by columns and back into its place. */
+static void rearrange(outcome *o, size_t trace_bytes) {
+    pdevs_written w = pdevs_trace_to_columns(o->trace, trace_bytes, o->columns, sizeof o->columns);
+    say(o, w.number);
+    say(o, w.bytes);
+    w = pdevs_columns_to_trace(o->columns, w.bytes, o->trace, sizeof o->trace);
+    say(o, w.number);
+    say(o, w.bytes);
 }
 
 static void advance(outcome *o, const uint8_t *model, size_t model_len, uint64_t t, const uint8_t *bag, size_t bag_len, size_t trace_len) {
@@ -43,9 +54,10 @@ static void advance(outcome *o, const uint8_t *model, size_t model_len, uint64_t
     say(o, a.trace_bytes);
     o->steps += a.steps;
     o->trace_bytes += a.trace_bytes;
+    rearrange(o, a.trace_bytes);
 }
 
-/* Start, advances with full and empty bags into long and short traces, and readings. */
+/* Start, advances with full and empty bags into long and short traces, what they write by columns, and readings. */
 static void calls_on(outcome *o, const uint8_t *model, size_t model_len) {
     static const uint64_t moments[] = {0, 1, 5, 6, 40, 1000, 1005, 2100};
     uint8_t bag[PDEVS_MAX_BAG];

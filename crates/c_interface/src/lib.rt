@@ -3,6 +3,7 @@
 ghost use mathlib.Core.Path.{_≡_};
 ghost use Rattle.call_answers.specs.Answers.{wroteOf, advancedOf, readOf};
 ghost use Rattle.definition.specs.Pinned.Decoder.{checkModel};
+ghost use Rattle.definition.specs.Pinned.TraceReader.{traceToColumns, columnsToTrace};
 ghost use Rattle.definition.specs.Engine.{start, advance, reading};
 ghost use Rattle.definition.specs.Flatten.{flatten};
 use call_answers::Advanced;
@@ -50,4 +51,18 @@ pub extern "C" fn pdevs_flatten(model: &[u8], out: &mut [u8]) -> Written
     ensures { λ r. ⌜ wroteOf (now (out .exit)) r ≡ flatten (now (model .entry)) (now (out .entry)) ⌝ }
 {
     engine::flatten(model, out)
+}
+
+#[no_mangle]
+pub extern "C" fn pdevs_trace_to_columns(trace: &[u8], out: &mut [u8]) -> Written
+    ensures { λ r. ⌜ wroteOf (now (out .exit)) r ≡ traceToColumns (now (trace .entry)) (now (out .entry)) ⌝ }
+{
+    engine::trace_to_columns(trace, out)
+}
+
+#[no_mangle]
+pub extern "C" fn pdevs_columns_to_trace(columns: &[u8], out: &mut [u8]) -> Written
+    ensures { λ r. ⌜ wroteOf (now (out .exit)) r ≡ columnsToTrace (now (columns .entry)) (now (out .entry)) ⌝ }
+{
+    engine::columns_to_trace(columns, out)
 }

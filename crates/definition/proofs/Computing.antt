@@ -16,6 +16,9 @@ use Rattle.definition.specs.Engine
 use Rattle.definition.specs.Flatten
 use Rattle.definition.specs.FlatMachine
 use Rattle.definition.specs.Calls
+use Rattle.definition.specs.Columns
+use Rattle.definition.specs.Pinned.TraceReader
+use Rattle.definition.specs.TracesByColumn
 
 unfoldable pub computing : Type 0
 unfolding
@@ -57,4 +60,9 @@ unfolding
     FlatMachine.openedPast FlatMachine.orEnd FlatMachine.dueBefore FlatMachine.inTurn FlatMachine.answered FlatMachine.flatAdvance
     FlatMachine.flatStart FlatMachine.flatReading
     Calls.called Calls.runCalls Calls.engine Calls.flatMachine
+    Columns.pairBelow Columns.recordFits Columns.column Columns.messagesOf Columns.columnBytes
+    TraceReader.isInOrder TraceReader.isTrace TraceReader.toRecord TraceReader.recordLength TraceReader.traceRecords TraceReader.traceOf
+    TraceReader.numbersAt TraceReader.messagesFrom TraceReader.dealt TraceReader.recordCount TraceReader.countsIn TraceReader.messagesIn
+    TraceReader.columnRecords TraceReader.columnsOf TraceReader.rearranged TraceReader.restored TraceReader.traceToColumns TraceReader.columnsToTrace
+    TracesByColumn.joinedTraces
 computing = Unit {0}

@@ -15,3 +15,4 @@ pub mod RunTable
 pub mod RuleTable
 pub mod FlatTable
 pub mod TraceTable
+pub mod ColumnTable

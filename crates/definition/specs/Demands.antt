@@ -24,6 +24,8 @@ use Rattle.definition.specs.Advance.{Ended}
 use Rattle.definition.specs.AdvanceRelation.{Ends}
 use Rattle.definition.specs.Engine.{Wrote, Advanced, WasRead, startRun, start, toBag, bagFits, withRules, advanced, advance, readAt, reading}
 use Rattle.definition.specs.Flatten.{flat, flatten}
+use Rattle.definition.specs.Columns.{Rearranges}
+use Rattle.definition.specs.Pinned.TraceReader.{traceToColumns, columnsToTrace}
 use Rattle.definition.specs.Calls.{Call, runCalls, engine, flatMachine}
 use Rattle.definition.specs.Carrying.{carried, rootOf, StandsFor, BetweenCalls, atStart, begins, Saved, Through}
 
@@ -63,6 +65,19 @@ StartRefusal = WriterRefusal (λ m. runLength (atomicCount m))
 
 abbrev pub FlattenRefusal : Bytes → Bytes → ℕ → Type 0
 FlattenRefusal = WriterRefusal (λ m. length (modelBytes (flat m)))
+
+-- Bytes rearranged: the number of the request where nothing can be made of them, then "15 lent buffer too short".
+pub data RearrangingRefusal (Makes : Bytes → Type 0) (nothing : ℕ) (buffer : Bytes) : ℕ → Type 0 where
+  nothing-to-make : ((made : Bytes) → Makes made → ⊥) → RearrangingRefusal Makes nothing buffer nothing
+  rearranging-refuses-buffer : (made : Bytes) → Makes made → length buffer < length made → RearrangingRefusal Makes nothing buffer 15
+
+-- "17 when the bytes to rearrange are no trace"
+abbrev pub ColumnsRefusal : Bytes → Bytes → ℕ → Type 0
+ColumnsRefusal trace = RearrangingRefusal (λ columns. Rearranges trace columns) 17
+
+-- "18 when the columns do not come from a trace"
+abbrev pub TraceRefusal : Bytes → Bytes → ℕ → Type 0
+TraceRefusal columns = RearrangingRefusal (λ trace. Rearranges trace columns) 18
 
 pub data ReadingRefusal (file run : Bytes) (position : ℕ) : ℕ → Type 0 where
   reading-refuses-model : (n : ℕ) → 0 < n → Judged file n → ReadingRefusal file run position n
@@ -105,6 +120,12 @@ pub record Demand1 : Type 0 where
   pub start-number : (file buffer : Bytes) → AllBytes file → 0 < start file buffer .number → StartRefusal file buffer (start file buffer .number)
   pub flatten-refused : (file buffer : Bytes) (n : ℕ) → FlattenRefusal file buffer n → flatten file buffer ≡ refusedWrite n buffer
   pub flatten-number : (file buffer : Bytes) → AllBytes file → 0 < flatten file buffer .number → FlattenRefusal file buffer (flatten file buffer .number)
+  pub columns-refused : (trace buffer : Bytes) (n : ℕ) → AllBytes trace → ColumnsRefusal trace buffer n → traceToColumns trace buffer ≡ refusedWrite n buffer
+  pub columns-number : (trace buffer : Bytes) → AllBytes trace → 0 < traceToColumns trace buffer .number
+      → ColumnsRefusal trace buffer (traceToColumns trace buffer .number)
+  pub trace-refused : (columns buffer : Bytes) (n : ℕ) → AllBytes columns → TraceRefusal columns buffer n → columnsToTrace columns buffer ≡ refusedWrite n buffer
+  pub trace-number : (columns buffer : Bytes) → AllBytes columns → 0 < columnsToTrace columns buffer .number
+      → TraceRefusal columns buffer (columnsToTrace columns buffer .number)
   pub reading-refused : (file run : Bytes) (position n : ℕ) → ReadingRefusal file run position n
       → reading file run position ≡ refusedReading n
   pub reading-number : (file run : Bytes) (position : ℕ) → AllBytes file → 0 < reading file run position .number
@@ -118,6 +139,10 @@ pub record Demand1 : Type 0 where
       → start file buffer ≡ record { number = 0; written = runLength (atomicCount m); buffer = stored (runBytes (startRun m)) buffer }
   pub flatten-done : (file buffer : Bytes) (m : Model) → accepted file ≡ ok m → length (modelBytes (flat m)) ≤ length buffer
       → flatten file buffer ≡ record { number = 0; written = length (modelBytes (flat m)); buffer = stored (modelBytes (flat m)) buffer }
+  pub columns-done : (trace columns buffer : Bytes) → Rearranges trace columns → length columns ≤ length buffer
+      → traceToColumns trace buffer ≡ record { number = 0; written = length columns; buffer = stored columns buffer }
+  pub trace-done : (columns trace buffer : Bytes) → Rearranges trace columns → length trace ≤ length buffer
+      → columnsToTrace columns buffer ≡ record { number = 0; written = length trace; buffer = stored trace buffer }
   pub reading-done : (file run : Bytes) (position : ℕ) (m : Model) → accepted file ≡ ok m → runFits m run ≡ true → position < atomicCount m
       → reading file run position ≡ readAt (runOf m run .entries) position (nextDue m (runOf m run .entries))
   -- An instant that needs over 1,024 steps, or whose records overrun the lent trace, is left undone whole, and the instants before it

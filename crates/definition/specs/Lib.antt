@@ -18,6 +18,7 @@ pub mod Instant
 pub mod Advance
 pub mod Engine
 pub mod Flatten
+pub mod Columns
 pub mod FlatMachine
 pub mod Calls
 pub mod AdvanceRelation
@@ -25,3 +26,4 @@ pub mod Carrying
 pub mod Demands
 pub mod StrayCue
 pub mod DecidedRules
+pub mod TracesByColumn

@@ -1,4 +1,4 @@
--- Every limit and every width of document 01, by name, once. Assumes nothing.
+-- Every limit and every width of documents 01 and 02, by name, once. Assumes nothing.
 use Prim.Native.Nat.{ℕ}
 
 -- ---- the model file
@@ -60,6 +60,10 @@ couplingSize = 4
 abbrev pub messageSize : ℕ
 messageSize = 3
 
+-- The head of a trace record: moment (8), step (2) and message count (2).
+abbrev pub recordHead : ℕ
+recordHead = 12
+
 -- The head of a saved run: open moment (8) and atomic count (2).
 abbrev pub headSize : ℕ
 headSize = 10
@@ -95,6 +99,10 @@ noPosition = 65535
 
 abbrev pub positionSize : ℕ
 positionSize = 2
+
+-- "up to 4,294,967,295 records", whose number has 4 bytes
+abbrev pub maxRecords : ℕ
+maxRecords = 4294967295
 
 -- ---- lengths that suffice for every model
 -- The longest model file: four counts, 64 components, 512 phases, 1,024 rules, 1,024 couplings.

@@ -1,2 +1,3 @@
 -- What computes and is pinned by theorems: nobody needs to believe it.
 pub mod Decoder
+pub mod TraceReader

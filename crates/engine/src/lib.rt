@@ -2,6 +2,7 @@
 // definitions, for all inputs.
 ghost use mathlib.Core.Path.{_≡_};
 ghost use Rattle.definition.specs.Pinned.Decoder.{checkModel};
+ghost use Rattle.definition.specs.Pinned.TraceReader.{traceToColumns, columnsToTrace};
 ghost use Rattle.definition.specs.Engine.{start, advance, reading};
 ghost use Rattle.definition.specs.Flatten.{flatten};
 ghost use Rattle.call_answers.specs.Answers.{wroteOf, advancedOf, readOf};
@@ -50,4 +51,18 @@ pub fn flatten(file: &[u8], out: &mut [u8]) -> Written
     ensures { λ r. ⌜ wroteOf (now (out .exit)) r ≡ flatten (now (file .entry)) (now (out .entry)) ⌝ }
 {
     call_flatten::flatten(file, out)
+}
+
+// Writes a trace by columns at the front of the buffer.
+pub fn trace_to_columns(trace: &[u8], out: &mut [u8]) -> Written
+    ensures { λ r. ⌜ wroteOf (now (out .exit)) r ≡ traceToColumns (now (trace .entry)) (now (out .entry)) ⌝ }
+{
+    call_columns::trace_to_columns(trace, out)
+}
+
+// Writes the trace of columns at the front of the buffer.
+pub fn columns_to_trace(columns: &[u8], out: &mut [u8]) -> Written
+    ensures { λ r. ⌜ wroteOf (now (out .exit)) r ≡ columnsToTrace (now (columns .entry)) (now (out .entry)) ⌝ }
+{
+    call_columns::columns_to_trace(columns, out)
 }

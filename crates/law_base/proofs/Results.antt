@@ -8,7 +8,7 @@ use Rattle.definition.specs.Bytes.{Result, ok, refused, _>>=_, refuseIf}
 pub ok-same : {A : Type 0} (a b : A) → ok a ≡ ok b → a ≡ b
 ok-same a b e = cc
 
-never-ok : {A : Type 0} (n : ℕ) (a : A) → refused n ≡ ok a → ⊥
+pub never-ok : {A : Type 0} (n : ℕ) (a : A) → refused n ≡ ok a → ⊥
 never-ok n a e = let z : _≡_ {A = ℕ} 0 1 = cc in omega arith
 
 pub bind-ok : {A B : Type 0} (r : Result A) (f : A → Result B) (b : B) → (r >>= f) ≡ ok b → (a : A) × (r ≡ ok a) × (f a ≡ ok b)

@@ -4,7 +4,7 @@ use mathlib.Core.Path.{_≡_, refl, sym, ap, _∙_}
 use mathlib.Core.List.{[], _∷_}
 use Prim.Native.Nat.{ℕ, zero, suc, _+_, _*_, _-_, _/_, _%_, _^_, _≤_, _<_}
 use native.Mathlib.Omega.{arith}
-use native.Mathlib.Nat.{pow-succ', pow-le-pow-right, add-zero, sub-zero}
+use native.Mathlib.Nat.{pow-succ', pow-le-pow-right, add-zero, zero-add, mul-assoc, sub-zero}
 use lib.ListN.{length, take, drop, getD, set}
 use lib.Seq.{take-nil, getD-drop, drop-drop, take-take, sets}
 use Rattle.definition.specs.Bytes.{Bytes, littleEndian, numberAt, chunks, bytesOf}
@@ -28,6 +28,18 @@ number-none at s = refl
 
 pub number-one : (at : ℕ) (s : Bytes) → numberAt 1 at s ≡ getD s at 0
 number-one at s = omega (arith, number-more 0 at s, number-none (at + 1) s)
+
+-- A number's low bytes, and those above them.
+pub number-parts : (a b at : ℕ) (s : Bytes) → numberAt (a + b) at s ≡ numberAt a at s + 256 ^ a * numberAt b (at + a) s
+number-parts zero b at s = rw (add-zero, zero-add, number-none at s) (omega arith)
+number-parts (suc a) b at s =
+    let above = numberAt b (at + suc a) s in
+    let e : at + 1 + a ≡ at + suc a = omega arith in
+    let tail : numberAt (a + b) (at + 1) s ≡ numberAt a (at + 1) s + 256 ^ a * above
+    = number-parts a b (at + 1) s ∙ ap (λ k. numberAt a (at + 1) s + 256 ^ a * numberAt b k s) e in
+    let scaled : 256 ^ suc a * above ≡ 256 * (256 ^ a * above) = rw pow-succ' (mul-assoc 256 (256 ^ a) above) in
+    let n : suc a + b ≡ suc (a + b) = omega arith in
+    ap (λ k. numberAt k at s) n ∙ omega (arith, number-more (a + b) at s, number-more a at s, tail, scaled)
 
 -- w bytes hold a number below 256 to the w.
 pub number-below : (w at : ℕ) (s : Bytes) → ((i : ℕ) → getD s i 0 < 256) → numberAt w at s < 256 ^ w

@@ -61,6 +61,11 @@ pub const RECORD_COUNT_AT: usize = 10;
 
 pub const RECORD_HEAD: usize = 12;
 
+// Columns begin with the number of records, in 4 bytes.
+pub const COLUMNS_HEAD: usize = 4;
+
+pub const MAX_RECORDS: usize = 4294967295;
+
 pub const MAX_GIVEN: usize = 16;
 
 pub const MAX_STEPS: u64 = 1024;
@@ -116,3 +121,7 @@ pub const ROOT_BAG_LIMIT: u64 = 14;
 pub const BUFFER_TOO_SHORT: u64 = 15;
 
 pub const BAD_POSITION: u64 = 16;
+
+pub const NOT_A_TRACE: u64 = 17;
+
+pub const NOT_COLUMNS: u64 = 18;

@@ -66,6 +66,28 @@ pub fn u64_at(s: &[u8], at: usize) -> u64
     number_at(s, at, 8)
 }
 
+// The same numbers where the bytes are known to be there, without a test.
+pub fn u16_within(s: &[u8], at: usize) -> u16
+    requires { ⌜ at + 2 ≤ length (now s) ⌝ }
+    ensures { λ r. ⌜ r ≡ numberAt 2 at (now (s .entry)) ⌝ }
+{
+    widen::u8_to_u16(s[at]) + 256 * widen::u8_to_u16(s[at + 1])
+}
+
+fn u32_within(s: &[u8], at: usize) -> u32
+    requires { ⌜ at + 4 ≤ length (now s) ⌝ }
+    ensures { λ r. ⌜ r ≡ numberAt 4 at (now (s .entry)) ⌝ }
+{
+    widen::u16_to_u32(u16_within(s, at)) + 65536 * widen::u16_to_u32(u16_within(s, at + 2))
+}
+
+pub fn u64_within(s: &[u8], at: usize) -> u64
+    requires { ⌜ at + 8 ≤ length (now s) ⌝ }
+    ensures { λ r. ⌜ r ≡ numberAt 8 at (now (s .entry)) ⌝ }
+{
+    widen::u32_to_u64(u32_within(s, at)) + 4294967296 * widen::u32_to_u64(u32_within(s, at + 4))
+}
+
 // The low n bytes of v at `at`.
 pub fn put_number(out: &mut [u8], at: usize, n: usize, v: u64)
     requires { ⌜ at + n ≤ length (now out) ⌝ }

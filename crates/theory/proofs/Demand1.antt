@@ -31,6 +31,7 @@ use Rattle.law_flat.proofs.Checks.{advance-ok}
 use Rattle.law_refusals.proofs.Judged.{judged, judged-only, judged-number, sound-accepted, accepted-sound as sound-of}
 use Rattle.law_calls.proofs.BagOrder.{agree-order}
 use Rattle.theory.proofs.CallRows.{row-of, start-refused, start-number, flatten-refused, flatten-number, reading-refused, reading-number, advance-refused}
+use Rattle.theory.proofs.ColumnRows.{columns-refused, columns-number, columns-done, trace-refused, trace-number, trace-done}
 use Rattle.law_model.proofs.Answers.{start-done, reading-done, endOf, advance-done}
 use Rattle.law_calls.proofs.Fitting.{fits-run, start-fits, advance-fits}
 use Rattle.theory.proofs.Ending.{ends, only, undone}
@@ -130,12 +131,18 @@ demand1 = record {
   start-number = start-number;
   flatten-refused = flatten-refused;
   flatten-number = flatten-number;
+  columns-refused = columns-refused;
+  columns-number = columns-number;
+  trace-refused = trace-refused;
+  trace-number = trace-number;
   reading-refused = reading-refused;
   reading-number = reading-number;
   advance-refused = advance-refused;
   advance-number = advance-number;
   start-done = start-done;
   flatten-done = flatten-done;
+  columns-done = columns-done;
+  trace-done = trace-done;
   reading-done = reading-done;
   advance-ends = λ file run t bag trace table m b e h.
       let w = accepted-sound file m b e .sound in

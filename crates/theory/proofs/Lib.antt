@@ -6,6 +6,7 @@ pub mod Instants
 pub mod Ending
 pub mod RuleTables
 pub mod CallRows
+pub mod ColumnRows
 pub mod Demand1
 pub mod Lengths
 pub mod Resuming
@@ -20,6 +21,10 @@ pub mod StrayCue
 pub mod EachAtomic
 pub mod LastParts
 pub mod DecidedRules
+pub mod Sent
+pub mod Spans
+pub mod Joined
+pub mod TracesByColumn
 pub mod Demand2
 pub mod FlatTrace
 pub mod FlatLoops

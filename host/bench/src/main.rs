@@ -1,10 +1,14 @@
 //! Measures engines with the same interface in one process: the proved library, where it is linked
 //! (feature `library`), against two optimised, unverified ones. `pulled` has the same algorithm,
-//! `flat rows` compiles routes to flat rows and is the limit.
+//! `flat rows` compiles routes to flat rows and is the limit. Traces are rearranged by the library against
+//! two others: `passes` has the same algorithm, `unbroken` judges messages without a way out of the loop.
 //!
 //! `bench/run.sh` builds and runs it. `--rounds N` takes the best of N rounds, `--only TEXT` measures
-//! only what has TEXT in its name.
+//! only what has TEXT in its name. `--write FOLDER` measures nothing, and writes the trace of a week and
+//! its columns there (`bench/sizes.sh`).
 
+mod column_passes;
+mod columns;
 mod engine;
 mod flat_rows;
 mod measure;
@@ -13,7 +17,8 @@ mod report;
 mod shared;
 mod workloads;
 
-// The tests hold both engines against the reference on the comparison's models and calls.
+// The tests hold both engines against the reference on the comparison's models and calls. The comparison
+// itself holds `passes` and `unbroken` against it.
 #[cfg(test)]
 mod agreement;
 #[cfg(test)]
@@ -39,8 +44,10 @@ mod random;
 #[path = "../../compare/src/runs.rs"]
 mod runs;
 
+use columns::Rearrangers;
 use measure::{measure, Engines};
 use report::{Line, Report};
+use std::path::PathBuf;
 use std::process::ExitCode;
 use std::time::Instant;
 use workloads::growth::Series;
@@ -49,10 +56,11 @@ use workloads::Workload;
 struct Arguments {
     rounds: usize,
     only: String,
+    write: Option<PathBuf>,
 }
 
 fn arguments() -> Result<Arguments, String> {
-    let mut arguments = Arguments { rounds: 25, only: String::new() };
+    let mut arguments = Arguments { rounds: 25, only: String::new(), write: None };
     let mut words = std::env::args().skip(1);
     while let Some(word) = words.next() {
         let value = words.next().ok_or_else(|| format!("{word} wants a value"))?;
@@ -61,6 +69,7 @@ fn arguments() -> Result<Arguments, String> {
                 arguments.rounds = value.parse().map_err(|_| format!("{value} is no number"))?
             }
             "--only" => arguments.only = value,
+            "--write" => arguments.write = Some(value.into()),
             _ => return Err(format!("{word} is not known")),
         }
     }
@@ -76,8 +85,10 @@ impl Arguments {
 /// The benchmark on its way.
 struct Run<'r> {
     engines: &'r Engines,
+    rearrangers: &'r Rearrangers,
     arguments: &'r Arguments,
     report: Report,
+    by_column: Report,
 }
 
 impl Run<'_> {
@@ -128,6 +139,20 @@ impl Run<'_> {
         Ok(())
     }
 
+    /// Traces there and back.
+    fn columns(&mut self) -> Result<(), String> {
+        let facts = ["way", "records", "bytes"];
+        let unit = "ns a KB of trace; ratios of speed";
+        self.by_column.head("Columns", &facts, unit, Some("bytes/s"));
+        let arguments = self.arguments;
+        for named in workloads::traces::ALL.iter().filter(|named| arguments.want(named.name)) {
+            let trace = named.trace(&self.engines[self.report.subject].1);
+            let rearrangers = self.rearrangers;
+            columns::lines(rearrangers, named.name, &trace, arguments.rounds, &mut self.by_column)?;
+        }
+        Ok(())
+    }
+
     fn all(&mut self) -> Result<(), String> {
         let facts = ["form", "routes", "steps"];
         self.report.head("Steps", &facts, "ns a step; ratios of speed", Some("steps/s"));
@@ -141,7 +166,18 @@ impl Run<'_> {
                 self.series(&series)?;
             }
         }
-        Ok(())
+        self.columns()
+    }
+}
+
+/// The exit status of writing files.
+fn written(outcome: std::io::Result<()>) -> ExitCode {
+    match outcome {
+        Ok(()) => ExitCode::SUCCESS,
+        Err(fault) => {
+            eprintln!("{fault}");
+            ExitCode::FAILURE
+        }
     }
 }
 
@@ -160,7 +196,10 @@ fn main() -> ExitCode {
             return ExitCode::FAILURE;
         }
     };
-    let engines = engine::engines();
+    let (engines, rearrangers) = (engine::engines(), columns::engines());
+    if let Some(folder) = &arguments.write {
+        return written(columns::write_week(&engines, &rearrangers, folder));
+    }
     let begun = Instant::now();
     println!("best of {} rounds, engines in turn within each round; caches warm", arguments.rounds);
     println!(
@@ -169,12 +208,21 @@ fn main() -> ExitCode {
     if cfg!(debug_assertions) {
         println!("CHECKS ARE ON: these figures mean nothing; use bench/run.sh");
     }
-    let report = Report::new(&engines);
-    let mut run = Run { engines: &engines, arguments: &arguments, report };
+    let mut run = Run {
+        engines: &engines,
+        rearrangers: &rearrangers,
+        arguments: &arguments,
+        report: Report::new(engines.iter().map(|(name, _)| *name).collect()),
+        by_column: Report::new(rearrangers.iter().map(|(name, _)| *name).collect()),
+    };
     match run.all() {
         Ok(()) => {
-            println!("\n{:.1} s", begun.elapsed().as_secs_f64());
+            println!("\n{:.1} s\n", begun.elapsed().as_secs_f64());
             run.report.goals();
+            run.by_column.goals();
+            if !cfg!(feature = "library") {
+                println!("The proved library is not linked, so no goal is tested.");
+            }
             ExitCode::SUCCESS
         }
         Err(fault) => {

@@ -72,7 +72,7 @@ pub fn measure(
         return Err(format!("{}: refused by {}", workload.name, answer.number));
     }
     let mut bench = Bench::new(model, workload, &expected.started);
-    let passes = bench.passes_in_a_round(&engines[0].1);
+    let passes = passes_in_a_round(|| bench.round(&engines[0].1, 1));
     let mut best = vec![f64::INFINITY; engines.len()];
     for round in 0..rounds {
         // Another engine begins in each round.
@@ -128,9 +128,10 @@ impl<'w> Bench<'w> {
         (0..passes).for_each(|_| self.pass(engine));
         begun.elapsed().as_secs_f64() * 1e9 / f64::from(passes)
     }
+}
 
-    fn passes_in_a_round(&mut self, engine: &Functions) -> u32 {
-        let pass = (0..5).map(|_| self.round(engine, 1)).fold(f64::INFINITY, f64::min);
-        (ROUND.as_secs_f64() * 1e9 / pass).clamp(1.0, 1e6) as u32
-    }
+/// How many passes of this time, in nanoseconds, make a round.
+pub fn passes_in_a_round(mut pass: impl FnMut() -> f64) -> u32 {
+    let pass = (0..5).map(|_| pass()).fold(f64::INFINITY, f64::min);
+    (ROUND.as_secs_f64() * 1e9 / pass).clamp(1.0, 1e6) as u32
 }

@@ -1,11 +1,10 @@
 //! Tables of what was measured. The subject is the proved library where it is linked, and else the
-//! pulled engine; ratios are the subject's speed as a part of another engine's.
-
-use crate::measure::Engines;
+//! first engine; ratios are the subject's speed as a part of another engine's.
 
 /// The least ratio that is wanted.
 const GOAL: f64 = 0.8;
 const LABEL: usize = 26;
+const FACT: usize = 8;
 const COLUMN: usize = 11;
 
 /// One line of a table.
@@ -33,8 +32,8 @@ pub struct Report {
 }
 
 impl Report {
-    pub fn new(engines: &Engines) -> Report {
-        let names: Vec<&'static str> = engines.iter().map(|(name, _)| *name).collect();
+    /// For these engines, the one with the library's algorithm first.
+    pub fn new(names: Vec<&'static str>) -> Report {
         let subject = names.iter().position(|&name| name == "library").unwrap_or(0);
         let ratios = names.iter().map(|_| Ratios::default()).collect();
         Report { names, subject, ratios }
@@ -49,7 +48,7 @@ impl Report {
     pub fn head(&self, title: &str, facts: &[&str], unit: &str, rate: Option<&str>) {
         println!("\n{title}");
         let mut line = format!("{:LABEL$}", "");
-        facts.iter().for_each(|fact| line += &format!("{fact:>7}"));
+        facts.iter().for_each(|fact| line += &format!("{fact:>FACT$}"));
         for name in &self.names {
             line += &format!("{:>COLUMN$}", *name);
         }
@@ -64,7 +63,7 @@ impl Report {
 
     pub fn line(&mut self, line: &Line) {
         let mut text = format!("{:LABEL$}", line.label);
-        line.facts.iter().for_each(|fact| text += &format!("{fact:>7}"));
+        line.facts.iter().for_each(|fact| text += &format!("{fact:>FACT$}"));
         line.nanoseconds.iter().for_each(|time| text += &format!("{time:>COLUMN$.1}"));
         if let Some(rate) = line.rate {
             text += &format!("{rate:>COLUMN$.0}");
@@ -81,15 +80,15 @@ impl Report {
         println!("{}", text.trim_end());
     }
 
-    /// The goals are set for the library: against the pulled engine everywhere, against flat rows on
+    /// The goals are set for the library: against the first engine everywhere, against flat rows on
     /// flat models.
     fn is_wanted(&self, other: usize, is_flat: bool) -> bool {
-        self.names[self.subject] == "library" && (self.names[other] == "pulled" || is_flat)
+        self.names[self.subject] == "library" && (other == 0 || is_flat)
     }
 
     /// What one more of a size costs, from the first to the last line of a series.
     pub fn growth(&self, first: (u64, &[f64]), last: (u64, &[f64])) {
-        let mut text = format!("{:LABEL$}{:>7}", "  one more costs", "");
+        let mut text = format!("{:LABEL$}{:>FACT$}", "  one more costs", "");
         for (before, after) in first.1.iter().zip(last.1) {
             text += &format!("{:>COLUMN$.2}", (after - before) / (last.0 - first.0) as f64);
         }
@@ -98,13 +97,8 @@ impl Report {
 
     /// What a change is held to: the middle and the lowest ratio, and how many rows reach the goal.
     pub fn goals(&mut self) {
-        if self.names[self.subject] != "library" {
-            println!("\nThe proved library is not linked, so no goal is tested.");
-            return;
-        }
-        println!();
         for other in self.others().collect::<Vec<usize>>() {
-            let place = if self.names[other] == "pulled" { "" } else { " on flat models" };
+            let place = if other == 0 { "" } else { " on flat models" };
             if let Some(summary) = self.ratios[other].summary() {
                 println!("of {}{place}: {summary}", self.names[other]);
             }

@@ -1,4 +1,5 @@
-//! What is measured: models, each with a list of advance calls from the run that start writes.
+//! What is measured: models, each with a list of advance calls from the run that start writes; and traces
+//! to rearrange.
 
 mod bursts;
 mod calls;
@@ -7,6 +8,7 @@ pub mod growth;
 mod nests;
 mod rules;
 mod stations;
+pub mod traces;
 
 use reference::builder::Builder;
 use reference::decode::decode;

@@ -33,6 +33,8 @@ pub enum Kind {
     Advance,
     Read,
     Flatten,
+    TraceToColumns,
+    ColumnsToTrace,
 }
 
 #[derive(Clone, Copy, Debug, PartialEq, Eq)]

@@ -8,9 +8,9 @@ use crate::models::damage::{self, Damage};
 use crate::models::{chains, limits, nests};
 use crate::random::Random;
 use crate::runs::{self, RunDamage, RUN_DAMAGES};
+use crate::{columns, notice, rules_table, special};
 #[cfg(test)]
-use crate::{counts::Counts, worked};
-use crate::{notice, rules_table, special};
+use crate::{counts::Counts, engine::rearrangers, worked};
 use reference::decode::decode;
 use reference::model::Model;
 
@@ -20,6 +20,7 @@ pub fn names() -> Vec<&'static str> {
     names.extend(limits::LIMITS.iter().map(|limit| limit.0));
     names.extend(RUN_DAMAGES.iter().map(|damage| damage.name));
     names.extend(special::names());
+    names.extend(columns::names());
     names.extend(calls_on_model::NAMES);
     names.extend(notice::NOTICED);
     names.extend(rules_table::names());
@@ -33,13 +34,15 @@ const ROUNDS_OF_DAMAGE: usize = 5;
 /// The number of cases that come in every run.
 pub fn fixed() -> usize {
     let damages = damage::all().len() + RUN_DAMAGES.len();
-    limits::LIMITS.len() + special::CASES.len() + ROUNDS_OF_DAMAGE * damages
+    let made_for_something = special::CASES.len() + columns::CASES.len();
+    limits::LIMITS.len() + made_for_something + ROUNDS_OF_DAMAGE * damages
 }
 
 /// One case of a run. The first ones are fixed, the others random.
 pub fn case(comparison: &mut Comparison, random: &mut Random, number: usize) -> Compared<()> {
     if number >= fixed() {
-        return random_case(comparison, random);
+        random_case(comparison, random)?;
+        return columns::random_trace(comparison, random);
     }
     let mut at = number;
     if let Some(limit) = limits::LIMITS.get(at) {
@@ -50,6 +53,10 @@ pub fn case(comparison: &mut Comparison, random: &mut Random, number: usize) -> 
         return special(comparison, random);
     }
     at -= special::CASES.len();
+    if let Some(about_traces) = columns::CASES.get(at) {
+        return about_traces(comparison, random);
+    }
+    at -= columns::CASES.len();
     let damages = damage::all();
     at %= damages.len() + RUN_DAMAGES.len();
     match damages.get(at) {
@@ -66,6 +73,7 @@ fn random_case(comparison: &mut Comparison, random: &mut Random) -> Compared<()>
             at_limit(comparison, random, &limit)
         }
         81 if random.percent(60) => random.pick(&special::CASES)(comparison, random),
+        81 if random.percent(20) => random.pick(&columns::CASES)(comparison, random),
         81..=93 => {
             let damage = random.pick(&damage::all());
             damaged(comparison, random, damage)
@@ -82,9 +90,9 @@ fn random_case(comparison: &mut Comparison, random: &mut Random) -> Compared<()>
 /// Calls on a nest or a chain as chance makes it, with nothing in it for the sake of a boundary.
 pub fn on_random_model(comparison: &mut Comparison, random: &mut Random) -> Compared<()> {
     let model = if random.percent(75) { nests::nest(random) } else { chains::chain(random) };
-    comparison.counts.on_a_random_model = true;
+    comparison.counts.at_random = true;
     let outcome = well_formed(comparison, random, &model);
-    comparison.counts.on_a_random_model = false;
+    comparison.counts.at_random = false;
     outcome
 }
 
@@ -189,7 +197,7 @@ fn bytes_changed(comparison: &mut Comparison, random: &mut Random) -> Compared<(
 fn fixed_cases_of_every_seed_meet_everything() {
     for seed in 0..40 {
         let counts = Counts::new(names());
-        let mut comparison = Comparison::new(Vec::new(), counts);
+        let mut comparison = Comparison::new(Vec::new(), rearrangers(), counts);
         worked::compare(&mut comparison).expect("the worked table");
         for number in 0..fixed() {
             let mut random = Random::for_case(seed, number as u64);

@@ -1,8 +1,9 @@
 //! Making the same call on every engine, and comparing all answers and all bytes of all lent buffers.
 
 use crate::call::{Answer, Call, Kind};
+use crate::columns::joined::Joined;
 use crate::counts::Counts;
-use crate::engine::{Engine, Form, Subject, Yardstick};
+use crate::engine::{Engine, Form, Rearranger, Subject, Yardstick};
 use crate::laws::{self, Buffers};
 use crate::lent::Lent;
 use crate::notice;
@@ -16,8 +17,12 @@ pub type Compared<T> = Result<T, String>;
 
 pub struct Comparison {
     subjects: Vec<Subject>,
+    /// By name.
+    pub rearrangers: Vec<(&'static str, Box<dyn Rearranger>)>,
     pub counts: Counts,
+    /// The calls on models, and the calls that rearrange traces.
     pub calls: u64,
+    pub rearranged: u64,
 }
 
 /// A list of calls on one model over one run buffer, of which each engine has its own.
@@ -29,6 +34,7 @@ pub struct CallList<'c> {
     yardstick: Yardstick,
     run: Lent,
     runs: Vec<Lent>,
+    joined: Joined,
 }
 
 /// What all engines answer to a call, and the content of the trace and of the table of rules it lent.
@@ -38,9 +44,23 @@ pub struct Outcome {
     pub rules: Vec<u8>,
 }
 
+impl Outcome {
+    /// The records that an advance wrote.
+    pub fn records(&self) -> &[u8] {
+        match self.answer {
+            Answer::Advanced(answer) => &self.trace[..answer.trace_bytes as usize],
+            _ => &[],
+        }
+    }
+}
+
 impl Comparison {
-    pub fn new(subjects: Vec<Subject>, counts: Counts) -> Comparison {
-        Comparison { subjects, counts, calls: 0 }
+    pub fn new(
+        subjects: Vec<Subject>,
+        rearrangers: Vec<(&'static str, Box<dyn Rearranger>)>,
+        counts: Counts,
+    ) -> Comparison {
+        Comparison { subjects, rearrangers, counts, calls: 0, rearranged: 0 }
     }
 
     /// The number by which every engine refuses the file, or 0.
@@ -91,6 +111,7 @@ impl Comparison {
             yardstick: Yardstick::new(file),
             run: Lent::new(first_run),
             runs,
+            joined: Joined::default(),
             comparison: self,
         }
     }
@@ -145,19 +166,23 @@ impl CallList<'_> {
         counts.transitions(&observed);
         notice::notice(counts, self.model.as_ref(), call, &answer, &run_before, &observed);
         rules_table::notice(counts, self.model.as_ref(), call, &answer, &observed.last_instant);
-        Ok(Outcome { answer, trace: trace.to_vec(), rules: rules.to_vec() })
+        let outcome = Outcome { answer, trace: trace.to_vec(), rules: rules.to_vec() };
+        self.comparison
+            .rearrange_run(&mut self.joined, call, &outcome)
+            .map_err(|fault| format!("{fault}\nin {call}\n{}", shown("model", &self.file)))?;
+        Ok(outcome)
     }
 }
 
 /// A file's bytes in hexadecimal digits, where they are few enough to be read.
-fn shown(what: &str, file: &[u8]) -> String {
+pub fn shown(what: &str, file: &[u8]) -> String {
     let digits: String = file.iter().take(800).map(|byte| format!("{byte:02x}")).collect();
     let more = if file.len() > 800 { " .." } else { "" };
     format!("{what} of {} bytes: {digits}{more}", file.len())
 }
 
-/// Compares an answer and a lent buffer with those of the yardstick.
-fn same<A: PartialEq + std::fmt::Debug>(
+/// Compares an answer and a lent buffer with those of the yardstick, or of the reference.
+pub fn same<A: PartialEq + std::fmt::Debug>(
     name: &str,
     what: &str,
     answer: &A,

@@ -1,19 +1,24 @@
 //! What a comparison run has met, and what it must meet to pass.
 
 use crate::call::Kind;
-use crate::rules_table;
+use crate::{columns, rules_table};
 use reference::limits::ANCESTORS;
 use reference::lit_rules::LastInstant;
 use reference::observed::Observed;
 use std::collections::BTreeMap;
 
-const KINDS: [(Kind, &str); 5] = [
+const KINDS: [(Kind, &str); 7] = [
     (Kind::CheckModel, "check_model"),
     (Kind::Start, "start"),
     (Kind::Advance, "advance"),
     (Kind::Read, "read"),
     (Kind::Flatten, "flatten"),
+    (Kind::TraceToColumns, "trace_to_columns"),
+    (Kind::ColumnsToTrace, "columns_to_trace"),
 ];
+
+/// One more than the highest number.
+const NUMBERS: usize = 19;
 
 /// Strays after some time in the phase, by the atomic's ancestors.
 const STRAYS: [&str; ANCESTORS] = [
@@ -35,25 +40,27 @@ fn possible_numbers(kind: Kind) -> Vec<usize> {
         Kind::Start | Kind::Flatten => &[15],
         Kind::Advance => &[10, 11, 12, 13, 15],
         Kind::Read => &[10, 16],
+        Kind::TraceToColumns => return vec![0, 15, 17],
+        Kind::ColumnsToTrace => return vec![0, 15, 18],
     };
     (0..=9).chain(others.iter().copied()).collect()
 }
 
 #[derive(Default)]
 pub struct Counts {
-    numbers: [[u64; 17]; 5],
-    transitions: BTreeMap<&'static str, Met>,
+    numbers: [[u64; NUMBERS]; KINDS.len()],
+    kinds: BTreeMap<&'static str, Met>,
     named: BTreeMap<&'static str, u64>,
-    /// Whether the calls at hand are on a random model.
-    pub on_a_random_model: bool,
+    /// Whether the calls at hand are on a random model, or on a random trace.
+    pub at_random: bool,
 }
 
-/// How often a kind of transition was met. Each comes in a case made for it; those on random models
-/// count apart, so that a generator which has lost a kind is told.
+/// How often a kind of transition or of trace was met. Each comes in a case made for it; those that chance
+/// has made count apart, so that a generator which has lost a kind is told.
 #[derive(Default)]
 struct Met {
     in_all_cases: u64,
-    on_random_models: u64,
+    at_random: u64,
 }
 
 impl Counts {
@@ -62,6 +69,7 @@ impl Counts {
         let mut counts = Counts { named, ..Counts::default() };
         counts.transitions(&Observed::default());
         counts.kinds(rules_table::kinds(&LastInstant::default()));
+        counts.kinds(columns::kinds());
         counts
     }
 
@@ -90,12 +98,12 @@ impl Counts {
         self.kinds(kinds.into_iter().chain(STRAYS.into_iter().zip(observed.strays)));
     }
 
-    /// Counts how often kinds of transitions, or of what they light, were met.
+    /// Counts how often kinds of transitions, of what they light, or of traces were met.
     pub fn kinds(&mut self, kinds: impl Iterator<Item = (&'static str, u64)>) {
         for (name, count) in kinds {
-            let met = self.transitions.entry(name).or_default();
+            let met = self.kinds.entry(name).or_default();
             met.in_all_cases += count;
-            met.on_random_models += if self.on_a_random_model { count } else { 0 };
+            met.at_random += if self.at_random { count } else { 0 };
         }
     }
 
@@ -109,13 +117,13 @@ impl Counts {
         let width = largest.to_string().len().max(8) + 1;
         let columns = |row: &[u64]| row.iter().map(|n| format!("{n:>width$}")).collect::<String>();
         println!("numbers answered:");
-        println!("{:>12}{}", "", columns(&(0..17).collect::<Vec<u64>>()));
+        println!("{:>16}{}", "", columns(&(0..NUMBERS as u64).collect::<Vec<u64>>()));
         for (row, (_, name)) in self.numbers.iter().zip(KINDS) {
-            println!("{name:>12}{}", columns(row));
+            println!("{name:>16}{}", columns(row));
         }
-        println!("transitions and what they light in all cases, and those on random models:");
-        for (name, Met { in_all_cases, on_random_models }) in &self.transitions {
-            println!("{in_all_cases:>12}{on_random_models:>12}  {name}");
+        println!("transitions, what they light, and traces, in all cases and at random:");
+        for (name, Met { in_all_cases, at_random }) in &self.kinds {
+            println!("{in_all_cases:>12}{at_random:>12}  {name}");
         }
         println!("boundaries and damages:");
         self.named.iter().for_each(|(name, count)| println!("{count:>12}  {name}"));
@@ -123,9 +131,9 @@ impl Counts {
 
     /// What should have been met and was not, or was met and should not have been.
     pub fn faults(&self) -> Vec<String> {
-        let lost = self.transitions.iter().filter(|(_, met)| met.on_random_models == 0);
+        let lost = self.kinds.iter().filter(|(_, met)| met.at_random == 0);
         let mut faults = self.faults_of_all_cases();
-        faults.extend(lost.map(|(name, _)| format!("never met on a random model: {name}")));
+        faults.extend(lost.map(|(name, _)| format!("never met at random: {name}")));
         faults
     }
 
@@ -142,9 +150,9 @@ impl Counts {
                 }
             }
         }
-        let transitions = self.transitions.iter().map(|(name, met)| (name, met.in_all_cases));
+        let kinds = self.kinds.iter().map(|(name, met)| (name, met.in_all_cases));
         let named = self.named.iter().map(|(name, count)| (name, *count));
-        let never = transitions.chain(named).filter(|(_, count)| *count == 0);
+        let never = kinds.chain(named).filter(|(_, count)| *count == 0);
         faults.extend(never.map(|(name, _)| format!("never met: {name}")));
         faults
     }
@@ -172,12 +180,12 @@ fn a_stray_that_only_fixed_cases_meet_is_told() {
         observed
     };
     counts.transitions(&on_level(8));
-    counts.on_a_random_model = true;
+    counts.at_random = true;
     counts.transitions(&on_level(7));
     let faults = counts.faults();
     let told = |fault: &str| faults.iter().any(|known| known == fault);
-    assert!(told("never met on a random model: stray with 8 ancestors"));
+    assert!(told("never met at random: stray with 8 ancestors"));
     assert!(!told("never met: stray with 8 ancestors"));
-    assert!(!told("never met on a random model: stray with 7 ancestors"));
+    assert!(!told("never met at random: stray with 7 ancestors"));
     assert!(told("never met: stray with 6 ancestors"));
 }

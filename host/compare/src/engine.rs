@@ -1,9 +1,10 @@
-//! The engines that are held against each other, all behind the same five functions.
+//! The engines that are held against each other, all behind the same functions.
 
 use std::cell::Cell;
 
+use crate::column_passes;
 use reference::advance::Lent;
-pub use reference::engine::Engine;
+pub use reference::engine::{Engine, Rearranger};
 use reference::engine::{FLAT_MACHINE, NEST};
 use reference::nest::DeadWays;
 use reference::observed::Observed;
@@ -35,6 +36,16 @@ pub fn subjects() -> Vec<Subject> {
         subject("library", Box::new(library::FUNCTIONS), Form::AsGiven),
         #[cfg(feature = "library")]
         subject("library on the flat form", Box::new(library::FUNCTIONS), Form::Flat),
+    ]
+}
+
+/// All engines of this build that rearrange traces, by name. The reference is what they are compared with.
+pub fn rearrangers() -> Vec<(&'static str, Box<dyn Rearranger>)> {
+    vec![
+        ("passes over slices", Box::new(column_passes::PASSES)),
+        ("unbroken passes", Box::new(column_passes::UNBROKEN)),
+        #[cfg(feature = "library")]
+        ("library", Box::new(library::REARRANGING)),
     ]
 }
 

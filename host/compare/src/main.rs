@@ -1,15 +1,19 @@
 //! Holds engines against each other: the reference on the nest, the reference on the flat form, the
-//! flat machine, and with the feature `library` the proved static library.
+//! flat machine, and with the feature `library` the proved static library. Traces are rearranged by the
+//! reference, by the benchmark's passes over slices, and by the library.
 //!
 //! `compare --calls N --seed S` runs until N calls are compared; `--case K` repeats one case alone.
 //! The run fails where an answer or a byte of a lent buffer differs, where a line of the papers does
-//! not hold, and where a refusal number, a kind of transition or a boundary was never met. Each kind of
-//! transition must be met on random models too: a run of less than 20,000 calls may have too few of them.
+//! not hold, and where a refusal number, a kind of transition or of trace, or a boundary was never met.
+//! Each kind must be met at random too: a run of less than 20,000 calls may have too few random models.
 
 mod arguments;
 mod call;
 mod calls_on_model;
 mod cases;
+#[path = "../../bench/src/column_passes.rs"]
+mod column_passes;
+mod columns;
 mod comparison;
 mod counts;
 mod engine;
@@ -109,16 +113,21 @@ fn main() -> ExitCode {
         }
     };
     let subjects = engine::subjects();
+    let rearrangers = engine::rearrangers();
     let names: Vec<&str> = subjects.iter().map(|subject| subject.name).collect();
     println!("seed {}, engines: {}", arguments.seed, names.join("; "));
+    let names: Vec<&str> = rearrangers.iter().map(|(name, _)| *name).collect();
+    println!("traces rearranged by the reference; {}", names.join("; "));
     let counts = Counts::new(cases::names());
-    let mut comparison = Comparison::new(subjects, counts);
+    let mut comparison = Comparison::new(subjects, rearrangers, counts);
     let begun = Instant::now();
     if let Err(fault) = run(&arguments, &mut comparison) {
         eprintln!("DIFFERENT: {fault}");
         return ExitCode::FAILURE;
     }
-    println!("{} calls compared in {:.1} s", comparison.calls, begun.elapsed().as_secs_f64());
+    let (calls, rearranged) = (comparison.calls, comparison.rearranged);
+    let seconds = begun.elapsed().as_secs_f64();
+    println!("{calls} calls on models and {rearranged} on traces compared in {seconds:.1} s");
     if arguments.case.is_some() {
         return ExitCode::SUCCESS;
     }

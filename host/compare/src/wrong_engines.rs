@@ -1,5 +1,6 @@
 //! Engines with one fault each, made of the reference: the comparison must find every one.
 
+mod columns;
 mod lit_rules;
 mod stays;
 
@@ -198,7 +199,7 @@ impl Engine for Faulty {
 fn comparison_with(fault: Fault) -> Comparison {
     let engine = Box::new(Faulty(fault));
     let subject = Subject { name: "faulty", engine, form: Form::AsGiven };
-    Comparison::new(vec![subject], Counts::new(cases::names()))
+    Comparison::new(vec![subject], Vec::new(), Counts::new(cases::names()))
 }
 
 /// Runs the worked table and the cases of these numbers, until a difference is found.

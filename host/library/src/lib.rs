@@ -1,15 +1,16 @@
-//! The proved static library through its C interface: the five functions, with the answers that the
-//! second implementation has too. Empty without the feature `linked`.
+//! The proved static library through its C interface: the functions on models and on traces, with the
+//! answers that the second implementation has too. Empty without the feature `linked`.
 //!
 //! Each call is sound because a slice is a pointer valid for its length and never null, and because
 //! a mutable slice overlaps no other: this is all that the header asks.
 #![cfg(feature = "linked")]
 
-use reference::engine::Functions;
+use reference::engine::{Functions, Rearranging};
 use reference::{Advanced, Reading, Written};
 
 /// The library as an engine.
 pub const FUNCTIONS: Functions = Functions { check_model, start, advance, read, flatten };
+pub const REARRANGING: Rearranging = Rearranging { trace_to_columns, columns_to_trace };
 
 #[repr(C)]
 struct PdevsWritten {
@@ -64,6 +65,18 @@ extern "C" {
     fn pdevs_flatten(
         model: *const u8,
         model_len: usize,
+        out: *mut u8,
+        out_len: usize,
+    ) -> PdevsWritten;
+    fn pdevs_trace_to_columns(
+        trace: *const u8,
+        trace_len: usize,
+        out: *mut u8,
+        out_len: usize,
+    ) -> PdevsWritten;
+    fn pdevs_columns_to_trace(
+        columns: *const u8,
+        columns_len: usize,
         out: *mut u8,
         out_len: usize,
     ) -> PdevsWritten;
@@ -127,4 +140,14 @@ pub fn read(model: &[u8], run: &[u8], position: u64) -> Reading {
 
 pub fn flatten(model: &[u8], out: &mut [u8]) -> Written {
     unsafe { pdevs_flatten(model.as_ptr(), model.len(), out.as_mut_ptr(), out.len()) }.into()
+}
+
+pub fn trace_to_columns(trace: &[u8], out: &mut [u8]) -> Written {
+    unsafe { pdevs_trace_to_columns(trace.as_ptr(), trace.len(), out.as_mut_ptr(), out.len()) }
+        .into()
+}
+
+pub fn columns_to_trace(columns: &[u8], out: &mut [u8]) -> Written {
+    unsafe { pdevs_columns_to_trace(columns.as_ptr(), columns.len(), out.as_mut_ptr(), out.len()) }
+        .into()
 }

@@ -17,8 +17,10 @@ pub const STILL_DUE: u64 = 13;
 pub const ROOT_BAG_LIMIT: u64 = 14;
 pub const BUFFER_TOO_SHORT: u64 = 15;
 pub const BAD_POSITION: u64 = 16;
+pub const NOT_A_TRACE: u64 = 17;
+pub const NOT_COLUMNS: u64 = 18;
 
-/// What start and flattening answer.
+/// What the writers of one buffer answer: start, flattening, and rearranging a trace.
 #[derive(Clone, Copy, Debug, PartialEq, Eq)]
 pub struct Written {
     pub number: u64,
@@ -46,6 +48,15 @@ pub struct Reading {
 impl Written {
     pub fn refused(number: u64) -> Written {
         Written { number, bytes: 0 }
+    }
+
+    /// Writes all of it over the front of a lent buffer, or nothing where that is too short.
+    pub fn at_the_front(buffer: &mut [u8], bytes: &[u8]) -> Written {
+        if buffer.len() < bytes.len() {
+            return Written::refused(BUFFER_TOO_SHORT);
+        }
+        buffer[..bytes.len()].copy_from_slice(bytes);
+        Written { number: SUCCESS, bytes: bytes.len() as u64 }
     }
 }
 

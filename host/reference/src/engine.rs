@@ -1,4 +1,4 @@
-//! An engine as its five functions, and engines that are made of plain functions.
+//! An engine as its functions, five on models and two on traces, and engines that are made of plain ones.
 
 use crate::{flat_machine, Advanced, Reading, Written};
 
@@ -18,15 +18,27 @@ pub trait Engine {
     fn flatten(&self, model: &[u8], out: &mut [u8]) -> Written;
 }
 
+/// The functions that rearrange a trace. They take no model, so that nest and flat form are nothing to them.
+pub trait Rearranger {
+    fn trace_to_columns(&self, trace: &[u8], out: &mut [u8]) -> Written;
+    fn columns_to_trace(&self, columns: &[u8], out: &mut [u8]) -> Written;
+}
+
 type Advancing = fn(&[u8], &mut [u8], u64, &[u8], &mut [u8], &mut [u8]) -> Advanced;
 
-/// The functions of one engine.
+/// The functions of one engine on models.
 pub struct Functions {
     pub check_model: fn(&[u8]) -> u64,
     pub start: fn(&[u8], &mut [u8]) -> Written,
     pub advance: Advancing,
     pub read: fn(&[u8], &[u8], u64) -> Reading,
     pub flatten: fn(&[u8], &mut [u8]) -> Written,
+}
+
+/// The functions of one engine on traces.
+pub struct Rearranging {
+    pub trace_to_columns: fn(&[u8], &mut [u8]) -> Written,
+    pub columns_to_trace: fn(&[u8], &mut [u8]) -> Written,
 }
 
 /// The nest, messages that die on their way dropped.
@@ -73,5 +85,15 @@ impl Engine for Functions {
 
     fn flatten(&self, model: &[u8], out: &mut [u8]) -> Written {
         (self.flatten)(model, out)
+    }
+}
+
+impl Rearranger for Rearranging {
+    fn trace_to_columns(&self, trace: &[u8], out: &mut [u8]) -> Written {
+        (self.trace_to_columns)(trace, out)
+    }
+
+    fn columns_to_trace(&self, columns: &[u8], out: &mut [u8]) -> Written {
+        (self.columns_to_trace)(columns, out)
     }
 }

@@ -1,6 +1,6 @@
 //! Flattening: the root and the atomics alone, with each route as a coupling.
 
-use crate::answers::{Written, BUFFER_TOO_SHORT, SUCCESS};
+use crate::answers::Written;
 use crate::decode::decode;
 use crate::model::Model;
 use crate::records::{Component, Coupling, Rule};
@@ -12,12 +12,7 @@ pub fn flatten(file: &[u8], out: &mut [u8]) -> Written {
         Ok(model) => model,
         Err(number) => return Written::refused(number),
     };
-    let flat = flat_form(&model).encode();
-    if out.len() < flat.len() {
-        return Written::refused(BUFFER_TOO_SHORT);
-    }
-    out[..flat.len()].copy_from_slice(&flat);
-    Written { number: SUCCESS, bytes: flat.len() as u64 }
+    Written::at_the_front(out, &flat_form(&model).encode())
 }
 
 /// The flat form of an accepted model.

@@ -3,13 +3,15 @@
 //!
 //! `check_model`, `start`, `advance`, `read` and `flatten` work on the nest: each coupled component is
 //! a coordinator that acts as the resultant of its children. `flat_machine` holds a machine of its own
-//! for flat forms. Every function takes whole buffers and answers the numbers of the papers' table.
+//! for flat forms. `trace_to_columns` and `columns_to_trace` rearrange traces and take no model. Every
+//! function takes whole buffers and answers the numbers of the papers' table.
 
 pub mod advance;
 pub mod answers;
 pub mod atomic;
 pub mod builder;
 pub mod checks;
+pub mod columns;
 pub mod decode;
 pub mod engine;
 pub mod examples;
@@ -30,6 +32,7 @@ pub mod trace;
 
 pub use advance::read;
 pub use answers::{Advanced, Reading, Written};
+pub use columns::{columns_to_trace, trace_to_columns};
 pub use flatten::flatten;
 pub use saved_run::start;
 

@@ -20,6 +20,8 @@ pub const HIGHEST_OPEN_MOMENT: u64 = HIGHEST_TIME + 1;
 pub const GIVEN_MESSAGES: usize = 16;
 pub const STEPS_OF_AN_INSTANT: u64 = 1_024;
 pub const ROOT_BAG: usize = 4_096;
+/// The most records of a trace that is stored by column.
+pub const RECORDS: usize = 4_294_967_295;
 
 /// In a rules table: no rule.
 pub const NO_RULE: u16 = 65_535;

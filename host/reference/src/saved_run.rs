@@ -1,6 +1,6 @@
 //! A saved run: its byte form, when it fits a model, and starting one.
 
-use crate::answers::{Written, BUFFER_TOO_SHORT, RUN_DOES_NOT_FIT, SUCCESS};
+use crate::answers::{Written, RUN_DOES_NOT_FIT};
 use crate::decode::decode;
 use crate::limits;
 use crate::little_endian::{u16_at, u64_at};
@@ -97,10 +97,5 @@ pub fn start(file: &[u8], run: &mut [u8]) -> Written {
         Ok(model) => model,
         Err(number) => return Written::refused(number),
     };
-    let first = SavedRun::first(&model).encode();
-    if run.len() < first.len() {
-        return Written::refused(BUFFER_TOO_SHORT);
-    }
-    run[..first.len()].copy_from_slice(&first);
-    Written { number: SUCCESS, bytes: first.len() as u64 }
+    Written::at_the_front(run, &SavedRun::first(&model).encode())
 }

@@ -6,7 +6,7 @@ use super::{Advance, Workload};
 use reference::builder::{bag, phase, rule, Builder, NEVER};
 use reference::records::{Phase, Rule};
 
-const CUE: u16 = 7;
+pub const CUE: u16 = 7;
 const RESET: u16 = 200;
 const PERIOD: u32 = 40;
 const HOLD: u32 = 10;
@@ -25,7 +25,12 @@ pub fn all() -> Vec<Workload> {
 /// A chain that is called once for each cue, as an inserter does.
 pub fn cue_calls() -> Workload {
     let calls = (1..=100).map(|cue| Advance { t: cue * 10, bag: bag(&[(0, CUE)]) });
-    Workload::with_calls("15 stations, one cue", &chain(15, 0, None), calls.collect())
+    Workload::with_calls("15 stations, one cue", &chain_for_cues(15), calls.collect())
+}
+
+/// A chain of so many stations that takes its cues from the root.
+pub fn chain_for_cues(stations: usize) -> Builder {
+    chain(stations, 0, None)
 }
 
 /// A chain of stations, each inside so many shells, with a source of cues or the root's input 0.

@@ -1,0 +1,4 @@
+pub mod InRow
+pub mod InColumns
+pub mod Turns
+pub mod Wholes

@@ -1,0 +1,15 @@
+use Rattle.columns_records.specs.Places.{pairAbove}
+use borrow.Author.Needs.{needs}
+use native.Mathlib.Omega.{arith}
+use Rattle.columns_records.proofs.pair_above.Statement.{statement}
+use Rattle.columns_records.proofs.pair_above.Tie as tie
+use Rattle.columns_records.proofs.pair_above.Reads as reads
+use Rattle.columns_records.proofs.pair_above.Lts as lts
+
+-- src/lib.rt:67:1
+returns : tie.Need-returns
+unfolding pairAbove
+returns c = search needs
+
+pub pair-above-spec : {M : Type 1} → statement M
+pair-above-spec = tie.close (tie.spec returns)

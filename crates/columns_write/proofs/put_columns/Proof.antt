@@ -1,0 +1,111 @@
+-- The records that are left, put onto the buffer as it is, give what all of them give on the buffer as lent (`columns-more`).
+use borrow.Author.Needs.{needs}
+use native.Mathlib.Omega.{arith}
+use Prim.Native.Nat.{_+_, _*_, _-_, _≤_}
+use mathlib.Core.Path.{_≡_, refl, sym, ap, _∙_}
+use denote.Ref.{now}
+use lib.ListN.{length}
+use Rattle.definition.specs.Bytes.{numberAt}
+use Rattle.columns_records.specs.Places.{RecordWithin, recordAt, recordPut}
+use Rattle.columns_forms.specs.Forms.{inRow, inColumns, rowPlaces, nextColumn, rowMessages, intoColumns, ColumnsWithin}
+use Rattle.columns_forms.proofs.InRow.{within-row}
+use Rattle.columns_forms.proofs.Turns.{row-more, columns-here, columns-next, columns-more, columns-none}
+use Rattle.columns_write.proofs.put_columns.Statement.{statement}
+use Rattle.columns_write.proofs.put_columns.Tie as tie
+
+abbrev Inv-loop : tie.InvT-loop
+Inv-loop s n out₀ left₀ at₀ to₀ out left at to =
+    (length out ≡ length out₀) × (at + 12 * left + 3 * rowMessages left at s ≤ length s) × ColumnsWithin (length out₀) left to (rowMessages left at s)
+    × (intoColumns left at to s out ≡ intoColumns n 0 to₀ s out₀)
+
+abbrev μ-loop : tie.MeasureT-loop
+μ-loop s n out₀ left₀ at₀ to₀ out left at to = left
+
+loop-holds : tie.Need-loop-holds Inv-loop μ-loop
+loop-holds c = let start : tie.Start Inv-loop μ-loop = search in (refl, omega (arith, start .pre .0), start .pre .1, refl)
+
+-- The record lies within the trace, its places within the buffer, and so do those after it.
+reaches : (c : tie.In-loop Inv-loop μ-loop) → (let l = c .before .loop in let s = now (c .before .before .before .before .args .s) in
+    let m = numberAt 2 (l .at + 10) s in l .at + 12 + 3 * m + 12 * (l .left - 1) + 3 * rowMessages (l .left - 1) (l .at + 12 + 3 * m) s ≤ length s)
+reaches c =
+    let l = c .before .loop in
+    let s = now (c .before .before .before .before .args .s) in
+    omega (arith, l .inv .1, c .loop-test .taken, row-more (l .left) (l .at) s (c .loop-test .taken))
+
+here : (c : tie.In-loop Inv-loop μ-loop) → (let l = c .before .loop in let a = c .before .before .before .before .args in
+    RecordWithin (length (now (a .out))) inColumns (l .to) (numberAt 2 (l .at + 10) (now (a .s))))
+here c =
+    let l = c .before .loop in
+    let a = c .before .before .before .before .args in
+    let s = now (a .s) in
+    columns-here (length (now (a .out))) (l .left) (l .to) (numberAt 2 (l .at + 10) s) _ (rowMessages (l .left) (l .at) s) (l .inv .2) (c .loop-test .taken)
+    (row-more (l .left) (l .at) s (c .loop-test .taken))
+
+after : (c : tie.In-loop Inv-loop μ-loop) → (let l = c .before .loop in let a = c .before .before .before .before .args in let s = now (a .s) in
+    let m = numberAt 2 (l .at + 10) s in
+    ColumnsWithin (length (now (a .out))) (l .left - 1) (nextColumn (l .to) m) (rowMessages (l .left - 1) (l .at + 12 + 3 * m) s))
+after c =
+    let l = c .before .loop in
+    let a = c .before .before .before .before .args in
+    let s = now (a .s) in
+    columns-next (length (now (a .out))) (l .left) (l .to) (numberAt 2 (l .at + 10) s) _ (rowMessages (l .left) (l .at) s) (l .inv .2) (c .loop-test .taken)
+    (row-more (l .left) (l .at) s (c .loop-test .taken))
+
+-- The count as a length.
+count-is : (c : tie.After-u16-to-usize Inv-loop μ-loop) → (let l = c .before .before .before .loop in let s = now (c .before .before .before .before .before .before .args .s) in
+    c .u16-to-usize .result ≡ numberAt 2 (l .at + 10) s)
+count-is c = c .u16-to-usize .ensures ∙ c .before .u16-within .ensures
+
+put-record-requires : tie.Need-put-record-requires Inv-loop μ-loop
+unfolding rowPlaces
+put-record-requires c κs =
+    let inside : tie.In-loop Inv-loop μ-loop = search in let places : tie.After-row-places Inv-loop μ-loop = search in
+    let row : tie.After-in-row Inv-loop μ-loop = search in let columns : tie.After-in-columns Inv-loop μ-loop = search in
+    let l = inside .before .loop in
+    let s = now (inside .before .before .before .before .args .s) in
+    let source = within-row (length s) (l .at) (numberAt 2 (l .at + 10) s) (omega (arith, reaches inside)) in
+    rw (places .row-places .ensures, row .in-row .ensures, columns .in-columns .ensures, l .inv .0) ((omega arith, omega arith), source, (omega arith, omega arith), here inside)
+
+next-column-requires : tie.Need-next-column-requires Inv-loop μ-loop
+unfolding nextColumn
+next-column-requires c κs =
+    let inside : tie.In-loop Inv-loop μ-loop = search in let wide : tie.After-u16-to-usize Inv-loop μ-loop = search in
+    let n = count-is wide in
+    let w = after inside in
+    (omega (arith, w .moments), omega (arith, w .steps), omega (arith, w .counts), omega (arith, w .ports, n), omega (arith, w .values, n))
+
+loop-again : tie.Need-loop-again Inv-loop μ-loop
+loop-again c =
+    let inside : tie.In-loop Inv-loop μ-loop = search in let places : tie.After-row-places Inv-loop μ-loop = search in
+    let row : tie.After-in-row Inv-loop μ-loop = search in let columns : tie.After-in-columns Inv-loop μ-loop = search in
+    let put : tie.After-put-record Inv-loop μ-loop = search in let wide : tie.After-u16-to-usize Inv-loop μ-loop = search in
+    let l = inside .before .loop in
+    let s = now (inside .before .before .before .before .args .s) in
+    let n = count-is wide in
+    let next = c .next-column .ensures ∙ ap (nextColumn (l .to)) n in (
+      put .put-record .kept .1 .1 .1 .0 ∙ l .inv .0,
+      rw n (reaches inside),
+      rw (next, n) (after inside),
+      rw (put .put-record .ensures, places .row-places .ensures, row .in-row .ensures, columns .in-columns .ensures, next, n)
+          (columns-more (l .left) (l .at) (l .to) s (l .out) (inside .loop-test .taken) ∙ l .inv .3),
+    )
+
+returns : tie.Need-returns Inv-loop μ-loop
+returns c =
+    let l = c .before .loop in
+    let s = now (c .before .before .before .before .args .s) in
+    sym (columns-none (l .left) (l .at) (l .to) s (l .out) (c .loop-test .left)) ∙ l .inv .3
+
+pub put-columns-spec : {M : Type 1} → statement M
+put-columns-spec =
+    tie.close (tie.spec Inv-loop μ-loop loop-holds
+    (λ c. let inside : tie.In-loop Inv-loop μ-loop = search in omega (arith, reaches inside))
+    (λ c κs. let inside : tie.In-loop Inv-loop μ-loop = search in omega (arith, reaches inside))
+    (λ c κs. search needs)
+    (λ c κs. let inside : tie.In-loop Inv-loop μ-loop = search in omega (arith, reaches inside))
+    (λ c κs. search needs) (λ c κs. search needs) put-record-requires
+    (λ c. let inside : tie.In-loop Inv-loop μ-loop = search in omega (arith, reaches inside))
+    (λ c. search needs)
+    (λ c. let inside : tie.In-loop Inv-loop μ-loop = search in let wide : tie.After-u16-to-usize Inv-loop μ-loop = search in
+    omega (arith, reaches inside, count-is wide))
+    next-column-requires (λ c. search needs) (λ c. search needs) loop-again (λ c. c .before .loop .inv .0) returns)
