@@ -1,5 +1,5 @@
 -- From what going over columns found to the outcome of the call. Assumes nothing.
-use mathlib.Core.Path.{_≡_, refl, sym, ap, ap₂, _∙_}
+use mathlib.Core.Path.{_≡_, refl, sym, ap, _∙_}
 use Prim.Native.Nat.{ℕ, _+_, _*_, _-_, _≤_, _<_}
 use mathlib.Core.List.{List}
 use mathlib.Core.Bool.{not}
@@ -9,13 +9,12 @@ use lib.ListN.{length}
 use borrow.Author.Tests.{eqb-true, not-false, lt-ltb, le-ltb}
 use Rattle.definition.specs.Bytes.{Bytes, AllBytes, Result, ok, refused, _>>=_, stored}
 use Rattle.definition.specs.Instant.{TraceRecord, traceBytes}
-use Rattle.definition.specs.Engine.{Wrote, wrote}
-use Rattle.definition.specs.Columns.{messagesOf, columnBytes}
+use Rattle.definition.specs.Engine.{wrote}
 use Rattle.definition.specs.Pinned.TraceReader.{recordCount, messagesIn, isTrace, columnRecords, columnsOf, restored, columnsToTrace}
 use Rattle.law_base.proofs.Results.{ok-same, never-ok, bind-ok, refuse-ok}
 use Rattle.law_columns.specs.ByPosition.{columnsScanned, recordsAt}
 use Rattle.law_columns.proofs.WholeColumns.{read-columns, no-columns}
-use Rattle.law_columns.proofs.ColumnPlaces.{length-columns, four-longer}
+use Rattle.law_columns.proofs.ColumnPlaces.{four-longer}
 use Rattle.law_columns.proofs.Positions.{counted, total-at, columns-at, columns-scanned}
 use Rattle.law_columns.proofs.Filling.{trace-put}
 use Rattle.columns_forms.specs.Forms.{columnsFrom, countsBy, intoRow}

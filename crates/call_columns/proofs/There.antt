@@ -7,8 +7,8 @@ use lib.ListN.{length}
 use lib.Seq.{sets}
 use borrow.Author.Tests.{lt-ltb, le-ltb}
 use Rattle.definition.specs.Bytes.{Bytes, AllBytes, Result, ok, refused, _>>=_, bytesOf, stored}
-use Rattle.definition.specs.Instant.{TraceRecord, traceBytes}
-use Rattle.definition.specs.Engine.{Wrote, wrote}
+use Rattle.definition.specs.Instant.{TraceRecord}
+use Rattle.definition.specs.Engine.{wrote}
 use Rattle.definition.specs.Columns.{messagesOf, columnBytes}
 use Rattle.definition.specs.Pinned.TraceReader.{traceOf, rearranged, traceToColumns}
 use Rattle.law_base.proofs.Results.{ok-same, never-ok, bind-ok}

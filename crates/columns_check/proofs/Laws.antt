@@ -1,12 +1,12 @@
 -- The tests of columns in turn, as the code has them. Assumes nothing.
-use mathlib.Core.Path.{_≡_, refl, sym, ap, ap₂, _∙_}
+use mathlib.Core.Path.{_≡_, sym, ap, _∙_}
 use Prim.Native.Nat.{ℕ, _+_, _*_, _<_, _≤_}
 use mathlib.Core.Bool.{Bool, true, false, not}
 use native.Mathlib.Omega.{arith}
 use lib.Dec.{ltb, eqb}
 use lib.ListN.{length}
 use borrow.Author.Tests.{lt-ltb, le-ltb, eq-eqb, ne-eqb}
-use Rattle.definition.specs.Bytes.{Bytes, Result, ok, refused, _>>=_, refuseIf, numberAt}
+use Rattle.definition.specs.Bytes.{Bytes, ok, refused, _>>=_, refuseIf, numberAt}
 use Rattle.definition.specs.Pinned.TraceReader.{recordCount}
 use Rattle.law_columns.specs.ByPosition.{noneYet, countsFrom, columnsGood, columnsScanned}
 use Rattle.columns_forms.specs.Forms.{columnsFrom, noLast, countsBy, columnsFit}

@@ -2,15 +2,14 @@
 use mathlib.Core.Path.{_≡_, refl, sym, ap, ap₂, _∙_}
 use Prim.Native.Nat.{ℕ, zero, suc, _+_, _*_, _≤_}
 use mathlib.Core.List.{[], _∷_, map}
-use mathlib.Core.Bool.{Bool, true, false, _&&_, not}
+use mathlib.Core.Bool.{_&&_, not}
 use native.Mathlib.Omega.{arith}
 use lib.Dec.{eqb}
-use lib.ListN.{length}
 use Rattle.definition.specs.Lists.{upFrom}
 use Rattle.definition.specs.Bytes.{Bytes, numberAt}
 use Rattle.definition.specs.Model.{Bag}
 use Rattle.definition.specs.Instant.{TraceRecord}
-use Rattle.law_columns.specs.ByPosition.{Scan, keysRise, pairNext, scanNext, messageIn, recordIn, columnNext, columnsGood, countsFrom, putPairs, putRecord}
+use Rattle.law_columns.specs.ByPosition.{Scan, keysRise, scanNext, messageIn, recordIn, columnNext, columnsGood, countsFrom, putPairs, putRecord}
 use Rattle.law_columns.proofs.Filling.{pairs-put}
 use Rattle.columns_records.specs.declared.Places.{Places}
 use Rattle.columns_records.specs.Places.{messagesAt, recordAt, fitsAfter, messagesPut, headPut, recordPut, MessagesWithin, RecordWithin}

@@ -1,7 +1,7 @@
 -- What is left of a row or of columns, as a loop meets it: one more record, or none. Assumes nothing.
-use mathlib.Core.Path.{_≡_, refl, sym, ap, _∙_}
+use mathlib.Core.Path.{_≡_, refl}
 use Prim.Native.Nat.{ℕ, zero, suc, _+_, _*_, _-_, _≤_, _<_}
-use mathlib.Core.Bool.{true, false, _&&_}
+use mathlib.Core.Bool.{true, false}
 use native.Mathlib.Omega.{arith}
 use Rattle.definition.specs.Bytes.{Bytes, numberAt}
 use Rattle.columns_records.specs.declared.Places.{Places}

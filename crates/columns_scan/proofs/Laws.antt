@@ -5,15 +5,14 @@ use mathlib.Core.Bool.{Bool, true, false, _&&_, not, cond}
 use native.Mathlib.Omega.{arith}
 use lib.Dec.{ltb}
 use lib.ListN.{length}
-use borrow.Author.Tests.{leb-true, lt-ltb, le-ltb, le-leb, lt-leb}
+use borrow.Author.Tests.{leb-true, lt-ltb, le-ltb, lt-leb}
 use Rattle.definition.specs.Bytes.{Bytes, Result, ok, refused, _>>=_, refuseIf, numberAt}
 use Rattle.definition.specs.Limits.{messageSize, recordHead, maxRecords}
-use Rattle.law_base.proofs.Tests.{and-left}
 use Rattle.law_columns.specs.ByPosition.{Scan, noneYet, scanNext, recordNext, scanFrom, scanned}
 use Rattle.columns_records.specs.declared.Last.{Last}
 use Rattle.columns_records.specs.Places.{fitsAfter}
 use Rattle.columns_forms.specs.Forms.{inRow, rowPlaces, pairOf}
-use Rattle.columns_forms.proofs.InRow.{lastOf, fits-row}
+use Rattle.columns_forms.proofs.InRow.{fits-row}
 use Rattle.columns_scan.specs.Scans.{wholeAt, sizesOf}
 
 -- ---- a record that is not cut

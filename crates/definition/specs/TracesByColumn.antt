@@ -1,7 +1,7 @@
 -- Request (iii) of document 02, "Traces stored by column", as statements about the definitions; crate `theory` proves them. The rows of 17
 -- and 18 stand in demand 1. Assumes nothing.
 use mathlib.Core.Path.{_≡_}
-use Prim.Native.Nat.{ℕ, _≤_, _<_}
+use Prim.Native.Nat.{_≤_, _<_}
 use mathlib.Core.List.{List, [], _∷_, _++_}
 use mathlib.Core.Bool.{true}
 use lib.ListN.{length, take}
@@ -12,7 +12,7 @@ use Rattle.definition.specs.Pinned.TraceReader.{traceToColumns, columnsT
 use Rattle.definition.specs.Sound.{Every}
 use Rattle.definition.specs.SavedRun.{runFits}
 use Rattle.definition.specs.Instant.{TraceRecord}
-use Rattle.definition.specs.Engine.{Wrote, Advanced, advance}
+use Rattle.definition.specs.Engine.{Wrote, Advanced}
 use Rattle.definition.specs.Calls.{AdvanceCall, Machine, engine}
 use Rattle.definition.specs.Columns.{Recorded}
 use Rattle.definition.specs.Demands.{openingOf}

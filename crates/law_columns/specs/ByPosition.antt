@@ -7,7 +7,7 @@ use lib.Dec.{leb, ltb, eqb}
 use lib.ListN.{length, drop}
 use lib.Seq.{sets}
 use Rattle.definition.specs.Lists.{upFrom}
-use Rattle.definition.specs.Bytes.{Bytes, Result, ok, refused, _>>=_, refuseIf, numberAt, bytesOf, chunks}
+use Rattle.definition.specs.Bytes.{Bytes, Result, ok, _>>=_, refuseIf, numberAt, bytesOf, chunks}
 use Rattle.definition.specs.Limits.{messageSize, recordHead, portCount, maxRecords}
 use Rattle.definition.specs.Model.{Message, Bag}
 use Rattle.definition.specs.Records.{messageAt}

@@ -3,13 +3,12 @@ use borrow.Author.Needs.{needs}
 use borrow.Author.Tests.{not-true, not-false}
 use native.Mathlib.Omega.{arith}
 use Prim.Native.Nat.{_+_, _*_, _-_}
-use mathlib.Core.Bool.{true}
 use mathlib.Core.Path.{_≡_, refl, sym, ap, _∙_}
 use denote.Ref.{now}
 use lib.ListN.{length}
 use Rattle.definition.specs.Bytes.{numberAt}
 use Rattle.columns_records.specs.Places.{fitsAfter, RecordWithin}
-use Rattle.columns_forms.specs.Forms.{inColumns, columnsFrom, nextColumn, pairOf, noLast, countsBy, columnsFit, ColumnsWithin}
+use Rattle.columns_forms.specs.Forms.{inColumns, columnsFrom, nextColumn, noLast, countsBy, columnsFit, ColumnsWithin}
 use Rattle.columns_forms.proofs.Turns.{counts-more, fit-more, fit-no, fit-none, columns-start, columns-here, columns-next}
 use Rattle.columns_check.proofs.columns_fit.Statement.{statement}
 use Rattle.columns_check.proofs.columns_fit.Tie as tie

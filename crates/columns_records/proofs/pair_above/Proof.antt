@@ -1,10 +1,7 @@
 use Rattle.columns_records.specs.Places.{pairAbove}
 use borrow.Author.Needs.{needs}
-use native.Mathlib.Omega.{arith}
 use Rattle.columns_records.proofs.pair_above.Statement.{statement}
 use Rattle.columns_records.proofs.pair_above.Tie as tie
-use Rattle.columns_records.proofs.pair_above.Reads as reads
-use Rattle.columns_records.proofs.pair_above.Lts as lts
 
 -- src/lib.rt:67:1
 returns : tie.Need-returns

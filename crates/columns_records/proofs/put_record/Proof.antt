@@ -1,11 +1,9 @@
 -- The head and the messages, of which there are as many as the count says (`length-messages`).
 use borrow.Author.Needs.{needs}
-use mathlib.Core.Path.{_≡_, sym, ap, _∙_}
-use Prim.Native.Nat.{ℕ}
+use mathlib.Core.Path.{_∙_}
 use denote.Ref.{now}
-use lib.ListN.{length}
 use Rattle.definition.specs.Bytes.{numberAt}
-use Rattle.columns_records.specs.Places.{MessagesWithin, messagesAt, recordAt, headPut, messagesPut, recordPut}
+use Rattle.columns_records.specs.Places.{recordAt, recordPut}
 use Rattle.columns_records.proofs.Laws.{length-messages}
 use Rattle.columns_records.proofs.put_record.Statement.{statement}
 use Rattle.columns_records.proofs.put_record.Tie as tie

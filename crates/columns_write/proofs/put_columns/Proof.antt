@@ -6,8 +6,8 @@ use mathlib.Core.Path.{_≡_, refl, sym, ap, _∙_}
 use denote.Ref.{now}
 use lib.ListN.{length}
 use Rattle.definition.specs.Bytes.{numberAt}
-use Rattle.columns_records.specs.Places.{RecordWithin, recordAt, recordPut}
-use Rattle.columns_forms.specs.Forms.{inRow, inColumns, rowPlaces, nextColumn, rowMessages, intoColumns, ColumnsWithin}
+use Rattle.columns_records.specs.Places.{RecordWithin}
+use Rattle.columns_forms.specs.Forms.{inColumns, rowPlaces, nextColumn, rowMessages, intoColumns, ColumnsWithin}
 use Rattle.columns_forms.proofs.InRow.{within-row}
 use Rattle.columns_forms.proofs.Turns.{row-more, columns-here, columns-next, columns-more, columns-none}
 use Rattle.columns_write.proofs.put_columns.Statement.{statement}

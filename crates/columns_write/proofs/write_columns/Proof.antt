@@ -1,10 +1,8 @@
 -- The record count, then the columns; the count's store leaves the length.
 use borrow.Author.Needs.{needs}
-use native.Mathlib.Omega.{arith}
-use mathlib.Core.Path.{_≡_, sym, _∙_}
 use denote.Ref.{now}
 use lib.ListN.{length}
-use Rattle.columns_forms.specs.Forms.{rowMessages, intoColumns}
+use Rattle.columns_forms.specs.Forms.{rowMessages}
 use Rattle.columns_forms.proofs.Turns.{columns-start}
 use Rattle.columns_write.proofs.write_columns.Statement.{statement}
 use Rattle.columns_write.proofs.write_columns.Tie as tie

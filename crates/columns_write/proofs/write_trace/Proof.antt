@@ -7,7 +7,7 @@ use denote.Ref.{now}
 use lib.ListN.{length}
 use Rattle.definition.specs.Bytes.{numberAt}
 use Rattle.columns_records.specs.Places.{RecordWithin}
-use Rattle.columns_forms.specs.Forms.{inColumns, rowPlaces, columnsFrom, nextColumn, countsBy, intoRow, ColumnsWithin, wordMax}
+use Rattle.columns_forms.specs.Forms.{inColumns, columnsFrom, nextColumn, countsBy, intoRow, ColumnsWithin, wordMax}
 use Rattle.columns_forms.proofs.InRow.{within-row}
 use Rattle.columns_forms.proofs.Turns.{counts-more, columns-start, columns-here, columns-next, rows-more, rows-none}
 use Rattle.columns_write.proofs.write_trace.Statement.{statement}
