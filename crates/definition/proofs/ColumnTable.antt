@@ -11,9 +11,9 @@ use Rattle.definition.specs.Model.{Model}
 use Rattle.definition.specs.File.{modelBytes}
 use Rattle.definition.specs.Engine.{Wrote, start}
 use Rattle.definition.specs.Flatten.{flat}
-use Rattle.definition.specs.Calls.{AdvanceCall, Machine, engine, flatMachine}
+use Rattle.definition.specs.Calls.{AdvanceCall, Machine, answers, engine, flatMachine}
 use Rattle.definition.specs.Pinned.TraceReader.{rearranged, restored, traceToColumns, columnsToTrace}
-use Rattle.definition.specs.TracesByColumn.{answers, joinedTraces}
+use Rattle.definition.specs.TracesByColumn.{joinedTraces}
 use Rattle.definition.proofs.Models.{cueSource, nest}
 use Rattle.definition.proofs.Table.{single, tabled}
 use Rattle.definition.proofs.Literals.{b2, b3, b4, z, literals}
@@ -129,13 +129,16 @@ machines m = engine (modelBytes m) ∷ engine (modelBytes (flat m)) ∷ flatMach
 unfoldable pub started : Model → Bytes
 started m = start (modelBytes m) (z 40) .buffer
 
--- The numbers that advances in turn answer, and the columns of their traces joined.
+-- The numbers that advances of one machine in turn answer, their traces joined, and the columns of these.
 unfoldable pub numbers : Machine → Bytes → List AdvanceCall → List ℕ
 numbers k run [] = []
 numbers k run (c ∷ cs) = answers k run c .number ∷ numbers k (answers k run c .run) cs
 
+unfoldable pub joinedOf : Machine → Bytes → List AdvanceCall → Bytes
+joinedOf k run calls = joinedTraces run (map (λ c. (k, c)) calls)
+
 unfoldable pub joinedColumns : Machine → Bytes → List AdvanceCall → Result Bytes
-joinedColumns k run calls = rearranged (joinedTraces k run calls)
+joinedColumns k run calls = rearranged (joinedOf k run calls)
 
 -- The worked example to 20; too early; to 30 with a trace that is too short; to 30. What lies past the bytes written is not joined.
 unfoldable pub cueCalls : List AdvanceCall
@@ -157,7 +160,7 @@ nestColumns =
 unfoldable pub columned : Type 0
 unfolding
     tabled literals b8 eights twos sample sampleColumns many manyColumns one holding traces columns writes refuses sevens small smallColumns
-    to machines started numbers joinedColumns cueCalls nestCalls cueColumns nestColumns
+    to machines started numbers joinedOf joinedColumns cueCalls nestCalls cueColumns nestColumns
 columned = Unit {0}
 
 -- ---- the rows
@@ -222,13 +225,20 @@ pub cues-numbered : map (λ k. numbers k (started (cueSource 0 single)) cueCalls
 unfolding columned
 cues-numbered = refl
 
-pub cues-joined : map (λ k. joinedTraces k (started (cueSource 0 single)) cueCalls) (machines (cueSource 0 single)) ≡ replicate 3 (one 20 0 ++ one 30 0)
+pub cues-joined : map (λ k. joinedOf k (started (cueSource 0 single)) cueCalls) (machines (cueSource 0 single)) ≡ replicate 3 (one 20 0 ++ one 30 0)
 unfolding columned
 cues-joined = refl
 
 pub cues-there : map (λ k. joinedColumns k (started (cueSource 0 single)) cueCalls) (machines (cueSource 0 single)) ≡ replicate 3 (ok cueColumns)
 unfolding columned
 cues-there = refl
+
+-- by the model and by its flat form in turn, and between them another model, whose run it is not
+pub cues-in-turn : (let m = cueSource 0 single in
+    joinedTraces (started m) ((engine (modelBytes m), to 20 [] (z 35)) ∷ (engine (modelBytes nest), to 25 [] (z 35)) ∷ (engine (modelBytes (flat m)), to 30 [] (z 35)) ∷ []))
+    ≡ one 20 0 ++ one 30 0
+unfolding columned
+cues-in-turn = refl
 
 pub nest-numbered : map (λ k. numbers k (started nest) nestCalls) (machines nest) ≡ replicate 3 (0 ∷ 15 ∷ 0 ∷ [])
 unfolding columned

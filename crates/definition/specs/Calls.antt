@@ -29,11 +29,15 @@ pub record Machine : Type 0 where
   pub advances : Bytes → ℕ → Bytes → Bytes → Bytes → Advanced
   pub reads : Bytes → ℕ → WasRead
 
+-- What an advance does with the run buffer.
+abbrev pub answers : Machine → Bytes → AdvanceCall → Advanced
+answers k run c = k .advances run (c .moment) (c .bag) (c .trace) (c .table)
+
 -- The answer of one call, and the run buffer after it.
 unfoldable pub called : Machine → Bytes → Call → Answer × Bytes
 called k run startCall = let r = k .starts run in (startAnswer (r .number) (r .written), r .buffer)
 called k run (advanceCall c) =
-    let r = k .advances run (c .moment) (c .bag) (c .trace) (c .table) in
+    let r = answers k run c in
     (advanceAnswer (r .number) (r .instants) (r .steps) (r .used) (r .trace) (r .table), r .run)
 called k run (readingCall position) =
     let r = k .reads run position in

@@ -41,6 +41,13 @@ refusedAdvance n run trace table = record { number = n; instants = 0; steps = 0;
 abbrev pub refusedReading : ℕ → WasRead
 refusedReading n = record { number = n; phase = 0; last = 0; due = 0 }
 
+-- The bytes that a writer wrote, and the trace that an advance wrote.
+abbrev pub written : Wrote → Bytes
+written w = take (w .written) (w .buffer)
+
+abbrev pub tracedBy : Advanced → Bytes
+tracedBy a = take (a .used) (a .trace)
+
 -- The open moment of the run that the bytes hold.
 abbrev pub openingOf : Model → Bytes → ℕ
 openingOf m run = runOf m run .opening
@@ -66,7 +73,7 @@ StartRefusal = WriterRefusal (λ m. runLength (atomicCount m))
 abbrev pub FlattenRefusal : Bytes → Bytes → ℕ → Type 0
 FlattenRefusal = WriterRefusal (λ m. length (modelBytes (flat m)))
 
--- Bytes rearranged: the number of the request where nothing can be made of them, then "15 lent buffer too short".
+-- Bytes rearranged: the request's number where nothing can be made of them, then "15 lent buffer too short". "Both come before 15."
 pub data RearrangingRefusal (Makes : Bytes → Type 0) (nothing : ℕ) (buffer : Bytes) : ℕ → Type 0 where
   nothing-to-make : ((made : Bytes) → Makes made → ⊥) → RearrangingRefusal Makes nothing buffer nothing
   rearranging-refuses-buffer : (made : Bytes) → Makes made → length buffer < length made → RearrangingRefusal Makes nothing buffer 15
@@ -216,7 +223,7 @@ pub record Demand2 : Type 0 where
 
 -- "its flat form is what flattening writes into a long enough buffer"
 unfoldable pub flatForm : Bytes → Bytes → Bytes
-flatForm file buffer = let w = flatten file buffer in take (w .written) (w .buffer)
+flatForm file buffer = written (flatten file buffer)
 
 -- "a single claim about the whole list of calls": for every list of start, advance and reading calls, refused ones included, whatever the
 -- times, bags, positions, lent traces, lent tables and first bytes of the run buffer, an accepted model and its flat form give the same answers and
@@ -246,7 +253,7 @@ pub record Together (a b one : Advanced) : Type 0 where
   pub steps : one .steps ≡ a .steps + b .steps
   pub used : one .used ≡ a .used + b .used
   pub run : one .run ≡ b .run
-  pub trace : one .trace ≡ take (a .used) (a .trace) ++ b .trace
+  pub trace : one .trace ≡ tracedBy a ++ b .trace
   pub table : one .table ≡ b .table
 
 pub record Header : Type 0 where
@@ -255,11 +262,13 @@ pub record Header : Type 0 where
       → (length file ≤ longestModel) × (length (modelBytes (flat m)) ≤ longestModel)
   pub run-length : (file : Bytes) (m : Model) → AllBytes file → accepted file ≡ ok m → runLength (atomicCount m) ≤ longestRun
   pub table-length : (file : Bytes) (m : Model) → AllBytes file → accepted file ≡ ok m → positionSize * atomicCount m ≤ longestTable
+  -- PDEVS_COLUMNS_SIZE: columns are 4 bytes longer than their trace.
+  pub columns-length : (trace columns : Bytes) → Rearranges trace columns → length columns ≡ length trace + 4
   -- After 15 the same call, with the trace anew, goes on where this one stopped.
   pub resumes : (file run : Bytes) (t : ℕ) (bag trace table anew : Bytes) (m : Model) → AllBytes file → accepted file ≡ ok m
       → advance file run t bag trace table .number ≡ 15
       → (let a = advance file run t bag trace table in
-      Together a (advance file (a .run) t bag anew (a .table)) (advance file run t bag (take (a .used) (a .trace) ++ anew) table))
+      Together a (advance file (a .run) t bag anew (a .table)) (advance file run t bag (tracedBy a ++ anew) table))
   -- Where it did no instant, the next one needs a longer trace.
   pub needs-longer : (file run : Bytes) (t : ℕ) (bag trace table anew lent : Bytes) (m : Model) → AllBytes file → AllBytes run → accepted file ≡ ok m
       → advance file run t bag trace table .number ≡ 15 → advance file run t bag trace table .instants ≡ 0 → length anew ≤ length trace

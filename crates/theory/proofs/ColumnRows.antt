@@ -11,8 +11,7 @@ use Rattle.definition.specs.Bytes.{Bytes, AllBytes, Result, ok, refused, stored
 use Rattle.definition.specs.Engine.{wrote}
 use Rattle.definition.specs.Columns.{Rearranges}
 use Rattle.definition.specs.Pinned.TraceReader.{rearranged, restored, traceToColumns, columnsToTrace}
-use Rattle.definition.specs.Demands.{refusedWrite, RearrangingRefusal, nothing-to-make, rearranging-refuses-buffer, ColumnsRefusal, TraceRefusal}
-use Rattle.definition.specs.TracesByColumn.{written}
+use Rattle.definition.specs.Demands.{written, refusedWrite, RearrangingRefusal, nothing-to-make, rearranging-refuses-buffer, ColumnsRefusal, TraceRefusal}
 use Rattle.law_columns.proofs.Rearranging.{rearranges-there, there-rearranges, none-there, rearranges-back, back-rearranges, none-back}
 use Rattle.theory.proofs.Buffers.{stored-front}
 

@@ -1,4 +1,4 @@
--- What the C header says of lengths and of a call made again: the longest model file and run, and an advance after 13, 14 or 15. What the
+-- What the C header says of lengths and of a call made again: the longest model file and run, columns, and an advance after 13, 14 or 15. What the
 -- first call left is read back by the second (`Fitting`), and the instants are those of `Resuming`. Assumes nothing.
 use mathlib.Core.Path.{_≡_, refl, sym, ap, ap₂, _∙_, subst}
 use mathlib.Core.Logic.{_⊎_, inl, inr}
@@ -26,6 +26,7 @@ use Rattle.law_model.proofs.Reading.{accepted-sound}
 use Rattle.law_model.proofs.RunBack.{length-run, run-written}
 use Rattle.law_flat.proofs.FlatSound.{flat-sound}
 use Rattle.law_nest.proofs.Pairs.{pairs-length}
+use Rattle.law_columns.proofs.ColumnPlaces.{four-longer}
 use Rattle.theory.proofs.Buffers.{stored-again, stored-front, stored-behind}
 use Rattle.law_calls.proofs.Fitting.{FitRun, fits-run, fit-written, advance-fit}
 use Rattle.law_model.proofs.Answers.{endOf, advance-done}
@@ -261,6 +262,8 @@ header = record {
       (subst (λ (z : Bytes). length z ≤ longestModel) (sym (sound-of file m b e .1)) (model-long m (s .sound)), model-long (flat m) (flat-sound m (s .sound) (s .few-routes)));
   run-length = λ file m b e. run-long m (accepted-sound file m b e .sound);
   table-length = λ file m b e. table-long m (accepted-sound file m b e .sound);
+  columns-length = λ trace columns r.
+      ap length (r .its-columns) ∙ four-longer (r .records) ∙ ap (λ (s : Bytes). length s + 4) (sym (r .is-trace .recorded .whole));
   resumes = λ file run t bag trace table next m b e q. resumes file run t bag trace table m b e (may file run t bag trace table m b e (omega arith)) q next;
   needs-longer = λ file run t bag trace table next lent m b r e q i l.
       needs-longer file run t bag trace table m b e (may file run t bag trace table m b e (omega arith)) q i r next lent l;

@@ -3,19 +3,15 @@
 use mathlib.Core.Path.{_≡_, subst}
 use Prim.Native.Nat.{_≤_, _<_}
 use mathlib.Core.List.{List}
-use mathlib.Core.Bool.{true}
 use lib.ListN.{length}
-use Rattle.definition.specs.Bytes.{Bytes, AllBytes, ok, stored}
-use Rattle.definition.specs.Model.{Model}
-use Rattle.definition.specs.Pinned.Decoder.{accepted}
+use Rattle.definition.specs.Bytes.{Bytes, AllBytes, stored}
 use Rattle.definition.specs.Pinned.TraceReader.{traceToColumns, columnsToTrace}
 use Rattle.definition.specs.Sound.{Every}
-use Rattle.definition.specs.SavedRun.{runFits}
 use Rattle.definition.specs.Instant.{TraceRecord}
-use Rattle.definition.specs.Calls.{AdvanceCall, engine}
+use Rattle.definition.specs.Calls.{AdvanceCall, answers, engine}
 use Rattle.definition.specs.Columns.{Recorded}
-use Rattle.definition.specs.Demands.{openingOf}
-use Rattle.definition.specs.TracesByColumn.{written, tracedBy, answers, TracesByColumn}
+use Rattle.definition.specs.Demands.{written, tracedBy}
+use Rattle.definition.specs.TracesByColumn.{openMoment, TracesByColumn}
 use Rattle.law_columns.proofs.WholeTraces.{one-reading}
 use Rattle.theory.proofs.Spans.{Within, span-recorded}
 use Rattle.theory.proofs.ColumnRows.{columns-done, columns-made, trace-done, trace-made}
@@ -23,9 +19,9 @@ use Rattle.theory.proofs.Joined.{passes, joined-trace, advance-trace}
 
 -- ---- there and back, back and there
 
-back : (trace out again : Bytes) → AllBytes trace → traceToColumns trace out .number ≡ 0 → length trace ≤ length again
+inverse : (trace out again : Bytes) → AllBytes trace → traceToColumns trace out .number ≡ 0 → length trace ≤ length again
     → columnsToTrace (written (traceToColumns trace out)) again ≡ record { number = 0; written = length trace; buffer = stored trace again }
-back trace out again b fine = trace-done (written (traceToColumns trace out)) trace again (columns-made trace out b fine)
+inverse trace out again b fine = trace-done (written (traceToColumns trace out)) trace again (columns-made trace out b fine)
 
 only : (columns out again : Bytes) → AllBytes columns → columnsToTrace columns out .number ≡ 0 → length columns ≤ length again
     → traceToColumns (written (columnsToTrace columns out)) again ≡ record { number = 0; written = length columns; buffer = stored columns again }
@@ -34,18 +30,19 @@ only columns out again b fine = columns-done (written (columnsToTrace columns ou
 -- ---- advances
 
 -- the records that an advance wrote are those that its bytes hold, so that theirs is the span
-advance-span : (file run : Bytes) (c : AdvanceCall) (m : Model) → AllBytes file → accepted file ≡ ok m → runFits m run ≡ true
-    → (rs : List TraceRecord) → Recorded (tracedBy (answers (engine file) run c)) rs
-    → Every (λ r. (openingOf m run ≤ r .moment) × (r .moment < openingOf m (answers (engine file) run c .run))) rs
-advance-span file run c m b e h rs r =
-    let p = passes file m b e run c h in
-    let after = openingOf m (answers (engine file) run c .run) in
-    let same = one-reading _ (p .new) rs (span-recorded (openingOf m run) after _ (p .new) (p .bytes) (p .span)) r in
-    subst (Within (openingOf m run) after) same (p .span .within)
+advance-span : (file run : Bytes) (c : AdvanceCall) → AllBytes file → (rs : List TraceRecord) → Recorded (tracedBy (answers (engine file) run c)) rs
+    → Every (λ r. (openMoment run ≤ r .moment) × (r .moment < openMoment (answers (engine file) run c .run))) rs
+advance-span file run c b rs r =
+    let p = passes file run c b in
+    let after = openMoment (answers (engine file) run c .run) in
+    let same = one-reading _ (p .new) rs (span-recorded (openMoment run) after _ (p .new) (p .bytes) (p .span)) r in
+    subst (Within (openMoment run) after) same (p .span .within)
 
 pub traces-by-column : TracesByColumn
 traces-by-column = record {
-  back = back;
+  there = columns-made;
+  back = trace-made;
+  inverse = inverse;
   only = only;
   advance-trace = advance-trace;
   advance-span = advance-span;

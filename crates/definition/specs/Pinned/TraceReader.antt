@@ -105,7 +105,6 @@ restored s = do
   rs ← columnsOf s
   ok (traceBytes rs)
 
--- "Both come before 15."
 unfoldable pub traceToColumns : Bytes → Bytes → Wrote
 traceToColumns trace buffer = wrote buffer (rearranged trace)
 
