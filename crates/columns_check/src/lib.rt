@@ -12,6 +12,10 @@ use columns_forms::next_column;
 use columns_forms::pair_at;
 use columns_records::Last;
 use columns_records::record_fits;
+use limits::COLUMNS_HEAD;
+use limits::MESSAGE_SIZE;
+use limits::RECORD_COUNT_AT;
+use limits::RECORD_HEAD;
 use little_endian::u16_within;
 use little_endian::u32_at;
 use widen::u16_to_usize;
@@ -23,7 +27,7 @@ fn count_messages(s: &[u8], n: u32) -> usize
     ensures { λ r. ⌜ (r ≡ countsBy n (4 + 10 * n) (now (s .entry))) × (r ≤ 65535 * n) ⌝ }
 {
     let mut left = n;
-    let mut at = 4 + 10 * u32_to_usize(n);
+    let mut at = COLUMNS_HEAD + RECORD_COUNT_AT * u32_to_usize(n);
     let mut sum: usize = 0;
     while 0 < left {
         sum = sum + u16_to_usize(u16_within(s, at));
@@ -62,11 +66,12 @@ pub fn scan_columns(s: &[u8]) -> Found
 {
     let count = u32_at(s, 0);
     let n = u32_to_usize(count);
-    if s.len() < 4 + 12 * n {
+    let heads = COLUMNS_HEAD + RECORD_HEAD * n;
+    if s.len() < heads {
         return Found::Nothing;
     }
     let k = count_messages(s, count);
-    if s.len() != 4 + 12 * n + 3 * k {
+    if s.len() != heads + MESSAGE_SIZE * k {
         return Found::Nothing;
     }
     if !columns_fit(s, n, k) {

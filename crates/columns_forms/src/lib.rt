@@ -7,6 +7,7 @@ ghost use Rattle.columns_forms.specs.Forms.{inRow, inColumns, rowPlaces,
 use columns_records::Apart;
 use columns_records::Last;
 use columns_records::Places;
+use limits::COLUMNS_HEAD;
 use limits::MESSAGE_SIZE;
 use limits::RECORD_COUNT_AT;
 use limits::RECORD_HEAD;
@@ -51,17 +52,18 @@ pub fn row_places(at: usize) -> Places
     }
 }
 
-// The first record of n in columns, which have k messages.
+// The first record of n in columns, which have k messages: as in a record the bytes before its step, or before another number, so stand
+// those bytes of all records before the column of steps.
 pub fn columns_from(n: usize, k: usize) -> Places
     requires { ⌜ 4 + 12 * n + k ≤ wordMax ⌝ }
     ensures { λ r. ⌜ r ≡ columnsFrom n k ⌝ }
 {
     Places {
-        moment: 4,
-        step: 4 + 8 * n,
-        count: 4 + 10 * n,
-        ports: 4 + 12 * n,
-        values: 4 + 12 * n + k,
+        moment: COLUMNS_HEAD,
+        step: COLUMNS_HEAD + RECORD_STEP_AT * n,
+        count: COLUMNS_HEAD + RECORD_COUNT_AT * n,
+        ports: COLUMNS_HEAD + RECORD_HEAD * n,
+        values: COLUMNS_HEAD + RECORD_HEAD * n + k,
     }
 }
 

@@ -74,6 +74,19 @@ module _ (a : Apart) (p v left low : ℕ) (s : Bytes) where
   unfolding keysRise
   rise-end l = ap (keysRise low) (messages-none a p v left s l)
 
+  -- The same where the messages before passed or did not: one more, none left.
+  pub judged-more : 0 < left → (b : Bool) → (b && (ltb (numberAt 1 p s) portCount && leb low (keyHere p v s))) && keysRise (keyHere p v s) tail ≡ b && keysRise low (messagesAt a p v left s)
+  judged-more l b = grouped b (ltb (numberAt 1 p s) portCount) ∙ ap (λ r. b && r) (sym (opened l))
+    where
+      grouped : (b c : Bool) → (b && (c && leb low (keyHere p v s))) && keysRise (keyHere p v s) tail ≡ b && (c && leb low (keyHere p v s) && keysRise (keyHere p v s) tail)
+      grouped true true = refl
+      grouped true false = refl
+      grouped false c = refl
+
+  pub judged-end : left ≤ 0 → (b : Bool) → b && keysRise low (messagesAt a p v left s) ≡ b
+  judged-end l true = rise-end l
+  judged-end l false = refl
+
 -- ---- the record judged
 
 module _ (l : Last) (a : Apart) (at : Places) (s : Bytes) where

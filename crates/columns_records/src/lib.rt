@@ -39,6 +39,9 @@ pub struct Last {
     pub step: u16,
 }
 
+// Of messages that lie beside each other it pays to judge several at once, from so many on (docs/PERFORMANCE.md).
+const MANY: usize = 16;
+
 // A message as one number, in the order of messages.
 fn key_of(port: u8, value: u16) -> u32
     ensures { λ r. ⌜ r ≡ keyOf port value ⌝ }
@@ -46,8 +49,8 @@ fn key_of(port: u8, value: u16) -> u32
     u8_to_u32(port) * 65536 + u16_to_u32(value)
 }
 
-// So many messages are on ports that there are, and do not fall.
-fn messages_rise(s: &[u8], ports: usize, values: usize, apart: Apart, count: usize) -> bool
+// So many messages are on ports that there are, and do not fall: the first one that does not pass ends it.
+fn few_rise(s: &[u8], ports: usize, values: usize, apart: Apart, count: usize) -> bool
     requires { ⌜ Near apart × MessagesWithin (length (now s)) apart ports values count ⌝ }
     ensures { λ r. ⌜ r ≡ keysRise 0 (messagesAt apart ports values count (now (s .entry))) ⌝ }
 {
@@ -70,6 +73,39 @@ fn messages_rise(s: &[u8], ports: usize, values: usize, apart: Apart, count: usi
         left = left - 1;
     }
     true
+}
+
+// The same, told at the end: a loop without a way out is compiled to one that judges several messages at once.
+fn many_rise(s: &[u8], ports: usize, values: usize, apart: Apart, count: usize) -> bool
+    requires { ⌜ Near apart × MessagesWithin (length (now s)) apart ports values count ⌝ }
+    ensures { λ r. ⌜ r ≡ keysRise 0 (messagesAt apart ports values count (now (s .entry))) ⌝ }
+{
+    let mut low: u32 = 0;
+    let mut rise = true;
+    let mut p = ports;
+    let mut v = values;
+    let mut left = count;
+    while 0 < left {
+        let port = s[p];
+        let key = key_of(port, u16_within(s, v));
+        rise = rise & ((port < PORT_COUNT) & (low <= key));
+        low = key;
+        p = p + apart.ports;
+        v = v + apart.values;
+        left = left - 1;
+    }
+    rise
+}
+
+// The same, by the one loop or the other. In a row messages lie too far apart to be read several at once.
+fn messages_rise(s: &[u8], ports: usize, values: usize, apart: Apart, count: usize) -> bool
+    requires { ⌜ Near apart × MessagesWithin (length (now s)) apart ports values count ⌝ }
+    ensures { λ r. ⌜ r ≡ keysRise 0 (messagesAt apart ports values count (now (s .entry))) ⌝ }
+{
+    if (apart.ports == 1) & (MANY <= count) {
+        return many_rise(s, ports, values, apart, count);
+    }
+    few_rise(s, ports, values, apart, count)
 }
 
 // A pair of moment and step lies above that of the record before.

@@ -34,8 +34,8 @@ loop-again c =
 
 returns : tie.Need-returns Inv-loop μ-loop
 returns c =
-    let start : tie.Start Inv-loop μ-loop = search in
-    let l = c .before .loop in
+    let start : tie.Start Inv-loop μ-loop = search in let at-loop : tie.At-loop Inv-loop μ-loop = search in
+    let l = at-loop .loop in
     (omega (arith, l .inv .2, counts-none (l .left) (l .at) (now (start .args .s)) (c .loop-test .left)), omega (arith, l .inv .1))
 
 pub count-messages-spec : {M : Type 1} → statement M

@@ -18,62 +18,56 @@ Inv-loop s ports values apart count out₀ to-ports to-values to-apart p₀ v₀
 abbrev μ-loop : tie.MeasureT-loop
 μ-loop s ports values apart count out₀ to-ports to-values to-apart p₀ v₀ q₀ w₀ left₀ out p v q w left = left
 
+-- A turn of the loop: the arguments, and the loop's variables.
+abbrev start-of : tie.In-loop Inv-loop μ-loop → tie.Start Inv-loop μ-loop
+start-of c = search
+
+abbrev loop-of : tie.In-loop Inv-loop μ-loop → tie.At-loop Inv-loop μ-loop
+loop-of c = search
+
 -- The message lies within the bytes read, its place within those written, and so do those after it.
-read-here : (c : tie.In-loop Inv-loop μ-loop) → (let l = c .before .loop in let a = c .before .before .before .before .args in
+read-here : (c : tie.In-loop Inv-loop μ-loop) → (let a = start-of c .args in let l = loop-of c .loop in
     (l .p < length (now (a .s))) × (l .v + 2 ≤ length (now (a .s)))
     × MessagesWithin (length (now (a .s))) (a .apart) (l .p + a .apart .ports) (l .v + a .apart .values) (l .left - 1))
 read-here c =
-    let l = c .before .loop in
-    let a = c .before .before .before .before .args in
+    let a = start-of c .args in let l = loop-of c .loop in
     within-more (length (now (a .s))) (a .apart) (l .p) (l .v) (l .left) (c .loop-test .taken) (l .inv .1)
 
-put-here : (c : tie.In-loop Inv-loop μ-loop) → (let l = c .before .loop in let a = c .before .before .before .before .args in
+put-here : (c : tie.In-loop Inv-loop μ-loop) → (let a = start-of c .args in let l = loop-of c .loop in
     (l .q < length (now (a .out))) × (l .w + 2 ≤ length (now (a .out)))
     × MessagesWithin (length (now (a .out))) (a .to-apart) (l .q + a .to-apart .ports) (l .w + a .to-apart .values) (l .left - 1))
 put-here c =
-    let l = c .before .loop in
-    let a = c .before .before .before .before .args in
+    let a = start-of c .args in let l = loop-of c .loop in
     within-more (length (now (a .out))) (a .to-apart) (l .q) (l .w) (l .left) (c .loop-test .taken) (l .inv .2)
 
 loop-again : tie.Need-loop-again Inv-loop μ-loop
 loop-again c =
-    let inside : tie.In-loop Inv-loop μ-loop = search in
-    let l = inside .before .loop in
-    let a = inside .before .before .before .before .args in
-    let one : tie.After-put-message Inv-loop μ-loop = search in (
+    let inside : tie.In-loop Inv-loop μ-loop = search in let one : tie.After-put-message Inv-loop μ-loop = search in
+    let a = start-of inside .args in let l = loop-of inside .loop in (
       one .put-message .kept .1 .1 .1 .0 ∙ l .inv .0,
       read-here inside .2,
       put-here inside .2,
       rw (one .put-message .ensures) (put-more (a .apart) (a .to-apart) (l .p) (l .v) (l .q) (l .w) (l .left) (now (a .s)) (l .out) (inside .loop-test .taken) ∙ l .inv .3),
     )
 
--- The next places are in range.
-next-read : (c : tie.In-loop Inv-loop μ-loop) → (let l = c .before .loop in let a = c .before .before .before .before .args in
-    (l .p + a .apart .ports ≤ length (now (a .s)) + 3) × (l .v + a .apart .values ≤ length (now (a .s)) + 3))
-next-read c = let pre = c .before .before .before .before .pre in (omega (arith, read-here c .0, pre .0 .0), omega (arith, read-here c .1, pre .0 .1))
-
-next-put : (c : tie.In-loop Inv-loop μ-loop) → (let l = c .before .loop in let a = c .before .before .before .before .args in
-    (l .q + a .to-apart .ports ≤ length (now (a .out)) + 3) × (l .w + a .to-apart .values ≤ length (now (a .out)) + 3))
-next-put c = let pre = c .before .before .before .before .pre in (omega (arith, put-here c .0, pre .2 .0), omega (arith, put-here c .1, pre .2 .1))
-
 put-message-requires : tie.Need-put-message-requires Inv-loop μ-loop
 put-message-requires c κs =
     let inside : tie.In-loop Inv-loop μ-loop = search in
-    let same = inside .before .loop .inv .0 in
+    let same = loop-of inside .loop .inv .0 in
     (read-here inside .0, read-here inside .1, omega (arith, put-here inside .0, same), omega (arith, put-here inside .1, same))
 
 returns : tie.Need-returns Inv-loop μ-loop
 returns c =
-    let l = c .before .loop in
-    let a = c .before .before .before .before .args in
+    let start : tie.Start Inv-loop μ-loop = search in let at-loop : tie.At-loop Inv-loop μ-loop = search in
+    let a = start .args in let l = at-loop .loop in
     sym (put-end (a .apart) (a .to-apart) (l .p) (l .v) (l .q) (l .w) (l .left) (now (a .s)) (l .out) (c .loop-test .left)) ∙ l .inv .3
 
 pub put-messages-spec : {M : Type 1} → statement M
 put-messages-spec =
     tie.close (tie.spec Inv-loop μ-loop (λ c. let start : tie.Start Inv-loop μ-loop = search in (refl, start .pre .1, start .pre .3, refl))
     put-message-requires
-    (λ c. let inside : tie.In-loop Inv-loop μ-loop = search in omega (arith, next-read inside .0))
-    (λ c. let inside : tie.In-loop Inv-loop μ-loop = search in omega (arith, next-read inside .1))
-    (λ c. let inside : tie.In-loop Inv-loop μ-loop = search in omega (arith, next-put inside .0))
-    (λ c. let inside : tie.In-loop Inv-loop μ-loop = search in omega (arith, next-put inside .1))
-    (λ c. search needs) (λ c. search needs) loop-again (λ c. c .before .loop .inv .0) returns)
+    (λ c. let inside : tie.In-loop Inv-loop μ-loop = search in omega (arith, read-here inside .0, start-of inside .pre .0 .0))
+    (λ c. let inside : tie.In-loop Inv-loop μ-loop = search in omega (arith, read-here inside .1, start-of inside .pre .0 .1))
+    (λ c. let inside : tie.In-loop Inv-loop μ-loop = search in omega (arith, put-here inside .0, start-of inside .pre .2 .0))
+    (λ c. let inside : tie.In-loop Inv-loop μ-loop = search in omega (arith, put-here inside .1, start-of inside .pre .2 .1))
+    (λ c. search needs) (λ c. search needs) loop-again (λ c. search needs) returns)

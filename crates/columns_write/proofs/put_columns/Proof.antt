@@ -24,45 +24,43 @@ abbrev μ-loop : tie.MeasureT-loop
 loop-holds : tie.Need-loop-holds Inv-loop μ-loop
 loop-holds c = let start : tie.Start Inv-loop μ-loop = search in (refl, omega (arith, start .pre .0), start .pre .1, refl)
 
+-- A turn of the loop: the arguments, and the loop's variables.
+abbrev start-of : tie.In-loop Inv-loop μ-loop → tie.Start Inv-loop μ-loop
+start-of c = search
+
+abbrev loop-of : tie.In-loop Inv-loop μ-loop → tie.At-loop Inv-loop μ-loop
+loop-of c = search
+
 -- The record lies within the trace, its places within the buffer, and so do those after it.
-reaches : (c : tie.In-loop Inv-loop μ-loop) → (let l = c .before .loop in let s = now (c .before .before .before .before .args .s) in
+reaches : (c : tie.In-loop Inv-loop μ-loop) → (let s = now (start-of c .args .s) in let l = loop-of c .loop in
     let m = numberAt 2 (l .at + 10) s in l .at + 12 + 3 * m + 12 * (l .left - 1) + 3 * rowMessages (l .left - 1) (l .at + 12 + 3 * m) s ≤ length s)
 reaches c =
-    let l = c .before .loop in
-    let s = now (c .before .before .before .before .args .s) in
+    let s = now (start-of c .args .s) in let l = loop-of c .loop in
     omega (arith, l .inv .1, c .loop-test .taken, row-more (l .left) (l .at) s (c .loop-test .taken))
 
-here : (c : tie.In-loop Inv-loop μ-loop) → (let l = c .before .loop in let a = c .before .before .before .before .args in
+here : (c : tie.In-loop Inv-loop μ-loop) → (let a = start-of c .args in let l = loop-of c .loop in
     RecordWithin (length (now (a .out))) inColumns (l .to) (numberAt 2 (l .at + 10) (now (a .s))))
 here c =
-    let l = c .before .loop in
-    let a = c .before .before .before .before .args in
-    let s = now (a .s) in
-    columns-here (length (now (a .out))) (l .left) (l .to) (numberAt 2 (l .at + 10) s) _ (rowMessages (l .left) (l .at) s) (l .inv .2) (c .loop-test .taken)
-    (row-more (l .left) (l .at) s (c .loop-test .taken))
+    let l = loop-of c .loop in
+    columns-here _ _ _ _ _ _ (l .inv .2) (c .loop-test .taken) (row-more (l .left) (l .at) (now (start-of c .args .s)) (c .loop-test .taken))
 
-after : (c : tie.In-loop Inv-loop μ-loop) → (let l = c .before .loop in let a = c .before .before .before .before .args in let s = now (a .s) in
-    let m = numberAt 2 (l .at + 10) s in
+after : (c : tie.In-loop Inv-loop μ-loop) → (let a = start-of c .args in let l = loop-of c .loop in let s = now (a .s) in let m = numberAt 2 (l .at + 10) s in
     ColumnsWithin (length (now (a .out))) (l .left - 1) (nextColumn (l .to) m) (rowMessages (l .left - 1) (l .at + 12 + 3 * m) s))
 after c =
-    let l = c .before .loop in
-    let a = c .before .before .before .before .args in
-    let s = now (a .s) in
-    columns-next (length (now (a .out))) (l .left) (l .to) (numberAt 2 (l .at + 10) s) _ (rowMessages (l .left) (l .at) s) (l .inv .2) (c .loop-test .taken)
-    (row-more (l .left) (l .at) s (c .loop-test .taken))
+    let l = loop-of c .loop in
+    columns-next _ _ _ _ _ _ (l .inv .2) (c .loop-test .taken) (row-more (l .left) (l .at) (now (start-of c .args .s)) (c .loop-test .taken))
 
 -- The count as a length.
-count-is : (c : tie.After-u16-to-usize Inv-loop μ-loop) → (let l = c .before .before .before .loop in let s = now (c .before .before .before .before .before .before .args .s) in
-    c .u16-to-usize .result ≡ numberAt 2 (l .at + 10) s)
-count-is c = c .u16-to-usize .ensures ∙ c .before .u16-within .ensures
+count-is : (c : tie.After-u16-to-usize Inv-loop μ-loop) → (let inside : tie.In-loop Inv-loop μ-loop = search in
+    c .u16-to-usize .result ≡ numberAt 2 (loop-of inside .loop .at + 10) (now (start-of inside .args .s)))
+count-is c = let count : tie.After-u16-within Inv-loop μ-loop = search in c .u16-to-usize .ensures ∙ count .u16-within .ensures
 
 put-record-requires : tie.Need-put-record-requires Inv-loop μ-loop
 unfolding rowPlaces
 put-record-requires c κs =
     let inside : tie.In-loop Inv-loop μ-loop = search in let places : tie.After-row-places Inv-loop μ-loop = search in
     let row : tie.After-in-row Inv-loop μ-loop = search in let columns : tie.After-in-columns Inv-loop μ-loop = search in
-    let l = inside .before .loop in
-    let s = now (inside .before .before .before .before .args .s) in
+    let s = now (start-of inside .args .s) in let l = loop-of inside .loop in
     let source = within-row (length s) (l .at) (numberAt 2 (l .at + 10) s) (omega (arith, reaches inside)) in
     rw (places .row-places .ensures, row .in-row .ensures, columns .in-columns .ensures, l .inv .0) ((omega arith, omega arith), source, (omega arith, omega arith), here inside)
 
@@ -79,8 +77,7 @@ loop-again c =
     let inside : tie.In-loop Inv-loop μ-loop = search in let places : tie.After-row-places Inv-loop μ-loop = search in
     let row : tie.After-in-row Inv-loop μ-loop = search in let columns : tie.After-in-columns Inv-loop μ-loop = search in
     let put : tie.After-put-record Inv-loop μ-loop = search in let wide : tie.After-u16-to-usize Inv-loop μ-loop = search in
-    let l = inside .before .loop in
-    let s = now (inside .before .before .before .before .args .s) in
+    let s = now (start-of inside .args .s) in let l = loop-of inside .loop in
     let n = count-is wide in
     let next = c .next-column .ensures ∙ ap (nextColumn (l .to)) n in (
       put .put-record .kept .1 .1 .1 .0 ∙ l .inv .0,
@@ -92,9 +89,9 @@ loop-again c =
 
 returns : tie.Need-returns Inv-loop μ-loop
 returns c =
-    let l = c .before .loop in
-    let s = now (c .before .before .before .before .args .s) in
-    sym (columns-none (l .left) (l .at) (l .to) s (l .out) (c .loop-test .left)) ∙ l .inv .3
+    let start : tie.Start Inv-loop μ-loop = search in let at-loop : tie.At-loop Inv-loop μ-loop = search in
+    let l = at-loop .loop in
+    sym (columns-none (l .left) (l .at) (l .to) (now (start .args .s)) (l .out) (c .loop-test .left)) ∙ l .inv .3
 
 pub put-columns-spec : {M : Type 1} → statement M
 put-columns-spec =
@@ -108,4 +105,4 @@ put-columns-spec =
     (λ c. search needs)
     (λ c. let inside : tie.In-loop Inv-loop μ-loop = search in let wide : tie.After-u16-to-usize Inv-loop μ-loop = search in
     omega (arith, reaches inside, count-is wide))
-    next-column-requires (λ c. search needs) (λ c. search needs) loop-again (λ c. c .before .loop .inv .0) returns)
+    next-column-requires (λ c. search needs) (λ c. search needs) loop-again (λ c. search needs) returns)

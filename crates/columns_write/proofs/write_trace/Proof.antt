@@ -30,46 +30,47 @@ loop-holds c =
     let all = countsBy (a .n) (4 + 10 * a .n) s in
     rw (c .columns-from .ensures) (refl, omega (arith, start .pre .2), columns-start (length s) (a .n) (a .k) all (start .pre .0) (start .pre .1), refl)
 
+-- A turn of the loop: the arguments, and the loop's variables.
+abbrev start-of : tie.In-loop Inv-loop μ-loop → tie.Start Inv-loop μ-loop
+start-of c = search
+
+abbrev loop-of : tie.In-loop Inv-loop μ-loop → tie.At-loop Inv-loop μ-loop
+loop-of c = search
+
 -- The record lies within the columns, its place within the buffer, and so do those after it.
-reaches : (c : tie.In-loop Inv-loop μ-loop) → (let l = c .before .loop in let a = c .before .before .before .before .before .args in let s = now (a .s) in
+reaches : (c : tie.In-loop Inv-loop μ-loop) → (let a = start-of c .args in let l = loop-of c .loop in let s = now (a .s) in
     let m = numberAt 2 (l .at .count) s in l .to + 12 + 3 * m + 12 * (l .left - 1) + 3 * countsBy (l .left - 1) (l .at .count + 2) s ≤ length (now (a .out)))
 reaches c =
-    let l = c .before .loop in
-    let s = now (c .before .before .before .before .before .args .s) in
+    let s = now (start-of c .args .s) in let l = loop-of c .loop in
     omega (arith, l .inv .1, c .loop-test .taken, counts-more (l .left) (l .at .count) s (c .loop-test .taken))
 
 -- The place after it is in range.
-in-range : (c : tie.In-loop Inv-loop μ-loop) → (let l = c .before .loop in let s = now (c .before .before .before .before .before .args .s) in
+in-range : (c : tie.In-loop Inv-loop μ-loop) → (let s = now (start-of c .args .s) in let l = loop-of c .loop in
     l .to + 12 + 3 * numberAt 2 (l .at .count) s ≤ wordMax)
 in-range c = omega (arith, reaches c)
 
-here : (c : tie.In-loop Inv-loop μ-loop) → (let l = c .before .loop in let s = now (c .before .before .before .before .before .args .s) in
+here : (c : tie.In-loop Inv-loop μ-loop) → (let s = now (start-of c .args .s) in let l = loop-of c .loop in
     RecordWithin (length s) inColumns (l .at) (numberAt 2 (l .at .count) s))
 here c =
-    let l = c .before .loop in
-    let s = now (c .before .before .before .before .before .args .s) in
-    columns-here (length s) (l .left) (l .at) (numberAt 2 (l .at .count) s) _ (countsBy (l .left) (l .at .count) s) (l .inv .2) (c .loop-test .taken)
-    (counts-more (l .left) (l .at .count) s (c .loop-test .taken))
+    let l = loop-of c .loop in
+    columns-here _ _ _ _ _ _ (l .inv .2) (c .loop-test .taken) (counts-more (l .left) (l .at .count) (now (start-of c .args .s)) (c .loop-test .taken))
 
-after : (c : tie.In-loop Inv-loop μ-loop) → (let l = c .before .loop in let s = now (c .before .before .before .before .before .args .s) in
+after : (c : tie.In-loop Inv-loop μ-loop) → (let s = now (start-of c .args .s) in let l = loop-of c .loop in
     ColumnsWithin (length s) (l .left - 1) (nextColumn (l .at) (numberAt 2 (l .at .count) s)) (countsBy (l .left - 1) (l .at .count + 2) s))
 after c =
-    let l = c .before .loop in
-    let s = now (c .before .before .before .before .before .args .s) in
-    columns-next (length s) (l .left) (l .at) (numberAt 2 (l .at .count) s) _ (countsBy (l .left) (l .at .count) s) (l .inv .2) (c .loop-test .taken)
-    (counts-more (l .left) (l .at .count) s (c .loop-test .taken))
+    let l = loop-of c .loop in
+    columns-next _ _ _ _ _ _ (l .inv .2) (c .loop-test .taken) (counts-more (l .left) (l .at .count) (now (start-of c .args .s)) (c .loop-test .taken))
 
 -- The count as a length.
-count-is : (c : tie.After-u16-to-usize Inv-loop μ-loop) → (let l = c .before .before .before .loop in
-    let s = now (c .before .before .before .before .before .before .before .args .s) in c .u16-to-usize .result ≡ numberAt 2 (l .at .count) s)
-count-is c = c .u16-to-usize .ensures ∙ c .before .u16-within .ensures
+count-is : (c : tie.After-u16-to-usize Inv-loop μ-loop) → (let inside : tie.In-loop Inv-loop μ-loop = search in
+    c .u16-to-usize .result ≡ numberAt 2 (loop-of inside .loop .at .count) (now (start-of inside .args .s)))
+count-is c = let count : tie.After-u16-within Inv-loop μ-loop = search in c .u16-to-usize .ensures ∙ count .u16-within .ensures
 
 put-record-requires : tie.Need-put-record-requires Inv-loop μ-loop
 put-record-requires c κs =
     let inside : tie.In-loop Inv-loop μ-loop = search in let places : tie.After-row-places Inv-loop μ-loop = search in
     let row : tie.After-in-row Inv-loop μ-loop = search in let columns : tie.After-in-columns Inv-loop μ-loop = search in
-    let l = inside .before .loop in
-    let a = inside .before .before .before .before .before .args in
+    let a = start-of inside .args in let l = loop-of inside .loop in
     let target = within-row (length (now (a .out))) (l .to) (numberAt 2 (l .at .count) (now (a .s))) (omega (arith, reaches inside)) in
     rw (places .row-places .ensures, row .in-row .ensures, columns .in-columns .ensures, l .inv .0) ((omega arith, omega arith), here inside, (omega arith, omega arith), target)
 
@@ -87,8 +88,7 @@ loop-again c =
     let inside : tie.In-loop Inv-loop μ-loop = search in let places : tie.After-row-places Inv-loop μ-loop = search in
     let row : tie.After-in-row Inv-loop μ-loop = search in let columns : tie.After-in-columns Inv-loop μ-loop = search in
     let put : tie.After-put-record Inv-loop μ-loop = search in let wide : tie.After-u16-to-usize Inv-loop μ-loop = search in
-    let l = inside .before .loop in
-    let s = now (inside .before .before .before .before .before .args .s) in
+    let s = now (start-of inside .args .s) in let l = loop-of inside .loop in
     let n = count-is wide in
     let next = c .next-column .ensures ∙ ap (nextColumn (l .at)) n in (
       put .put-record .kept .1 .1 .1 .0 ∙ l .inv .0,
@@ -100,9 +100,9 @@ loop-again c =
 
 returns : tie.Need-returns Inv-loop μ-loop
 returns c =
-    let l = c .before .loop in
-    let s = now (c .before .before .before .before .before .args .s) in
-    sym (rows-none (l .left) (l .at) (l .to) s (l .out) (c .loop-test .left)) ∙ l .inv .3
+    let start : tie.Start Inv-loop μ-loop = search in let at-loop : tie.At-loop Inv-loop μ-loop = search in
+    let l = at-loop .loop in
+    sym (rows-none (l .left) (l .at) (l .to) (now (start .args .s)) (l .out) (c .loop-test .left)) ∙ l .inv .3
 
 pub write-trace-spec : {M : Type 1} → statement M
 write-trace-spec =
@@ -115,4 +115,4 @@ write-trace-spec =
     (λ c. search needs)
     (λ c. let inside : tie.In-loop Inv-loop μ-loop = search in let wide : tie.After-u16-to-usize Inv-loop μ-loop = search in
     omega (arith, in-range inside, count-is wide))
-    (λ c. search needs) (λ c. search needs) loop-again (λ c. c .before .loop .inv .0) returns)
+    (λ c. search needs) (λ c. search needs) loop-again (λ c. search needs) returns)
