@@ -36,11 +36,21 @@ static void make_room(store *s, size_t room) {
     exit(2);
 }
 
-static FILE *opened(const char *path, const char *mode) {
-    FILE *file = fopen(path, mode);
-    if (file) return file;
+/* A file could not be used. */
+static void give_up(const char *path) {
     perror(path);
     exit(2);
+}
+
+static FILE *opened(const char *path, const char *mode) {
+    FILE *file = fopen(path, mode);
+    if (!file) give_up(path);
+    return file;
+}
+
+/* Closes a file that was read; what could not be read is not taken for its end. */
+static void closed(FILE *file, const char *path) {
+    if (ferror(file) || fclose(file)) give_up(path);
 }
 
 static uint64_t number_at(const uint8_t *bytes, int width) {
@@ -106,10 +116,7 @@ static int write_columns(const char *path) {
     w = pdevs_trace_to_columns(trace.bytes, trace.used, columns.bytes, columns.room);
     if (w.number != PDEVS_OK) return refused("columns", w.number);
     file = opened(path, "wb");
-    if (fwrite(columns.bytes, 1, w.bytes, file) != w.bytes || fclose(file)) {
-        perror(path);
-        return 2;
-    }
+    if (fwrite(columns.bytes, 1, w.bytes, file) != w.bytes || fclose(file)) give_up(path);
     printf("%" PRIu64 " records in %" PRIu64 " bytes\n", number_at(columns.bytes + PDEVS_COLUMNS_RECORD_COUNT, 4), w.bytes);
     return 0;
 }
@@ -120,12 +127,12 @@ static int keep(const char *model_path, const char *cues_path, const char *colum
     uint64_t number;
     int status;
     model_len = fread(model, 1, sizeof model, file);
-    fclose(file);
+    closed(file, model_path);
     started = pdevs_start(model, model_len, run, sizeof run);
     if (started.number != PDEVS_OK) return refused("start", started.number);
     make_room(&trace, 4096);
     number = give_cues(cues);
-    fclose(cues);
+    closed(cues, cues_path);
     status = write_columns(columns_path); /* where an advance was refused, what was done before it is kept all the same */
     return number != PDEVS_OK ? refused("advance", number) : status;
 }
@@ -135,10 +142,10 @@ static uint64_t load(const char *path) {
     FILE *file = opened(path, "rb");
     pdevs_written w;
     do {
-        make_room(&columns, columns.used + 65536);
+        make_room(&columns, 2 * columns.used + 65536);
         columns.used += fread(columns.bytes + columns.used, 1, columns.room - columns.used, file);
     } while (columns.used == columns.room);
-    fclose(file);
+    closed(file, path);
     make_room(&trace, columns.used + 1);
     w = pdevs_columns_to_trace(columns.bytes, columns.used, trace.bytes, trace.room);
     trace.used = w.bytes;
@@ -161,7 +168,7 @@ static uint64_t first_from(uint64_t records, uint64_t moment) {
 /* Puts up the records of a moment: their steps and counts stand at the same place, their messages behind all those before. */
 static int find(uint64_t moment) {
     uint64_t records = number_at(columns.bytes + PDEVS_COLUMNS_RECORD_COUNT, 4);
-    uint64_t messages = (columns.used - PDEVS_COLUMNS_PORTS(records)) / PDEVS_MESSAGE_SIZE;
+    uint64_t messages = PDEVS_COLUMNS_MESSAGES(columns.used, records);
     const uint8_t *steps = columns.bytes + PDEVS_COLUMNS_STEPS(records);
     const uint8_t *counts = columns.bytes + PDEVS_COLUMNS_MESSAGE_COUNTS(records);
     const uint8_t *ports = columns.bytes + PDEVS_COLUMNS_PORTS(records);
@@ -191,15 +198,33 @@ static int list(void) {
     return 0;
 }
 
-int main(int count, char **arguments) {
-    int finds = count == 4 && strcmp(arguments[1], "find") == 0;
-    int lists = count == 3 && strcmp(arguments[1], "list") == 0;
-    if (count == 5 && strcmp(arguments[1], "keep") == 0) return keep(arguments[2], arguments[3], arguments[4]);
-    if (finds || lists) {
-        uint64_t number = load(arguments[2]);
-        if (number != PDEVS_OK) return refused("columns", number);
-        return finds ? find(strtoull(arguments[3], NULL, 10)) : list();
-    }
+static int usage(void) {
     fprintf(stderr, "archive keep MODEL CUES COLUMNS\narchive find COLUMNS MOMENT\narchive list COLUMNS\n");
     return 2;
+}
+
+/* Whether a word is a number, and which. */
+static int is_moment(const char *word, uint64_t *moment) {
+    char *end;
+    *moment = strtoull(word, &end, 10);
+    return word[0] >= '0' && word[0] <= '9' && *end == '\0';
+}
+
+/* Does what the arguments say; the exit status. */
+static int done(int count, char **arguments) {
+    int finds = count == 4 && strcmp(arguments[1], "find") == 0;
+    int lists = count == 3 && strcmp(arguments[1], "list") == 0;
+    uint64_t moment = 0, number;
+    if (count == 5 && strcmp(arguments[1], "keep") == 0) return keep(arguments[2], arguments[3], arguments[4]);
+    if (!finds && !lists) return usage();
+    if (finds && !is_moment(arguments[3], &moment)) return usage();
+    number = load(arguments[2]);
+    if (number != PDEVS_OK) return refused("columns", number);
+    return finds ? find(moment) : list();
+}
+
+int main(int count, char **arguments) {
+    int status = done(count, arguments);
+    if (fflush(stdout) || ferror(stdout)) give_up("standard output");
+    return status;
 }

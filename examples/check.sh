@@ -134,6 +134,8 @@ awk 'BEGIN { for (t = 0; t < 86400000; t += 5000) print t, 0, 7 + t / 5000 % 2; 
   archive list "$made/backwards.columns"
   archive keep "$made/jam.model" "$here/captions.cues" "$made/jam.columns"
   archive find "$made/jam.columns" 200
+  archive find "$made/jam.columns" 200ms
+  archive list "$made" | sed "s:$made:.:"
 } >"$made/day.out"
 agree 'archive day' "$here/day.archived" "$made/day.out"
 

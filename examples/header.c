@@ -101,6 +101,7 @@ static void by_columns(void) {
     holds(number_at(columns + PDEVS_COLUMNS_MOMENTS + 8, 8) == 1, "the second moment");
     holds(number_at(columns + PDEVS_COLUMNS_STEPS(2) + 2, 2) == 4, "the second step");
     holds(number_at(columns + PDEVS_COLUMNS_MESSAGE_COUNTS(2) + 2, 2) == 2, "the second message count");
+    holds(PDEVS_COLUMNS_MESSAGES(w.bytes, 2) == 3, "the number of messages");
     holds(columns[PDEVS_COLUMNS_PORTS(2)] == 3 && columns[PDEVS_COLUMNS_PORTS(2) + 2] == 1, "the first and the last port");
     holds(number_at(columns + PDEVS_COLUMNS_VALUES(2, 3) + 4, 2) == 6 + 256 * 7, "the last value");
     w = pdevs_columns_to_trace(columns, w.bytes, back, sizeof back);

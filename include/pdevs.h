@@ -27,12 +27,12 @@
  * A trace has a record for each step with output at the root: moment (8), step in its instant from 0 (2), message count (2),
  * and 3 bytes for each message, in rising order of port, then value. The pairs of moment and step rise strictly, moment first.
  * The traces of successive advances, each given the run buffer as the one before left it, joined in turn are one trace, up to
- * 4,294,967,295 records: refused advances add nothing to it, and those that 13, 14 or 15 ended add the instants done. A start
- * begins another one.
+ * 4,294,967,295 records, whichever model each of them runs: refused advances add nothing to it, and those that 13, 14 or 15 ended
+ * add the instants done. A start begins another one.
  *
- * A trace by columns, as an archive keeps it that searches by moment, has the same numbers in another order: record count (4),
- * all moments (8 each), all steps (2), all message counts (2), all ports (1), all values (2). It has PDEVS_COLUMNS_SIZE(bytes of
- * the trace) bytes, 4 more than the trace; that of an empty trace is four zero bytes.
+ * A trace by columns has the same numbers in another order, for archives, where moments are searched and like stands beside like:
+ * record count (4), all moments (8 each), all steps (2), all message counts (2), all ports (1), all values (2). It has
+ * PDEVS_COLUMNS_SIZE(bytes of the trace) bytes, 4 more than the trace; that of an empty trace is four zero bytes.
  *
  * A rules table has PDEVS_RULES_TABLE_SIZE(number of atomics) bytes, for each atomic in file order the position (2) of a rule in
  * the file, counted in rules from 0, or PDEVS_NO_RULE. PDEVS_MAX_RULES_TABLE bytes, 126, hold the table of any model.
@@ -105,13 +105,16 @@ enum pdevs_number { PDEVS_NUMBERS(PDEVS_NAMED) };
 #define PDEVS_RULES_TABLE_SIZE(atomics) (2 * (atomics))
 #define PDEVS_COLUMNS_SIZE(trace_bytes) ((trace_bytes) + 4)
 
-/* In a trace by columns: where the record count and each column begin, by the numbers of records and of messages. */
+/* In a trace by columns: where the record count and each column begin, by the numbers of records and of messages; and how many
+   messages there are in so many bytes of columns. Bytes from elsewhere may say anything: only where pdevs_columns_to_trace does not
+   answer 18 do these places lie within them. */
 #define PDEVS_COLUMNS_RECORD_COUNT 0
 #define PDEVS_COLUMNS_MOMENTS 4
 #define PDEVS_COLUMNS_STEPS(records) (4 + 8 * (size_t)(records))
 #define PDEVS_COLUMNS_MESSAGE_COUNTS(records) (4 + 10 * (size_t)(records))
 #define PDEVS_COLUMNS_PORTS(records) (4 + 12 * (size_t)(records))
 #define PDEVS_COLUMNS_VALUES(records, messages) (4 + 12 * (size_t)(records) + (size_t)(messages))
+#define PDEVS_COLUMNS_MESSAGES(columns_bytes, records) (((columns_bytes) - PDEVS_COLUMNS_PORTS(records)) / PDEVS_MESSAGE_SIZE)
 
 /* In a rules table: no rule. No rule of a file has this position. */
 #define PDEVS_NO_RULE 65535
