@@ -2,8 +2,9 @@
 //! code has, in plain safe Rust. First a pass that judges, then one that writes; on the way back one more
 //! before them, which adds up the message counts. No heap.
 //!
-//! `PASSES` stops at the first message that falls, as the proved code does. `UNBROKEN` judges a whole bag and
-//! tells at its end: without a way out of the loop the compiler can judge several messages at once.
+//! `PASSES` stops at the first message that falls, as the proved code does in a row of records. `UNBROKEN`
+//! judges a whole bag and tells at its end, as the proved code does in columns with many messages: without a
+//! way out of the loop the compiler can judge several messages at once.
 
 use reference::answers::{Written, BUFFER_TOO_SHORT, NOT_A_TRACE, NOT_COLUMNS, SUCCESS};
 use reference::columns::HEAD_BYTES as COUNT_BYTES;

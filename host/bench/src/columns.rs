@@ -60,7 +60,7 @@ pub fn lines(
             facts: &[way.into(), records, trace.len().to_string()],
             nanoseconds: &nanoseconds,
             rate: Some(1e12 / nanoseconds[report.subject]),
-            is_flat: false,
+            held_to_all: true,
         });
     }
     Ok(())

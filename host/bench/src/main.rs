@@ -1,7 +1,8 @@
 //! Measures engines with the same interface in one process: the proved library, where it is linked
 //! (feature `library`), against two optimised, unverified ones. `pulled` has the same algorithm,
 //! `flat rows` compiles routes to flat rows and is the limit. Traces are rearranged by the library against
-//! two others: `passes` has the same algorithm, `unbroken` judges messages without a way out of the loop.
+//! two others, which go over the bytes as often: `passes` stops at a message that falls, `unbroken` judges
+//! every bag to its end.
 //!
 //! `bench/run.sh` builds and runs it. `--rounds N` takes the best of N rounds, `--only TEXT` measures
 //! only what has TEXT in its name. `--write FOLDER` measures nothing, and writes the trace of a week and
@@ -113,7 +114,7 @@ impl Run<'_> {
                     facts: &facts,
                     nanoseconds: &nanoseconds,
                     rate: Some(rate),
-                    is_flat: *model == flat,
+                    held_to_all: *model == flat,
                 });
             }
         }
@@ -130,7 +131,7 @@ impl Run<'_> {
                 facts: &[size.to_string()],
                 nanoseconds: &nanoseconds,
                 rate: None,
-                is_flat: workload.model == workload.flat_model(),
+                held_to_all: workload.model == workload.flat_model(),
             });
             lines.push((*size, nanoseconds));
         }
@@ -212,8 +213,8 @@ fn main() -> ExitCode {
         engines: &engines,
         rearrangers: &rearrangers,
         arguments: &arguments,
-        report: Report::new(engines.iter().map(|(name, _)| *name).collect()),
-        by_column: Report::new(rearrangers.iter().map(|(name, _)| *name).collect()),
+        report: Report::new(engines.iter().map(|(name, _)| *name).collect(), " on flat models"),
+        by_column: Report::new(rearrangers.iter().map(|(name, _)| *name).collect(), ""),
     };
     match run.all() {
         Ok(()) => {

@@ -16,7 +16,8 @@ pub struct Line<'l> {
     pub nanoseconds: &'l [f64],
     /// How often in a second the subject does what was timed.
     pub rate: Option<f64>,
-    pub is_flat: bool,
+    /// Whether a goal is set against the other engines too, and not against the first one alone.
+    pub held_to_all: bool,
 }
 
 /// The ratios to an engine, with their places, of all lines where a goal is set.
@@ -27,16 +28,18 @@ struct Ratios {
 
 pub struct Report {
     names: Vec<&'static str>,
+    /// Where a goal is set against the other engines, as the summary has it behind their names.
+    others_where: &'static str,
     pub subject: usize,
     ratios: Vec<Ratios>,
 }
 
 impl Report {
     /// For these engines, the one with the library's algorithm first.
-    pub fn new(names: Vec<&'static str>) -> Report {
+    pub fn new(names: Vec<&'static str>, others_where: &'static str) -> Report {
         let subject = names.iter().position(|&name| name == "library").unwrap_or(0);
         let ratios = names.iter().map(|_| Ratios::default()).collect();
-        Report { names, subject, ratios }
+        Report { names, others_where, subject, ratios }
     }
 
     fn others(&self) -> impl Iterator<Item = usize> {
@@ -70,7 +73,7 @@ impl Report {
         }
         for other in self.others().collect::<Vec<usize>>() {
             let ratio = line.nanoseconds[other] / line.nanoseconds[self.subject];
-            let wanted = self.is_wanted(other, line.is_flat);
+            let wanted = self.is_wanted(other, line.held_to_all);
             let mark = if wanted && ratio < GOAL { '!' } else { ' ' };
             text += &format!("{ratio:>13.2}{mark}");
             if wanted {
@@ -80,10 +83,9 @@ impl Report {
         println!("{}", text.trim_end());
     }
 
-    /// The goals are set for the library: against the first engine everywhere, against flat rows on
-    /// flat models.
-    fn is_wanted(&self, other: usize, is_flat: bool) -> bool {
-        self.names[self.subject] == "library" && (other == 0 || is_flat)
+    /// The goals are set for the library.
+    fn is_wanted(&self, other: usize, held_to_all: bool) -> bool {
+        self.names[self.subject] == "library" && (other == 0 || held_to_all)
     }
 
     /// What one more of a size costs, from the first to the last line of a series.
@@ -98,7 +100,7 @@ impl Report {
     /// What a change is held to: the middle and the lowest ratio, and how many rows reach the goal.
     pub fn goals(&mut self) {
         for other in self.others().collect::<Vec<usize>>() {
-            let place = if other == 0 { "" } else { " on flat models" };
+            let place = if other == 0 { "" } else { self.others_where };
             if let Some(summary) = self.ratios[other].summary() {
                 println!("of {}{place}: {summary}", self.names[other]);
             }

@@ -23,11 +23,12 @@ enum Messages {
     OfADay,
 }
 
-pub const ALL: [Named; 8] = [
+pub const ALL: [Named; 9] = [
     Named { name: "columns, one record", messages: Messages::Each(1, 1) },
     Named { name: "columns, 1 message", messages: Messages::Each(1, LONG) },
     Named { name: "columns, 4 messages", messages: Messages::Each(4, LONG) },
     Named { name: "columns, 16 messages", messages: Messages::Each(16, LONG) },
+    Named { name: "columns, 24 messages", messages: Messages::Each(24, LONG) },
     Named { name: "columns, 256 messages", messages: Messages::Each(256, LONG) },
     Named { name: "columns, 4,096 messages", messages: Messages::Each(4_096, LONG) },
     Named { name: "columns, 65,535 messages", messages: Messages::Each(65_535, LONG) },

@@ -7,12 +7,14 @@ use crate::call::Call;
 use crate::comparison::{Compared, Comparison};
 use crate::random::Random;
 use reference::builder::{bag, Builder};
+use reference::columns;
 use reference::examples::{cue_source, relayed_hold, CUE, JAM};
+use reference::limits::HIGHEST_PORT;
 use reference::records::Message;
 use reference::saved_run::{self, AtomicRun, SavedRun};
 use reference::trace::{self, Record};
 
-pub const NAMES: [&str; 9] = [
+pub const NAMES: [&str; 12] = [
     "trace cut at each byte",
     "columns cut at each byte",
     "trace with each byte changed",
@@ -22,6 +24,9 @@ pub const NAMES: [&str; 9] = [
     "by column: 65,535 records",
     "by column: 65,536 records",
     "17: traces joined over a start",
+    "a fall at each of many messages",
+    "port 4 from each of many messages on",
+    "joined: over another model",
 ];
 
 /// How often each kind of damage is done in a case.
@@ -126,17 +131,57 @@ pub fn long_ones(comparison: &mut Comparison, random: &mut Random) -> Compared<(
     Ok(())
 }
 
+/// Messages may be judged one by one or several at once, by how many there are: each of them falls, and is on
+/// port 4 with those behind it.
+pub fn many_messages(comparison: &mut Comparison, _: &mut Random) -> Compared<()> {
+    for count in [2, 7, 15, 16, 17, 31, 32, 33, 100] {
+        let whole: Vec<Message> =
+            (0..count).map(|place| Message { port: HIGHEST_PORT, value: 200 + place }).collect();
+        comparison.there_and_back(Way::There, &trace::encode(&[record_of(&whole)]))?;
+        for place in 0..whole.len() {
+            let mut above = whole.clone();
+            above[place..].iter_mut().for_each(|message| message.port = HIGHEST_PORT + 1);
+            refused_both_ways(comparison, NAMES[10], &above)?;
+            let mut falling = whole.clone();
+            falling[place].value = if place == 0 { u16::MAX } else { 0 };
+            refused_both_ways(comparison, NAMES[9], &falling)?;
+        }
+    }
+    Ok(())
+}
+
+fn record_of(messages: &[Message]) -> Record {
+    Record { moment: 5, step: 0, messages: messages.to_vec() }
+}
+
+fn refused_both_ways(
+    comparison: &mut Comparison,
+    name: &'static str,
+    messages: &[Message],
+) -> Compared<()> {
+    let record = [record_of(messages)];
+    for (way, bytes) in
+        [(Way::There, trace::encode(&record)), (Way::Back, columns::encode(&record))]
+    {
+        let found = comparison.refused_whole(way, &bytes);
+        found.map_err(|fault| format!("{name}, {fault}"))?;
+    }
+    comparison.counts.meet(name);
+    Ok(())
+}
+
 fn advance(t: u64, given: &[(u8, u16)], trace_length: usize) -> Call {
     Call::Advance { t, bag: bag(given), trace: junk(trace_length), rules: Vec::new() }
 }
 
-/// Calls over one run buffer, each with its number; the list of calls joins what they write.
+/// Calls over one run buffer, each with its number; the list of calls joins what they write. Answers that,
+/// and the run buffer as they left it.
 fn calls(
     comparison: &mut Comparison,
     model: &Builder,
     run: &[u8],
     calls: &[(Call, u64)],
-) -> Compared<Vec<u8>> {
+) -> Compared<(Vec<u8>, Vec<u8>)> {
     let mut list = comparison.list(&model.file(), run);
     let mut joined = Vec::new();
     for (call, number) in calls {
@@ -146,7 +191,7 @@ fn calls(
         }
         joined.extend(outcome.records());
     }
-    Ok(joined)
+    Ok((joined, list.run().to_vec()))
 }
 
 /// Advances with everything between them that may come between, in a run that was started and in one that
@@ -164,10 +209,10 @@ pub fn joined(comparison: &mut Comparison, random: &mut Random) -> Compared<()> 
         (advance(50, &[], 100), 0),
     ];
     let started = [&[(Call::Start, 0)], &between[..]].concat();
-    let first = calls(comparison, &model, &run, &started)?;
+    let (first, _) = calls(comparison, &model, &run, &started)?;
     let standing = [AtomicRun { phase: 0, last: 10 }, AtomicRun { phase: 2, last: 10 }];
     let saved = SavedRun { open: 11, atomics: standing.to_vec() };
-    let second = calls(comparison, &model, &saved.encode(), &between)?;
+    let (second, _) = calls(comparison, &model, &saved.encode(), &between)?;
     if first != second || first.len() != 4 * 15 {
         return Err("the joined traces of the cue source are others".into());
     }
@@ -178,12 +223,26 @@ pub fn joined(comparison: &mut Comparison, random: &mut Random) -> Compared<()> 
         (advance(30, &[], 100), 0),
     ];
     let run = random.bytes(saved_run::length(2));
-    let jammed = calls(comparison, &relayed_hold(2, 0), &run, &jam)?;
+    let (jammed, _) = calls(comparison, &relayed_hold(2, 0), &run, &jam)?;
     if jammed.len() != 2 * 15 {
         return Err("the joined traces over an endless instant are others".into());
     }
     comparison.refused_whole(Way::There, &[first, second].concat())?;
     comparison.counts.meet(NAMES[8]);
+    Ok(())
+}
+
+/// A run that goes on with another model that it fits.
+pub fn joined_over_models(comparison: &mut Comparison, _: &mut Random) -> Compared<()> {
+    let begun = [(Call::Start, 0), (advance(25, &[], 100), 0)];
+    let run = junk(saved_run::length(2));
+    let (first, run) = calls(comparison, &cue_source(0, 1), &run, &begun)?;
+    let (second, _) = calls(comparison, &cue_source(1, 1), &run, &[(advance(50, &[], 100), 0)])?;
+    if first.is_empty() || second.is_empty() {
+        return Err("one of two models has written no record".into());
+    }
+    comparison.there_and_back(Way::There, &[first, second].concat())?;
+    comparison.counts.meet(NAMES[11]);
     Ok(())
 }
 

@@ -9,20 +9,22 @@ mod made_up;
 pub mod rearranging;
 pub mod rows;
 
-#[cfg(test)]
-pub use cases::long_ones;
 pub use cases::random_trace;
+#[cfg(test)]
+pub use cases::{long_ones, many_messages};
 
 use crate::special::Special;
 
 /// The cases that come in every run.
-pub const CASES: [Special; 6] = [
+pub const CASES: [Special; 8] = [
     rows::all,
     cases::damages,
     cases::every_cut,
     cases::every_byte,
     cases::long_ones,
+    cases::many_messages,
     cases::joined,
+    cases::joined_over_models,
 ];
 
 /// The names of the boundaries and damages that the cases count.

@@ -1,13 +1,10 @@
 //! Wrong rearrangements of a trace, made of the reference: what passes for a trace, the bytes of the columns,
 //! and what becomes of the lent buffer.
 
-use crate::cases;
+mod told;
+
 use crate::columns::rearranging::Way;
-use crate::columns::{self, rows};
-use crate::comparison::{Compared, Comparison};
-use crate::counts::Counts;
 use crate::engine::Rearranger;
-use crate::random::Random;
 use reference::columns::{encode, read_records, HEAD_BYTES};
 use reference::limits::{HIGHEST_PORT, HIGHEST_TIME, ROOT_BAG, STEPS_OF_AN_INSTANT};
 use reference::records::Message;
@@ -30,6 +27,7 @@ pub enum Wrong {
     EqualMessagesRefused,
     MessagesRiseThroughRecords,
     MessagesOfColumnsUnjudged,
+    OnlyTheLastOfMany,
     Port4Allowed,
     PortsOfColumnsUnjudged,
     ComparedFromTheLowByte,
@@ -55,45 +53,8 @@ pub enum Wrong {
     TellsTheLengthWith15,
 }
 
-/// Each with the row that tells it first.
-const ALL: [(Wrong, &str); 36] = [
-    (Wrong::EmptyRecordAllowed, "no trace: empty record"),
-    (Wrong::ZeroCountAllowedInColumns, "no columns: empty record"),
-    (Wrong::PairsMayRepeat, "no trace: pair repeated"),
-    (Wrong::StepsMayFall, "no trace: step falls"),
-    (Wrong::StepBeforeMoment, "by column: step and messages fall as the moment rises"),
-    (Wrong::OneRecordAMoment, "by column: two steps of a moment"),
-    (Wrong::StepsBeginAt0, "by column: step and messages fall as the moment rises"),
-    (Wrong::PairsOfColumnsUnjudged, "no columns: pair repeated"),
-    (Wrong::MessagesMayFall, "no trace: messages fall by port"),
-    (Wrong::ValuesMayFall, "no trace: messages fall by value"),
-    (Wrong::EqualMessagesRefused, "by column: equal messages"),
-    (Wrong::MessagesRiseThroughRecords, "by column: step and messages fall as the moment rises"),
-    (Wrong::MessagesOfColumnsUnjudged, "no columns: messages fall"),
-    (Wrong::Port4Allowed, "no trace: port 4"),
-    (Wrong::PortsOfColumnsUnjudged, "no columns: port 4"),
-    (Wrong::ComparedFromTheLowByte, "by column: numbers that rise by a higher byte alone"),
-    (Wrong::MomentsHaveASign, "by column: the highest numbers"),
-    (Wrong::LimitOfMoments, "by column: moment 1,000,000,000,001"),
-    (Wrong::LimitOfSteps, "by column: step 1,024 and none before it"),
-    (Wrong::LimitOfMessages, "by column: 4,097 messages in a record"),
-    (Wrong::EmptyTraceRefused, "by column: empty trace"),
-    (Wrong::CutRecordDropped, "no trace: cut in a head"),
-    (Wrong::LeftOverAllowed, "no columns: no record, and a byte left over"),
-    (Wrong::UnderFourBytesAreNoRecord, "no columns: no byte"),
-    (Wrong::BufferBeforeTheTrace, "no trace: cut in a head"),
-    (Wrong::BufferBeforeTheColumns, "no columns: no record, and a byte left over"),
-    (Wrong::NumberOfTheOtherWay, "no columns: no byte"),
-    (Wrong::CountsBeforeSteps, "by column: one message"),
-    (Wrong::MessagesKeptWhole, "by column: two steps of a moment"),
-    (Wrong::HighByteFirst, "by column: one message"),
-    (Wrong::RecordCountOfTwoBytes, "by column: 65,536 records"),
-    (Wrong::OneByteMoreNeeded, "by column: empty trace"),
-    (Wrong::WritesWhatFits, "by column: empty trace"),
-    (Wrong::WritesBeforeItJudges, "no trace: cut in a head"),
-    (Wrong::ClearsTheRest, "by column: empty trace"),
-    (Wrong::TellsTheLengthWith15, "by column: empty trace"),
-];
+/// From so many messages on an engine may judge several at once.
+const MANY: usize = 16;
 
 impl Wrong {
     fn is_pair_in_turn(self, way: Way, first: &Record, second: &Record) -> bool {
@@ -138,6 +99,11 @@ impl Wrong {
         let may_be_empty = self == Wrong::EmptyRecordAllowed
             || self == Wrong::ZeroCountAllowedInColumns && way == Way::Back;
         let in_turn = |two: &[Message]| self.is_message_in_turn(way, two[0], two[1]);
+        let is_many = way == Way::Back && record.messages.len() >= MANY;
+        let passed_over = match self {
+            Wrong::OnlyTheLastOfMany if is_many => record.messages.len() - 2,
+            _ => 0,
+        };
         let allowed = match self {
             Wrong::LimitOfMoments => record.moment <= HIGHEST_TIME,
             Wrong::LimitOfSteps => u64::from(record.step) < STEPS_OF_AN_INSTANT,
@@ -147,7 +113,7 @@ impl Wrong {
         allowed
             && (may_be_empty || !record.messages.is_empty())
             && record.messages.iter().all(|message| message.port <= highest_port)
-            && record.messages.windows(2).all(in_turn)
+            && record.messages.windows(2).skip(passed_over).all(in_turn)
     }
 
     /// Whether records pass for a trace that goes this way.
@@ -268,49 +234,4 @@ impl Rearranger for Wrong {
         let made = passed.map(|records| trace::encode(&records));
         self.answer(Way::Back, columns.len(), made, out)
     }
-}
-
-fn comparison_with(wrong: Wrong) -> Comparison {
-    let counts = Counts::new(cases::names());
-    Comparison::new(Vec::new(), vec![("faulty", Box::new(wrong))], counts)
-}
-
-/// The rows, and the traces that are too long to stand in one.
-fn rows_alone(wrong: Wrong) -> Compared<()> {
-    let (mut comparison, mut random) = (comparison_with(wrong), Random::new(1));
-    rows::all(&mut comparison, &mut random)?;
-    columns::long_ones(&mut comparison, &mut random)
-}
-
-/// In so many random traces a fault must be found.
-const RANDOM_TRACES: u64 = 200;
-
-fn random_traces_alone(wrong: Wrong) -> Compared<()> {
-    let mut comparison = comparison_with(wrong);
-    (0..RANDOM_TRACES).try_for_each(|number| {
-        columns::random_trace(&mut comparison, &mut Random::for_case(1, number))
-    })
-}
-
-#[test]
-fn rows_alone_find_what_is_wrong_about_columns() {
-    for (wrong, row) in ALL {
-        let difference = rows_alone(wrong).expect_err("a row tells the fault");
-        assert!(difference.starts_with(&format!("{row}, ")), "{wrong:?} is told by {difference}");
-    }
-}
-
-#[test]
-fn random_traces_alone_find_what_is_wrong_about_columns() {
-    // None of them has so many records that the count's third byte is used.
-    let shown = ALL.into_iter().filter(|(wrong, _)| *wrong != Wrong::RecordCountOfTwoBytes);
-    for (wrong, _) in shown {
-        assert!(random_traces_alone(wrong).is_err(), "{wrong:?} was not found");
-    }
-}
-
-#[test]
-fn nothing_is_wrong_about_the_columns_of_the_reference() {
-    assert_eq!(rows_alone(Wrong::Nothing), Ok(()));
-    assert_eq!(random_traces_alone(Wrong::Nothing), Ok(()));
 }
