@@ -1,5 +1,5 @@
 -- From what going over columns found to the outcome of the call. Assumes nothing.
-use mathlib.Core.Path.{_≡_, refl, sym, ap, _∙_}
+use mathlib.Core.Path.{_≡_, sym, ap, _∙_}
 use Prim.Native.Nat.{ℕ, _+_, _*_, _-_, _≤_, _<_}
 use mathlib.Core.List.{List}
 use mathlib.Core.Bool.{not}
@@ -7,11 +7,11 @@ use native.Mathlib.Omega.{arith}
 use lib.Dec.{ltb, eqb}
 use lib.ListN.{length}
 use borrow.Author.Tests.{eqb-true, not-false, lt-ltb, le-ltb}
-use Rattle.definition.specs.Bytes.{Bytes, AllBytes, Result, ok, refused, _>>=_, stored}
+use Rattle.definition.specs.Bytes.{Bytes, AllBytes, ok, refused, _>>=_, stored}
 use Rattle.definition.specs.Instant.{TraceRecord, traceBytes}
 use Rattle.definition.specs.Engine.{wrote}
 use Rattle.definition.specs.Pinned.TraceReader.{recordCount, messagesIn, isTrace, columnRecords, columnsOf, restored, columnsToTrace}
-use Rattle.law_base.proofs.Results.{ok-same, never-ok, bind-ok, refuse-ok}
+use Rattle.law_base.proofs.Results.{ok-same, never-ok, only-refused, bind-ok, refuse-ok}
 use Rattle.law_columns.specs.ByPosition.{columnsScanned, recordsAt}
 use Rattle.law_columns.proofs.WholeColumns.{read-columns, no-columns}
 use Rattle.law_columns.proofs.ColumnPlaces.{four-longer}
@@ -24,11 +24,7 @@ use Rattle.columns_forms.proofs.Wholes.{into-row}
 -- ---- no columns
 
 no-records : (s : Bytes) → AllBytes s → columnsScanned s ≡ refused 18 → columnsOf s ≡ refused 18
-no-records s b h = go (columnsOf s) refl
-  where
-    go : (r : Result (List TraceRecord)) → columnsOf s ≡ r → columnsOf s ≡ refused 18
-    go (ok rs) e = absurd (never-ok 18 _ (sym h ∙ columns-scanned s b ∙ ap (λ r. r >>= counted s) e))
-    go (refused n) e = e ∙ ap refused (no-columns s n e)
+no-records s b h = only-refused 18 (columnsOf s) (λ rs e. never-ok 18 _ (sym h ∙ columns-scanned s b ∙ ap (λ r. r >>= counted s) e)) (no-columns s)
 
 pub back-refused : (s out : Bytes) → AllBytes s → columnsScanned s ≡ refused 18 → columnsToTrace s out ≡ record { number = 18; written = 0; buffer = out }
 unfolding columnsToTrace restored wrote

@@ -1,17 +1,17 @@
 -- From what going over a trace found to the outcome of the call. Assumes nothing.
-use mathlib.Core.Path.{_≡_, refl, sym, ap, _∙_}
+use mathlib.Core.Path.{_≡_, sym, ap, _∙_}
 use Prim.Native.Nat.{ℕ, _+_, _*_, _≤_, _<_}
 use mathlib.Core.List.{List}
 use native.Mathlib.Omega.{arith}
 use lib.ListN.{length}
 use lib.Seq.{sets}
 use borrow.Author.Tests.{lt-ltb, le-ltb}
-use Rattle.definition.specs.Bytes.{Bytes, AllBytes, Result, ok, refused, _>>=_, bytesOf, stored}
+use Rattle.definition.specs.Bytes.{Bytes, AllBytes, ok, refused, _>>=_, bytesOf, stored}
 use Rattle.definition.specs.Instant.{TraceRecord}
 use Rattle.definition.specs.Engine.{wrote}
 use Rattle.definition.specs.Columns.{messagesOf, columnBytes}
 use Rattle.definition.specs.Pinned.TraceReader.{traceOf, rearranged, traceToColumns}
-use Rattle.law_base.proofs.Results.{ok-same, never-ok, bind-ok}
+use Rattle.law_base.proofs.Results.{ok-same, never-ok, only-refused, bind-ok}
 use Rattle.law_columns.specs.ByPosition.{Scan, noneYet, scanned}
 use Rattle.law_columns.proofs.WholeTraces.{read-trace, no-trace, length-trace}
 use Rattle.law_columns.proofs.ColumnPlaces.{four-longer}
@@ -26,13 +26,10 @@ use Rattle.columns_scan.specs.Scans.{sizesOf}
 
 no-records : (s : Bytes) → AllBytes s → sizesOf (scanned s) ≡ refused 17 → traceOf s ≡ refused 17
 unfolding sizesOf
-no-records s b h = go (traceOf s) refl
+no-records s b h = only-refused 17 (traceOf s) (λ rs e. never-ok 17 _ (sym h ∙ seen rs e)) (no-trace s)
   where
-    go : (r : Result (List TraceRecord)) → traceOf s ≡ r → traceOf s ≡ refused 17
-    go (ok rs) e =
-        let one : sizesOf (scanned s) ≡ ok _ = ap sizesOf (scanned-trace s b ∙ ap (λ r. r >>= λ rs. ok (scanOver noneYet rs)) e) in
-        absurd (never-ok 17 _ (sym h ∙ one))
-    go (refused n) e = e ∙ ap refused (no-trace s n e)
+    seen : (rs : List TraceRecord) → traceOf s ≡ ok rs → sizesOf (scanned s) ≡ sizesOf (ok (scanOver noneYet rs))
+    seen rs e = ap sizesOf (scanned-trace s b ∙ ap (λ r. r >>= λ rs. ok (scanOver noneYet rs)) e)
 
 pub there-refused : (s out : Bytes) → AllBytes s → sizesOf (scanned s) ≡ refused 17 → traceToColumns s out ≡ record { number = 17; written = 0; buffer = out }
 unfolding traceToColumns rearranged wrote

@@ -28,7 +28,8 @@ unfolding messageAt numberAt
 first-is s p =
     let a : littleEndian (take 1 (take messageSize (drop p s))) ≡ littleEndian (take 1 (drop p s)) = ap littleEndian (take-take 1 messageSize (drop p s) (omega arith)) in
     let b : littleEndian (take 2 (drop 1 (take messageSize (drop p s)))) ≡ littleEndian (take 2 (drop (p + 1) s))
-    = ap (λ z. littleEndian (take 2 z)) (drop-take 1 messageSize (drop p s)) ∙ ap littleEndian (take-take 2 2 (drop 1 (drop p s)) (omega arith)) ∙ ap (λ z. littleEndian (take 2 z)) (drop-drop 1 p s) in
+    = ap (λ z. littleEndian (take 2 z)) (drop-take 1 messageSize (drop p s)) ∙ ap littleEndian (take-take 2 2 (drop 1 (drop p s)) (omega arith))
+    ∙ ap (λ z. littleEndian (take 2 z)) (drop-drop 1 p s) in
     λ i. record { port = a i; value = b i }
 
 pub bag-row : (m p v : ℕ) (s : Bytes) → v ≡ p + 1 → map (messageAt 0) (chunks m messageSize (drop p s)) ≡ messagesAt inRow p v m s
@@ -64,9 +65,11 @@ pub fits-row : (c : Scan) (at : ℕ) (s : Bytes)
     → recordNext c at s ≡ (leb (recordHead + numberAt 2 (at + 10) s * messageSize) (length s - at) && fitsAfter (lastOf c) inRow (rowPlaces at) s)
 unfolding recordNext fitsAfter rowPlaces
 fits-row c at s =
-    ap (λ xs. leb (recordHead + count at s * messageSize) (length s - at) && not (eqb (count at s) 0) && pairNext c (numberAt 8 at s) (numberAt 2 (at + 8) s) && keysRise 0 xs) (bag-at at s)
-    ∙ ap (λ b. leb (recordHead + count at s * messageSize) (length s - at) && not (eqb (count at s) 0) && b && keysRise 0 (messagesAt inRow (at + 12) (at + 13) (count at s) s)) (pair-last c (numberAt 8 at s) (numberAt 2 (at + 8) s))
-    ∙ grouped (leb (recordHead + count at s * messageSize) (length s - at)) (not (eqb (count at s) 0)) _ _
+    let whole = leb (recordHead + count at s * messageSize) (length s - at) in
+    let some = not (eqb (count at s) 0) in
+    ap (λ xs. whole && some && pairNext c (numberAt 8 at s) (numberAt 2 (at + 8) s) && keysRise 0 xs) (bag-at at s)
+    ∙ ap (λ b. whole && some && b && keysRise 0 (messagesAt inRow (at + 12) (at + 13) (count at s) s)) (pair-last c (numberAt 8 at s) (numberAt 2 (at + 8) s))
+    ∙ grouped whole some _ _
   where
     grouped : (a b c d : Bool) → (a && b && c && d) ≡ (a && (b && c && d))
     grouped true b c d = refl

@@ -21,11 +21,15 @@ unfoldable pub messagesAt : Apart → ℕ → ℕ → ℕ → Bytes → Bag
 messagesAt a p v zero s = []
 messagesAt a p v (suc n) s = record { port = numberAt 1 p s; value = numberAt 2 v s } ∷ messagesAt a (p + a .ports) (v + a .values) n s
 
+-- How many messages the record has.
+abbrev pub countAt : Places → Bytes → ℕ
+countAt at s = numberAt 2 (at .count) s
+
 unfoldable pub recordAt : Apart → Places → Bytes → TraceRecord
 recordAt a at s = record {
   moment = numberAt 8 (at .moment) s;
   step = numberAt 2 (at .step) s;
-  messages = messagesAt a (at .ports) (at .values) (numberAt 2 (at .count) s) s;
+  messages = messagesAt a (at .ports) (at .values) (countAt at s) s;
 }
 
 -- A pair of moment and step lies above that of the record before.
@@ -35,8 +39,8 @@ pairAbove l t k = not (l .some) || (ltb (l .moment) t || (eqb (l .moment) t && l
 -- The record is not empty, lies above the one before, and its messages rise.
 unfoldable pub fitsAfter : Last → Apart → Places → Bytes → Bool
 fitsAfter l a at s =
-    not (eqb (numberAt 2 (at .count) s) 0) && pairAbove l (numberAt 8 (at .moment) s) (numberAt 2 (at .step) s)
-    && keysRise 0 (messagesAt a (at .ports) (at .values) (numberAt 2 (at .count) s) s)
+    not (eqb (countAt at s) 0) && pairAbove l (numberAt 8 (at .moment) s) (numberAt 2 (at .step) s)
+    && keysRise 0 (messagesAt a (at .ports) (at .values) (countAt at s) s)
 
 -- ---- what is put
 

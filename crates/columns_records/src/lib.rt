@@ -6,7 +6,7 @@ ghost use Prim.Native.Nat.{_+_, _<_, _≤_};
 ghost use Rattle.definition.specs.Bytes.{numberAt, bytesOf};
 ghost use Rattle.law_base.specs.Keys.{keyOf};
 ghost use Rattle.law_columns.specs.ByPosition.{keysRise};
-ghost use Rattle.columns_records.specs.Places.{Near, MessagesWithin, HeadWithin, RecordWithin, messagesAt, recordAt, pairAbove, fitsAfter, messagesPut, headPut, recordPut};
+ghost use Rattle.columns_records.specs.Places.{Near, MessagesWithin, HeadWithin, RecordWithin, messagesAt, countAt, recordAt, pairAbove, fitsAfter, messagesPut, headPut, recordPut};
 use limits::PORT_COUNT;
 use little_endian::put_number;
 use little_endian::u16_within;
@@ -117,7 +117,7 @@ fn pair_above(last: Last, moment: u64, step: u16) -> bool
 
 // The record is not empty, lies above the one before, and its messages rise.
 pub fn record_fits(s: &[u8], at: Places, apart: Apart, last: Last) -> bool
-    requires { ⌜ Near apart × RecordWithin (length (now s)) apart at (numberAt 2 (at .count) (now s)) ⌝ }
+    requires { ⌜ Near apart × RecordWithin (length (now s)) apart at (countAt at (now s)) ⌝ }
     ensures { λ r. ⌜ r ≡ fitsAfter last apart at (now (s .entry)) ⌝ }
 {
     let count = u16_within(s, at.count);
@@ -180,7 +180,7 @@ fn put_messages(
 // A record's moment, step and message count, each put at another place.
 fn put_head(s: &[u8], at: Places, out: &mut [u8], to: Places)
     requires { ⌜ HeadWithin (length (now s)) at × HeadWithin (length (now out)) to ⌝ }
-    ensures { λ _. ⌜ now (out .exit) ≡ headPut to (numberAt 8 (at .moment) (now (s .entry))) (numberAt 2 (at .step) (now (s .entry))) (numberAt 2 (at .count) (now (s .entry))) (now (out .entry)) ⌝ }
+    ensures { λ _. ⌜ now (out .exit) ≡ headPut to (numberAt 8 (at .moment) (now (s .entry))) (numberAt 2 (at .step) (now (s .entry))) (countAt at (now (s .entry))) (now (out .entry)) ⌝ }
 {
     let moment = u64_within(s, at.moment);
     put_number(out, to.moment, 8, moment);
@@ -190,7 +190,7 @@ fn put_head(s: &[u8], at: Places, out: &mut [u8], to: Places)
 
 // The record, put where it lies in the other form.
 pub fn put_record(s: &[u8], at: Places, apart: Apart, out: &mut [u8], to: Places, to_apart: Apart)
-    requires { ⌜ Near apart × RecordWithin (length (now s)) apart at (numberAt 2 (at .count) (now s)) × Near «to_apart» × RecordWithin (length (now out)) «to_apart» to (numberAt 2 (at .count) (now s)) ⌝ }
+    requires { ⌜ Near apart × RecordWithin (length (now s)) apart at (countAt at (now s)) × Near «to_apart» × RecordWithin (length (now out)) «to_apart» to (countAt at (now s)) ⌝ }
     ensures { λ _. ⌜ now (out .exit) ≡ recordPut «to_apart» to (recordAt apart at (now (s .entry))) (now (out .entry)) ⌝ }
 {
     let count = u16_within(s, at.count);

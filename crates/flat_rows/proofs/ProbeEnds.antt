@@ -35,8 +35,8 @@ use Rattle.spec_step.specs.Tables.{inputNode, outputNode}
 use Rattle.spec_step.specs.TableStep.{keysInto, rootKeys}
 use Rattle.spec_step.specs.Tabled.{Tabled}
 use Rattle.law_step.proofs.Nests.{sub}
-use Rattle.law_step.proofs.Keys.{isValue}
-use Rattle.law_step.proofs.Values.{hasValue, values-all}
+use Rattle.law_model.proofs.PhaseValues.{isValue, hasValue}
+use Rattle.law_step.proofs.Values.{values-all}
 use Rattle.law_step.proofs.Ends.{pulled-same}
 use Rattle.law_step.proofs.Ends as E
 use Rattle.flat_probe.specs.Probe.{ownPort, probeOf, probes, probeMarks, probeReached, probeGiven}

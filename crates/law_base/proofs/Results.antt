@@ -1,5 +1,5 @@
 -- Checks in a row that end well have all been passed. Assumes nothing.
-use mathlib.Core.Path.{_≡_, refl}
+use mathlib.Core.Path.{_≡_, refl, ap}
 use Prim.Native.Nat.{ℕ}
 use mathlib.Core.Bool.{Bool, true, false}
 use native.Mathlib.Omega.{arith}
@@ -10,6 +10,11 @@ ok-same a b e = cc
 
 pub never-ok : {A : Type 0} (n : ℕ) (a : A) → refused n ≡ ok a → ⊥
 never-ok n a e = let z : _≡_ {A = ℕ} 0 1 = cc in omega arith
+
+-- What is never ok, and refused by one number alone, is refused by it.
+pub only-refused : {A : Type 0} (n : ℕ) (r : Result A) → ((a : A) → r ≡ ok a → ⊥) → ((j : ℕ) → r ≡ refused j → j ≡ n) → r ≡ refused n
+only-refused n (ok a) h k = absurd (h a refl)
+only-refused n (refused j) h k = ap refused (k j refl)
 
 pub bind-ok : {A B : Type 0} (r : Result A) (f : A → Result B) (b : B) → (r >>= f) ≡ ok b → (a : A) × (r ≡ ok a) × (f a ≡ ok b)
 bind-ok (ok a) f b e = (a, refl, e)

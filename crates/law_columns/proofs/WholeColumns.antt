@@ -23,7 +23,8 @@ use Rattle.law_columns.proofs.Refusals.{Only, only-if, only-number}
 use Rattle.law_columns.proofs.Everys.{every-append, every-if}
 use Rattle.law_columns.proofs.RecordBytes.{moment-held, step-held, count-held, bag-held}
 use Rattle.law_columns.proofs.WholeTraces.{tested-trace, trace-tested}
-use Rattle.law_columns.proofs.ColumnBytes.{column-map, column-back, column-written, length-numbers, numbers-small, paired-back, paired-ports, paired-values, paired-held, dealt-back, sum-counts, dealt-moments, dealt-steps, dealt-counts, dealt-messages, dealt-held}
+use Rattle.law_columns.proofs.ColumnBytes.{column-map, column-back, column-written, length-numbers, numbers-small, sum-counts}
+use Rattle.law_columns.proofs.ColumnBytes.{paired-back, paired-ports, paired-values, paired-held, dealt-back, dealt-moments, dealt-steps, dealt-counts, dealt-messages, dealt-held}
 use Rattle.law_columns.proofs.ColumnPlaces.{headOf, momentsOf, stepsOf, countsOf, portsOf, valuesOf, before-steps, before-counts, before-ports, before-values, length-columns}
 
 -- ---- written, and read back

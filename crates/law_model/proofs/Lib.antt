@@ -11,4 +11,5 @@ pub mod Refusals
 pub mod RunBack
 pub mod Answers
 pub mod PhaseRange
+pub mod PhaseValues
 pub mod RuleBytes

@@ -25,8 +25,9 @@ use Rattle.law_step.proofs.Flow.{on}
 use Rattle.law_step.proofs.Nodes.{inn, out, rowsAt, atomicAt, sentAt, givenAt, rootAt, outputAt, pulledOut, pulledIn}
 use Rattle.law_step.proofs.Pulled.{in-right, root-right}
 use Rattle.law_step.proofs.Arriving.{bag-right}
-use Rattle.law_step.proofs.Keys.{isValue, same-by-port}
-use Rattle.law_step.proofs.Values.{hasValue, values-all, coupled-values, input-values, out-fits, bag-fits}
+use Rattle.law_model.proofs.PhaseValues.{isValue, hasValue}
+use Rattle.law_step.proofs.Keys.{same-by-port}
+use Rattle.law_step.proofs.Values.{values-all, coupled-values, input-values, out-fits, bag-fits}
 
 below : Tree → Forest
 below (leaf c) = stop

@@ -3,9 +3,9 @@
 use mathlib.Core.Path.{_≡_, refl, sym, ap, ap₂, _∙_}
 use Prim.Native.Nat.{ℕ, zero, suc, _+_, _*_, _/_, _%_, _<_}
 use mathlib.Core.List.{List, map, map-append}
-use mathlib.Core.Bool.{Bool, true, cond}
+use mathlib.Core.Bool.{true, cond}
 use native.Mathlib.Omega.{arith}
-use lib.Dec.{eqb, ltb}
+use lib.Dec.{eqb}
 use borrow.Author.Tests.{ltb-true}
 use Rattle.definition.specs.Lists.{all, upFrom, Same}
 use Rattle.definition.specs.Limits.{portCount}
@@ -15,13 +15,10 @@ use Rattle.law_base.proofs.Sums.{sumOf, sum-append, sum-map, sum-cong, sum-swap
 use Rattle.law_base.proofs.Lists.{sum-cong-if, count-sum}
 use Rattle.law_base.proofs.Tests.{eqb-sym}
 use Rattle.law_base.specs.Keys.{valueRange, keyOf, messageOf}
+use Rattle.law_model.proofs.PhaseValues.{isValue}
 use Rattle.spec_step.specs.Put.{keysOf}
 use Rattle.law_routes.proofs.Counts.{sum-pick}
 use Rattle.law_step.proofs.Flow.{on}
-
--- a value that a key has room for
-unfoldable pub isValue : ℕ → Bool
-isValue v = ltb v valueRange
 
 pub message-key : (q v : ℕ) → v < valueRange → messageOf (keyOf q v) ≡ record { port = q; value = v }
 unfolding messageOf keyOf

@@ -39,7 +39,8 @@ use Rattle.law_base.specs.Keys.{messageOf}
 use Rattle.spec_step.specs.Tables.{numbersAt}
 use Rattle.spec_step.specs.TableStep.{isUp, keysInto, rootKeys, rootRoom, tableStep}
 use Rattle.spec_step.specs.Tabled.{Tabled}
-use Rattle.law_step.proofs.Values.{hasValue, sent-values}
+use Rattle.law_model.proofs.PhaseValues.{hasValue}
+use Rattle.law_step.proofs.Values.{sent-values}
 use Rattle.law_step.proofs.Ends.{ready-all, root-same, pulled-same}
 use Rattle.law_step.proofs.Positions.{heldAt, entries, atEntry, atomicAtPlace, atomic-at, place-entry}
 use Rattle.law_step.proofs.Flagged.{es, fs, up-due, flagged}

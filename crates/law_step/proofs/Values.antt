@@ -1,35 +1,27 @@
 -- What is pulled has 16-bit values, and what the nest gives an atomic is on ports that there are: each message was put out by a phase or given,
 -- and came through couplings. The keys of the code need both. Assumes nothing.
 use mathlib.Core.Path.{_≡_, refl, ap, _∙_}
-use Prim.Native.Nat.{ℕ, zero, suc, _+_}
-use mathlib.Core.List.{List, [], _∷_, map}
+use Prim.Native.Nat.{ℕ, zero, suc}
+use mathlib.Core.List.{List, [], _∷_}
 use mathlib.Core.Bool.{Bool, true, false, _&&_, cond}
-use native.Mathlib.Omega.{arith}
 use lib.Dec.{eqb, ltb}
-use lib.ListN.{getD, drop}
 use borrow.Author.Tests.{lt-ltb}
-use Rattle.definition.specs.Lists.{all, concat}
-use Rattle.definition.specs.Bytes.{littleEndian, numberAt, bytesOf, laidOut}
+use Rattle.definition.specs.Lists.{all}
 use Rattle.definition.specs.Limits.{portCount, maxAncestors}
-use Rattle.definition.specs.Model.{Message, Bag, Coupling, Phase, Model, noMessage, noPhase, phasesBefore, phaseAt, slots, outputs, Tree, Forest, leaf, node, stop, more, nameOf}
-use Rattle.definition.specs.Records.{portFits, messageAt, phaseBytes}
+use Rattle.definition.specs.Model.{Bag, Coupling, Model, phaseAt, outputs, Tree, Forest, leaf, node, stop, more, nameOf}
+use Rattle.definition.specs.Records.{portFits}
 use Rattle.definition.specs.Routes.{portsTo}
-use Rattle.definition.specs.Pinned.Decoder.{toPhase, couplingFields}
+use Rattle.definition.specs.Pinned.Decoder.{couplingFields}
 use Rattle.definition.specs.Devs.{translateOne, translate}
 use Rattle.definition.specs.SavedRun.{Entry}
 use Rattle.law_base.proofs.Tests.{and-left, and-right, and-true}
-use Rattle.law_base.proofs.Lists.{all-append, all-take, all-map, all-getD}
+use Rattle.law_base.proofs.Lists.{all-append, all-map}
 use Rattle.law_model.proofs.WellFormed.{WellFormed, kept}
+use Rattle.law_model.proofs.PhaseValues.{isValue, hasValue, outputs-values}
 use Rattle.law_nest.proofs.Paths.{translate-ports}
 use Rattle.law_nest.proofs.Nest.{due, outOf, outTo, bagAt, bagAtAll, outDue}
 use Rattle.spec_step.specs.Pull.{joined, childOut, coupledOut, sourceIn, inputIn}
-use Rattle.law_base.specs.Keys.{valueRange}
 use Rattle.spec_step.specs.Put.{valuesOn}
-use Rattle.law_step.proofs.Keys.{isValue}
-
--- a message with a 16-bit value
-unfoldable pub hasValue : Message → Bool
-hasValue y = isValue (y .value)
 
 -- ---- values through the account
 
@@ -71,40 +63,6 @@ values-all p q [] h = refl
 values-all p q (y ∷ x) h =
     let rest = values-all p q x (and-right (p (y .value)) _ h) in
     all-cond p (eqb q (y .port)) (y .value ∷ valuesOn q x) (valuesOn q x) (and-true (p (y .value)) _ (and-left (p (y .value)) _ h) rest) rest
-
--- a phase that its bytes spell
-phase-values : (k : Phase) → toPhase (phaseBytes k) ≡ k → all hasValue (slots k) ≡ true
-unfolding toPhase phaseBytes messageAt numberAt laidOut bytesOf littleEndian concat slots all hasValue isValue
-phase-values k h =
-    let a = ap (λ (p : Phase). p .slot0 .value) h in
-    let b = ap (λ (p : Phase). p .slot1 .value) h in
-    let c = ap (λ (p : Phase). p .slot2 .value) h in
-    let d = ap (λ (p : Phase). p .slot3 .value) h in
-    rw (
-      lt-ltb (k .slot0 .value) valueRange (omega arith),
-      lt-ltb (k .slot1 .value) valueRange (omega arith),
-      lt-ltb (k .slot2 .value) valueRange (omega arith),
-      lt-ltb (k .slot3 .value) valueRange (omega arith),
-    )
-
-held-all : {A : Type 0} (p : A → Bool) (f : A → A) → ((a : A) → f a ≡ a → p a ≡ true) → (l : List A) → map f l ≡ l → all p l ≡ true
-unfolding all
-held-all p f h [] e = refl
-held-all p f h (a ∷ l) e = and-true (p a) (all p l) (h a (head e)) (held-all p f h l (tail e))
-  where
-    head : f a ∷ map f l ≡ a ∷ l → f a ≡ a
-    head e = ap (λ l. getD l 0 a) e
-
-    tail : f a ∷ map f l ≡ a ∷ l → map f l ≡ l
-    tail e = ap (drop 1) e
-
-pub outputs-values : (m : Model) → WellFormed m → (c p : ℕ) → all hasValue (outputs (phaseAt m c p)) ≡ true
-unfolding phaseAt outputs noPhase
-outputs-values m w c p =
-    let i = phasesBefore (m .components) c + p in
-    let h = held-all (λ (k : Phase). all hasValue (slots k)) (λ k. toPhase (phaseBytes k)) phase-values (m .phases) (w .phases .held) in
-    all-take hasValue (getD (m .phases) i noPhase .outputCount) _
-    (all-getD (λ (k : Phase). all hasValue (slots k)) (m .phases) i noPhase h (unfold all slots noMessage hasValue isValue in refl))
 
 -- what an atomic that is due puts out
 pub sent-values : (m : Model) → WellFormed m → (at : ℕ → Entry) (now q c : ℕ) → all isValue (valuesOn q (outDue m at now (leaf c))) ≡ true

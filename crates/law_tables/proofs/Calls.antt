@@ -31,8 +31,7 @@ use Rattle.run_state.specs.Held.{entriesOf, heldEnd}
 use Rattle.law_base.specs.Keys.{valueRange}
 use Rattle.spec_step.specs.TableStep.{tableNext, tableSim}
 use Rattle.spec_step.specs.Tabled.{Tabled}
-use Rattle.law_step.proofs.Keys.{isValue}
-use Rattle.law_step.proofs.Values.{hasValue}
+use Rattle.law_model.proofs.PhaseValues.{isValue, hasValue}
 use Rattle.law_step.proofs.StepLaw.{soon-at}
 use Rattle.law_step.proofs.NextLaw.{table-next}
 use Rattle.law_tables.proofs.Tables.{BetweenTables, advance-tables}

@@ -30,7 +30,7 @@ use Rattle.run_state.specs.declared.State.{State}
 use Rattle.run_state.specs.Held.{entriesOf}
 use Rattle.spec_step.specs.TableStep.{tableNext, tableStep, tableSim}
 use Rattle.spec_step.specs.Tabled.{Tabled}
-use Rattle.law_step.proofs.Values.{hasValue}
+use Rattle.law_model.proofs.PhaseValues.{hasValue}
 use Rattle.law_step.proofs.StepLaw.{Holds, soon-at, table-state, table-decided, table-out, table-room}
 use Rattle.law_step.proofs.NextLaw.{table-next}
 use Rattle.law_tables.proofs.Until.{nothing, until, advance-until}

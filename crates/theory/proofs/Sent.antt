@@ -1,36 +1,28 @@
 -- What a nest puts out has ports 0 to 3 and values of two bytes, in whatever state it is: an atomic's phases have such messages, and couplings
 -- lead to such ports and keep the value. So a trace record holds the bag of every step. Assumes nothing.
 use mathlib.Core.Path.{_≡_, refl, ap, _∙_}
-use Prim.Native.Nat.{ℕ, _+_}
+use Prim.Native.Nat.{ℕ}
 use mathlib.Core.List.{List, [], _∷_, map}
 use mathlib.Core.Bool.{Bool, true, false, _&&_, cond}
-use native.Mathlib.Omega.{arith}
 use lib.Dec.{ltb}
-use lib.ListN.{drop, getD}
-use borrow.Author.Tests.{lt-ltb}
-use Rattle.definition.specs.Lists.{concat, all}
-use Rattle.definition.specs.Bytes.{littleEndian, numberAt, bytesOf, laidOut}
+use Rattle.definition.specs.Lists.{all}
 use Rattle.definition.specs.Limits.{portCount}
-use Rattle.definition.specs.Model.{Message, Bag, Phase, Model, noMessage, noPhase, phasesBefore, phaseAt, slots, outputs, Tree, Forest, leaf, node, stop, more, nameOf, tree}
-use Rattle.definition.specs.Records.{messageAt, portFits, phaseBytes}
+use Rattle.definition.specs.Model.{Message, Bag, Model, phaseAt, outputs, Tree, Forest, leaf, node, stop, more, nameOf, tree}
+use Rattle.definition.specs.Records.{portFits}
 use Rattle.definition.specs.Routes.{portsTo}
-use Rattle.definition.specs.Pinned.Decoder.{toPhase}
 use Rattle.definition.specs.Devs.{Time, sameTime, Totals, translateOne, translate, sigma, leastSigma, outputsTo, resultantOut, transition, devsStep}
 use Rattle.definition.specs.Atomic.{devsOf, partsOf}
 use Rattle.definition.specs.SavedRun.{Entry}
 use Rattle.definition.specs.Step.{stepOn, step}
 use Rattle.law_base.specs.Keys.{valueRange}
 use Rattle.law_base.proofs.Tests.{and-left, and-right, and-true}
-use Rattle.law_base.proofs.Lists.{all-append, all-take, all-and, all-getD}
+use Rattle.law_base.proofs.Lists.{all-append, all-and}
 use Rattle.law_model.proofs.WellFormed.{WellFormed, couplings-fit}
 use Rattle.law_model.proofs.PhaseRange.{outputs-fit}
+use Rattle.law_model.proofs.PhaseValues.{isValue, hasValue, outputs-values}
 use Rattle.law_nest.proofs.Components.{rooted}
 use Rattle.law_nest.proofs.Paths.{translate-ports}
 use Rattle.law_flat.proofs.Couplings.{ports-reached}
-
--- a value of two bytes
-unfoldable pub hasValue : Message → Bool
-hasValue x = ltb (x .value) valueRange
 
 -- a message that a trace record can hold
 unfoldable pub sendable : Message → Bool
@@ -38,49 +30,20 @@ sendable x = portFits x && hasValue x
 
 -- ---- an atomic's outputs
 
--- a phase that its bytes spell
-phase-values : (k : Phase) → toPhase (phaseBytes k) ≡ k → all hasValue (slots k) ≡ true
-unfolding toPhase phaseBytes messageAt numberAt laidOut bytesOf littleEndian concat slots all hasValue
-phase-values k h =
-    let a = ap (λ (p : Phase). p .slot0 .value) h in
-    let b = ap (λ (p : Phase). p .slot1 .value) h in
-    let c = ap (λ (p : Phase). p .slot2 .value) h in
-    let d = ap (λ (p : Phase). p .slot3 .value) h in
-    rw (
-      lt-ltb (k .slot0 .value) valueRange (omega arith),
-      lt-ltb (k .slot1 .value) valueRange (omega arith),
-      lt-ltb (k .slot2 .value) valueRange (omega arith),
-      lt-ltb (k .slot3 .value) valueRange (omega arith),
-    )
-
--- all that a function leaves as they are
-kept-all : {A : Type 0} (p : A → Bool) (f : A → A) → ((a : A) → f a ≡ a → p a ≡ true) → (l : List A) → map f l ≡ l → all p l ≡ true
-unfolding all
-kept-all p f h [] e = refl
-kept-all p f h (a ∷ l) e = and-true (p a) (all p l) (h a (ap (λ l. getD l 0 a) e)) (kept-all p f h l (ap (drop 1) e))
-
 module _ (m : Model) (w : WellFormed m) where
-  outputs-values : (c p : ℕ) → all hasValue (outputs (phaseAt m c p)) ≡ true
-  unfolding phaseAt outputs noPhase
-  outputs-values c p =
-      let i = phasesBefore (m .components) c + p in
-      let h = kept-all (λ (k : Phase). all hasValue (slots k)) (λ k. toPhase (phaseBytes k)) phase-values (m .phases) (w .phases .held) in
-      all-take hasValue (getD (m .phases) i noPhase .outputCount) _
-      (all-getD (λ (k : Phase). all hasValue (slots k)) (m .phases) i noPhase h (unfold all slots noMessage hasValue in refl))
-
   atomic-sends : (c p : ℕ) → all sendable (outputs (phaseAt m c p)) ≡ true
   unfolding sendable
-  atomic-sends c p = all-and portFits hasValue (outputs (phaseAt m c p)) (outputs-fit m w c p) (outputs-values c p)
+  atomic-sends c p = all-and portFits hasValue (outputs (phaseAt m c p)) (outputs-fit m w c p) (outputs-values m w c p)
 
   -- ---- along couplings
 
   led-to : (v : ℕ) (qs : List ℕ) → ltb v valueRange ≡ true → all (λ q. ltb q portCount) qs ≡ true → all sendable (map (λ q. record { port = q; value = v }) qs) ≡ true
-  unfolding all sendable portFits hasValue
+  unfolding all sendable portFits hasValue isValue
   led-to v [] h k = refl
   led-to v (q ∷ qs) h k = and-true _ _ (and-true _ _ (and-left (ltb q portCount) _ k) h) (led-to v qs h (and-right (ltb q portCount) _ k))
 
   one-sends : (i d : ℕ) (x : Message) → sendable x ≡ true → all sendable (translateOne (m .couplings) i d x) ≡ true
-  unfolding sendable hasValue
+  unfolding sendable hasValue isValue
   one-sends i d x h =
       let cs = m .components in
       ap (all sendable) (translate-ports (m .couplings) i d x)

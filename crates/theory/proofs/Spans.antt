@@ -26,12 +26,13 @@ use Rattle.law_base.proofs.Tests.{clash, and-left, and-right, and-true, or-left
 use Rattle.law_base.proofs.Lists.{all-append, all-if, all-perm, length-perm, sort-permutes, concat-append}
 use Rattle.law_base.proofs.Sorting.{message-order, rises-sort}
 use Rattle.law_model.proofs.WellFormed.{WellFormed}
+use Rattle.law_model.proofs.PhaseValues.{isValue, hasValue}
 use Rattle.law_columns.proofs.Everys.{every-append, every-if}
 use Rattle.law_calls.proofs.Lift.{Agree}
 use Rattle.law_calls.proofs.Kept.{Fit}
 use Rattle.law_calls.proofs.BagOrder.{agree-order}
 use Rattle.theory.proofs.Ending.{kept-on}
-use Rattle.theory.proofs.Sent.{hasValue, sendable, step-sends}
+use Rattle.theory.proofs.Sent.{sendable, step-sends}
 
 -- ---- elements that all pass a test
 
@@ -122,7 +123,7 @@ from-within now k [] h = tt
 from-within now k (r ∷ rs) h = ((omega (arith, h .0), omega (arith, h .0)), from-within now (suc (r .step)) rs (h .2))
 
 sendable-held : (x : Message) → sendable x ≡ true → Held (messageLayout x)
-unfolding sendable portFits hasValue
+unfolding sendable portFits hasValue isValue
 sendable-held x h = (
   omega (arith, ltb-true (x .port) portCount (and-left (ltb (x .port) portCount) _ h)),
   (omega (arith, ltb-true (x .value) valueRange (and-right (ltb (x .port) portCount) _ h)), tt),
