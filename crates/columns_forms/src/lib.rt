@@ -52,8 +52,8 @@ pub fn row_places(at: usize) -> Places
     }
 }
 
-// The first record of n in columns, which have k messages: as in a record the bytes before its step, or before another number, so stand
-// those bytes of all records before the column of steps.
+// The first record of n in columns, which have k messages. What stands before a number of a record in a row stands, of all n records,
+// before the column of that number.
 pub fn columns_from(n: usize, k: usize) -> Places
     requires { ⌜ 4 + 12 * n + k ≤ wordMax ⌝ }
     ensures { λ r. ⌜ r ≡ columnsFrom n k ⌝ }

@@ -50,7 +50,7 @@ fn key_of(port: u8, value: u16) -> u32
 }
 
 // So many messages are on ports that there are, and do not fall: the first one that does not pass ends it.
-fn few_rise(s: &[u8], ports: usize, values: usize, apart: Apart, count: usize) -> bool
+fn rise_stopping(s: &[u8], ports: usize, values: usize, apart: Apart, count: usize) -> bool
     requires { ⌜ Near apart × MessagesWithin (length (now s)) apart ports values count ⌝ }
     ensures { λ r. ⌜ r ≡ keysRise 0 (messagesAt apart ports values count (now (s .entry))) ⌝ }
 {
@@ -76,7 +76,7 @@ fn few_rise(s: &[u8], ports: usize, values: usize, apart: Apart, count: usize) -
 }
 
 // The same, told at the end: a loop without a way out is compiled to one that judges several messages at once.
-fn many_rise(s: &[u8], ports: usize, values: usize, apart: Apart, count: usize) -> bool
+fn rise_unbroken(s: &[u8], ports: usize, values: usize, apart: Apart, count: usize) -> bool
     requires { ⌜ Near apart × MessagesWithin (length (now s)) apart ports values count ⌝ }
     ensures { λ r. ⌜ r ≡ keysRise 0 (messagesAt apart ports values count (now (s .entry))) ⌝ }
 {
@@ -103,9 +103,9 @@ fn messages_rise(s: &[u8], ports: usize, values: usize, apart: Apart, count: usi
     ensures { λ r. ⌜ r ≡ keysRise 0 (messagesAt apart ports values count (now (s .entry))) ⌝ }
 {
     if (apart.ports == 1) & (MANY <= count) {
-        return many_rise(s, ports, values, apart, count);
+        return rise_unbroken(s, ports, values, apart, count);
     }
-    few_rise(s, ports, values, apart, count)
+    rise_stopping(s, ports, values, apart, count)
 }
 
 // A pair of moment and step lies above that of the record before.

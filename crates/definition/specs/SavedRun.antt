@@ -36,9 +36,12 @@ runLength n = headSize + entrySize * n
 unfoldable pub toEntry : Bytes → Entry
 toEntry r = record { phase = numberAt 1 0 r; last = numberAt 8 1 r }
 
+abbrev pub openMoment : Bytes → ℕ
+openMoment s = numberAt 8 0 s
+
 -- The run of n atomics that the bytes hold.
 unfoldable pub toRun : ℕ → Bytes → Run
-toRun n s = record { opening = numberAt 8 0 s; entries = map toEntry (chunks n entrySize (drop headSize s)) }
+toRun n s = record { opening = openMoment s; entries = map toEntry (chunks n entrySize (drop headSize s)) }
 
 unfoldable pub runOf : Model → Bytes → Run
 runOf m s = toRun (atomicCount m) s

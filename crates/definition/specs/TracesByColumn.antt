@@ -1,21 +1,18 @@
 -- Request (iii) of document 02, "Traces stored by column", as statements about the definitions; crate `theory` proves them. The rows of 17
 -- and 18 stand in demand 1. Assumes nothing.
 use mathlib.Core.Path.{_≡_}
-use Prim.Native.Nat.{ℕ, _≤_, _<_}
+use Prim.Native.Nat.{_≤_, _<_}
 use mathlib.Core.List.{List, [], _∷_, _++_, map}
 use lib.ListN.{length}
-use Rattle.definition.specs.Bytes.{Bytes, AllBytes, numberAt, stored}
+use Rattle.definition.specs.Bytes.{Bytes, AllBytes, stored}
 use Rattle.definition.specs.Limits.{maxRecords}
 use Rattle.definition.specs.Pinned.TraceReader.{traceToColumns, columnsToTrace}
 use Rattle.definition.specs.Sound.{Every}
+use Rattle.definition.specs.SavedRun.{openMoment}
 use Rattle.definition.specs.Instant.{TraceRecord}
 use Rattle.definition.specs.Calls.{AdvanceCall, Machine, answers, engine}
 use Rattle.definition.specs.Columns.{Recorded, IsTrace, Rearranges}
 use Rattle.definition.specs.Demands.{written, tracedBy}
-
--- "A saved run: earliest open moment (8 bytes)"
-abbrev pub openMoment : Bytes → ℕ
-openMoment run = numberAt 8 0 run
 
 -- "the traces of successive advances, each given the run buffer as the one before left it, joined in turn": whatever model each one runs.
 unfoldable pub joinedTraces : Bytes → List (Machine × AdvanceCall) → Bytes

@@ -12,6 +12,7 @@ use Rattle.definition.specs.Engine.{wrote}
 use Rattle.definition.specs.Columns.{Rearranges}
 use Rattle.definition.specs.Pinned.TraceReader.{rearranged, restored, traceToColumns, columnsToTrace}
 use Rattle.definition.specs.Demands.{written, refusedWrite, RearrangingRefusal, nothing-to-make, rearranging-refuses-buffer, ColumnsRefusal, TraceRefusal}
+use Rattle.law_base.proofs.Results.{never-ok}
 use Rattle.law_columns.proofs.Rearranging.{rearranges-there, there-rearranges, none-there, rearranges-back, back-rearranges, none-back}
 use Rattle.theory.proofs.Buffers.{stored-front}
 
@@ -39,10 +40,6 @@ module _ (Makes : Bytes → Type 0) (r : Result Bytes) (makes : (made : Bytes) �
         go (refused j) e = refuses j e
     row-refused n (rearranging-refuses-buffer made h l) = short made h l
 
-    -- nothing is both refused and made
-    never-both : (j : ℕ) (made : Bytes) → r ≡ refused j → r ≡ ok made → ⊥
-    never-both j made e f = let g = sym e ∙ f in let z : _≡_ {A = ℕ} 0 1 = cc in omega arith
-
     -- what the call does, one of three
     data Answers : Type 0 where
       makes-nothing : ((made : Bytes) → Makes made → ⊥) → wrote buffer r ≡ refusedWrite nothing buffer → Answers
@@ -53,7 +50,7 @@ module _ (Makes : Bytes → Type 0) (r : Result Bytes) (makes : (made : Bytes) �
     answers = go r refl
       where
         go : (q : Result Bytes) → r ≡ q → Answers
-        go (refused j) e = makes-nothing (λ made h. never-both j made e (makes made h)) (refuses j e)
+        go (refused j) e = makes-nothing (λ made h. never-ok j made (sym e ∙ makes made h)) (refuses j e)
         go (ok made) e = room (ltb (length buffer) (length made)) refl
           where
             room : (b : Bool) → ltb (length buffer) (length made) ≡ b → Answers

@@ -11,12 +11,12 @@ use Rattle.definition.specs.Bytes.{Bytes, AllBytes, Result, ok, refused, _>>=_,
 use Rattle.definition.specs.Model.{Model}
 use Rattle.definition.specs.Pinned.Decoder.{accepted}
 use Rattle.definition.specs.Sound.{Every}
-use Rattle.definition.specs.SavedRun.{Run, toRun, runOf}
+use Rattle.definition.specs.SavedRun.{Run, openMoment, toRun, runOf}
 use Rattle.definition.specs.Instant.{TraceRecord, traceBytes}
 use Rattle.definition.specs.Engine.{Advanced, toBag, advanceChecks, advanced, advance}
 use Rattle.definition.specs.Calls.{AdvanceCall, answers, engine}
 use Rattle.definition.specs.Demands.{MayAdvance, tracedBy, refusedAdvance}
-use Rattle.definition.specs.TracesByColumn.{openMoment, joinedTraces, OneTrace}
+use Rattle.definition.specs.TracesByColumn.{joinedTraces, OneTrace}
 use Rattle.law_model.proofs.WellFormed.{WellFormed}
 use Rattle.law_model.proofs.Reading.{accepted-sound}
 use Rattle.law_model.proofs.Answers.{endOf}

@@ -7,11 +7,12 @@ use lib.ListN.{length}
 use Rattle.definition.specs.Bytes.{Bytes, AllBytes, stored}
 use Rattle.definition.specs.Pinned.TraceReader.{traceToColumns, columnsToTrace}
 use Rattle.definition.specs.Sound.{Every}
+use Rattle.definition.specs.SavedRun.{openMoment}
 use Rattle.definition.specs.Instant.{TraceRecord}
 use Rattle.definition.specs.Calls.{AdvanceCall, answers, engine}
 use Rattle.definition.specs.Columns.{Recorded}
 use Rattle.definition.specs.Demands.{written, tracedBy}
-use Rattle.definition.specs.TracesByColumn.{openMoment, TracesByColumn}
+use Rattle.definition.specs.TracesByColumn.{TracesByColumn}
 use Rattle.law_columns.proofs.WholeTraces.{one-reading}
 use Rattle.theory.proofs.Spans.{Within, span-recorded}
 use Rattle.theory.proofs.ColumnRows.{columns-done, columns-made, trace-done, trace-made}

@@ -11,8 +11,8 @@ use Rattle.law_bytes.proofs.Rows.{number-one}
 use Rattle.law_columns.specs.ByPosition.{keysRise}
 use Rattle.columns_records.specs.Places.{messagesAt, MessagesWithin}
 use Rattle.columns_records.proofs.Laws.{within-more, rise-more, rise-port, rise-fall, rise-end}
-use Rattle.columns_records.proofs.few_rise.Statement.{statement}
-use Rattle.columns_records.proofs.few_rise.Tie as tie
+use Rattle.columns_records.proofs.rise_stopping.Statement.{statement}
+use Rattle.columns_records.proofs.rise_stopping.Tie as tie
 
 abbrev Inv-loop : tie.InvT-loop
 Inv-loop s ports values apart count low₀ p₀ v₀ left₀ low p v left =
@@ -73,8 +73,8 @@ returns-3 c =
     let a = start .args in let l = at-loop .loop in
     sym (sym (l .inv .1) ∙ rise-end (a .apart) (l .p) (l .v) (l .left) (l .low) (now (a .s)) (c .loop-test .left))
 
-pub few-rise-spec : {M : Type 1} → statement M
-few-rise-spec =
+pub rise-stopping-spec : {M : Type 1} → statement M
+rise-stopping-spec =
     tie.close (tie.spec Inv-loop μ-loop (λ c. let start : tie.Start Inv-loop μ-loop = search in (start .pre .1, refl))
     (λ c. let inside : tie.In-loop Inv-loop μ-loop = search in omega (arith, here inside .0)) returns
     (λ c κs. let inside : tie.In-loop Inv-loop μ-loop = search in here inside .1) (λ c κs. search needs) returns-2

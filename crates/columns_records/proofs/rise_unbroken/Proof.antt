@@ -11,8 +11,8 @@ use Rattle.law_bytes.proofs.Rows.{number-one}
 use Rattle.law_columns.specs.ByPosition.{keysRise}
 use Rattle.columns_records.specs.Places.{messagesAt, MessagesWithin}
 use Rattle.columns_records.proofs.Laws.{within-more, judged-more, judged-end}
-use Rattle.columns_records.proofs.many_rise.Statement.{statement}
-use Rattle.columns_records.proofs.many_rise.Tie as tie
+use Rattle.columns_records.proofs.rise_unbroken.Statement.{statement}
+use Rattle.columns_records.proofs.rise_unbroken.Tie as tie
 
 abbrev Inv-loop : tie.InvT-loop
 Inv-loop s ports values apart count low₀ rise₀ p₀ v₀ left₀ low rise p v left =
@@ -51,8 +51,8 @@ returns c =
     let a = start .args in let l = at-loop .loop in
     sym (judged-end (a .apart) (l .p) (l .v) (l .left) (l .low) (now (a .s)) (c .loop-test .left) (l .rise)) ∙ l .inv .1
 
-pub many-rise-spec : {M : Type 1} → statement M
-many-rise-spec =
+pub rise-unbroken-spec : {M : Type 1} → statement M
+rise-unbroken-spec =
     tie.close (tie.spec Inv-loop μ-loop (λ c. let start : tie.Start Inv-loop μ-loop = search in (start .pre .1, refl))
     (λ c. let inside : tie.In-loop Inv-loop μ-loop = search in omega (arith, here inside .0))
     (λ c κs. let inside : tie.In-loop Inv-loop μ-loop = search in here inside .1) (λ c κs. search needs)
