@@ -5,7 +5,7 @@ use mathlib.Core.List.{List, [], _∷_}
 use mathlib.Core.Option.{Option, none, some}
 use mathlib.Core.Bool.{Bool, _&&_, _||_, cond}
 use lib.Dec.{leb, eqb}
-use lib.ListN.{getD}
+use lib.ListN.{length, getD}
 use Rattle.definition.specs.Lists.{count}
 use Rattle.definition.specs.Limits.{neverField, noPosition}
 use Rattle.definition.specs.Model.{Message, Bag, Rule, Model, noRule, componentAt, phaseAt, outputs, Tree, Forest, leaf, node, stop, more, nameOf}
@@ -81,7 +81,7 @@ module _ (m : Model) (c : ℕ) where
   external s e x =
       let since = s .spent + e in
       let found = ruleFor (s .phase) since x in
-      record { state = followed (m .rules) (s .phase) since found; decided = record { atomic = c; position = toldAs found } ∷ [] }
+      record { state = followed (m .rules) (s .phase) since found; decided = record { atomic = c; position = toldAs found; messages = length x } ∷ [] }
 
   -- δ_con: "order 0 takes the next phase, then the external transition with elapsed time 0; order 1 the external one with elapsed time
   -- equal to the advance, then the next phase of where it led": δ_ext adds what was spent to what is left. Its external part passes up.

@@ -53,9 +53,9 @@ pub record AdvanceEnds (file run : Bytes) (t : ℕ) (bag trace : Bytes) (m : Mod
 pub record DecidedRules : Type 0 where
   -- "each transition passes it up": an atomic's own, and only where it has an external part
   pub external : (m : Model) (c now e : ℕ) (s : InPhase) (r : Entry) (x : Bag) (o : Option ℕ) (n : ℕ) → StandsAfter m c now e s r → DecidesFor m c now r x o → Told o n
-      → atomic m c .ext s e x .decided ≡ record { atomic = c; position = n } ∷ []
+      → atomic m c .ext s e x .decided ≡ record { atomic = c; position = n; messages = length x } ∷ []
   pub confluent : (m : Model) (c now e : ℕ) (s : InPhase) (r : Entry) (x : Bag) (o : Option ℕ) (n : ℕ) → StandsAfter m c now e s r → dueNow m now c r ≡ true
-      → DecidesConfluent m c (r .phase) x o → Told o n → atomic m c .con s x .decided ≡ record { atomic = c; position = n } ∷ []
+      → DecidesConfluent m c (r .phase) x o → Told o n → atomic m c .con s x .decided ≡ record { atomic = c; position = n; messages = length x } ∷ []
   pub internal : (m : Model) (c : ℕ) (s : InPhase) → atomic m c .int s .decided ≡ []
   -- the same of the flat machine, whatever stood there before
   pub flat-external : (m : Model) (c now : ℕ) (r : Entry) (y : Message) (x : Bag) (o : Option ℕ) (n before : ℕ) → DecidesFor m c now r (y ∷ x) o → Told o n

@@ -42,10 +42,12 @@ ticks never = 0
 
 -- ---- what a transition answers
 
--- What decided the external part of an atomic: the rule's "position in the file, counted in rules from 0, or 65,535 for none".
+-- What decided the external part of an atomic: the rule's "position in the file, counted in rules from 0, or 65,535 for none"; and how many
+-- messages its bag had, of which request (iv) speaks.
 pub record Decided : Type 0 where
   pub atomic : ℕ
   pub position : ℕ
+  pub messages : ℕ
 
 -- The new state, and what decided in the transition: "each transition passes it up".
 pub record After (S : Type 0) : Type 0 where

@@ -66,6 +66,10 @@ module _ (m : Model) (now : ℕ) where
   putOut (c ∷ cs) [] = []
   putOut (c ∷ cs) (r ∷ rs) = cond (dueNow c r) (sent c (outputs (phaseAt m c (r .phase)))) [] ++ putOut cs rs
 
+  -- All messages of a step: the given ones, which leave the root, and those put out.
+  abbrev pub allSent : Bag → List Entry → List Sent
+  allSent x rs = sent 0 x ++ putOut (atomics (m .components)) rs
+
   -- "Each message .. goes once along every coupling from its port": what reaches component d of one message, and of all.
   unfoldable pub reaching : ℕ → Sent → List Coupling → Bag
   reaching d x [] = []
@@ -111,7 +115,7 @@ module _ (m : Model) (now : ℕ) where
   unfoldable pub flatStep : Bag → Copy → Bag × Copy
   flatStep x k =
       let cs = atomics (m .components) in
-      let xs = sent 0 x ++ putOut cs (k .entries) in
+      let xs = allSent x (k .entries) in
       (arriving 0 xs, record { entries = movedAll xs cs (k .entries); rules = rulesAfter xs cs (k .entries) (k .rules) })
 
   -- Some atomic is due now.

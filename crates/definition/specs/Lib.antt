@@ -27,3 +27,4 @@ pub mod Demands
 pub mod StrayCue
 pub mod DecidedRules
 pub mod TracesByColumn
+pub mod AtomicBags

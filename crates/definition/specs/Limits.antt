@@ -89,6 +89,10 @@ maxSteps = 1024
 abbrev pub maxRootBag : ℕ
 maxRootBag = 4096
 
+-- "no bag of an atomic can hold more than 16,384 messages": so it is shown to be (AtomicBags), and no call tests it
+abbrev pub maxAtomicBag : ℕ
+maxAtomicBag = 16384
+
 -- "18,446,744,073,709,551,615 for never"
 abbrev pub neverMoment : ℕ
 neverMoment = 18446744073709551615

@@ -24,9 +24,8 @@ use Rattle.law_nest.proofs.Components.{atomic-below, rooted, root-not, atomic-o
 use Rattle.law_nest.proofs.Nest.{due, bagAt, no-bag, outOf, outDue, out-due}
 use Rattle.law_nest.proofs.Paths.{waysSum, down-tree, up-tree}
 use Rattle.law_nest.proofs.Carried.{weight, outs}
-use Rattle.law_nest.proofs.Carry.{root-hits, carry}
+use Rattle.law_nest.proofs.Carry.{root-hits, carry, sends, ways-carry, given-carry, root-absent}
 use Rattle.law_nest.proofs.Renumber.{isListed}
-use Rattle.law_nest.proofs.Capacity.{sends, ways-carry, given-carry, no-root}
 use Rattle.law_flat.proofs.FlatComponents.{listed-cases}
 use Rattle.law_flat.proofs.RouteEnds.{routeFits, routes-fit, route-parts}
 use Rattle.law_base.specs.Keys.{messageOf}
@@ -98,7 +97,7 @@ module _ (m : Model) (w : WellFormed m) where
   listed-once c h = either (listed-cases (m .components) c h)
     where
       at-root : 0 ≡ c → occurs c (0 ∷ atomics (m .components)) ≡ 1
-      at-root e = ap (λ c. occurs c (0 ∷ atomics (m .components))) (sym e) ∙ (unfold count in (ap (λ n. 1 + n) (no-root m w)))
+      at-root e = ap (λ c. occurs c (0 ∷ atomics (m .components))) (sym e) ∙ (unfold count in (ap (λ n. 1 + n) (root-absent m w)))
 
       at-atomic : isAtomic (m .components) c ≡ true → occurs c (0 ∷ atomics (m .components)) ≡ 1
       at-atomic e =
@@ -217,5 +216,5 @@ module _ (m : Model) (w : WellFormed m) where
     root-end p =
         let W : Message → ℕ = λ y. cond (p y) 1 0 in
         let n : sumOf W (bagAt (probed m) (probeEntry m) 0 0 (root m) probeGiven) ≡ 0
-        = ap (sumOf W) (no-bag (probed m) (probeEntry m) 0 0 (root m) probeGiven (root-occurs m w 0 ∙ no-root m w)) ∙ (unfold sumOf in refl) in
+        = ap (sumOf W) (no-bag (probed m) (probeEntry m) 0 0 (root m) probeGiven (root-occurs m w 0 ∙ root-absent m w)) ∙ (unfold sumOf in refl) in
         root-same p ∙ count-sum p _ ∙ omega (arith, at-end 0 W)

@@ -4,6 +4,7 @@ pub mod Sums
 pub mod Sorting
 pub mod Bags
 pub mod Lists
+pub mod Everys
 pub mod Results
 pub mod Overlaid
 pub mod Turns

@@ -19,7 +19,8 @@ use Rattle.law_model.proofs.WellFormed.{WellFormed}
 use Rattle.law_nest.proofs.Pairs.{paired}
 use Rattle.law_nest.proofs.Components.{root}
 use Rattle.law_nest.proofs.Nest.{bagAt}
-use Rattle.law_nest.proofs.Paths.{hits, translate-sum, down-tree}
+use Rattle.law_nest.proofs.Hits.{hits, translate-sum}
+use Rattle.law_nest.proofs.Paths.{down-tree}
 use Rattle.law_nest.proofs.Leaves.{external-same, confluent-same, moved-same, part-of-same}
 use Rattle.law_nest.proofs.StepOf.{step-out}
 use Rattle.law_nest.proofs.Stepping.{ready, step-paired, parts-paired}

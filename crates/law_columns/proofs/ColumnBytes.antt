@@ -17,7 +17,7 @@ use Rattle.definition.specs.Pinned.TraceReader.{numbersAt, messagesFrom, dealt}
 use Rattle.law_base.proofs.Lists.{concat-append}
 use Rattle.law_model.proofs.Codec.{append-bytes, take-bytes, drop-bytes, length-bytes, number-bytes, number-front, number-written, rows-length, rows-back, length-chunks}
 use Rattle.law_text.proofs.Records.{number-small}
-use Rattle.law_columns.proofs.Everys.{every-take, every-drop}
+use Rattle.law_base.proofs.Everys.{every-take, every-drop}
 
 -- ---- one column
 

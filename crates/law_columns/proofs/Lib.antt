@@ -1,6 +1,5 @@
 -- Traces and columns, read and written.
 pub mod Refusals
-pub mod Everys
 pub mod RecordBytes
 pub mod WholeTraces
 pub mod ColumnBytes

@@ -20,7 +20,7 @@ use Rattle.definition.specs.Pinned.TraceReader.{isTrace, numbersAt, messagesFro
 use Rattle.law_base.proofs.Results.{ok-same, refuse-ok}
 use Rattle.law_model.proofs.Codec.{length-bytes, number-front, number-written}
 use Rattle.law_columns.proofs.Refusals.{Only, only-if, only-number}
-use Rattle.law_columns.proofs.Everys.{every-append, every-if}
+use Rattle.law_base.proofs.Everys.{every-append, every-if}
 use Rattle.law_columns.proofs.RecordBytes.{moment-held, step-held, count-held, bag-held}
 use Rattle.law_columns.proofs.WholeTraces.{tested-trace, trace-tested}
 use Rattle.law_columns.proofs.ColumnBytes.{column-map, column-back, column-written, length-numbers, numbers-small, sum-counts}

@@ -7,7 +7,7 @@ use mathlib.Core.Bool.{Bool, true, false, _&&_, _||_, not}
 use native.Mathlib.Omega.{arith}
 use lib.Dec.{leb, ltb, eqb}
 use lib.ListN.{length}
-use borrow.Author.Tests.{ltb-true, ltb-false, eqb-true, not-false}
+use borrow.Author.Tests.{leb-true, ltb-true, ltb-false, eqb-true, not-false}
 use Rattle.definition.specs.Bytes.{Bytes, ok, refuseIf, numberAt}
 use Rattle.definition.specs.Lists.{all}
 use Rattle.definition.specs.Limits.{maxMoment, messageSize, maxGiven}
@@ -17,6 +17,7 @@ use Rattle.definition.specs.Engine.{advanceChecks, bagFits, toBag}
 use Rattle.definition.specs.Records.{portFits}
 use Rattle.definition.specs.Demands.{MayAdvance}
 use Rattle.law_base.proofs.Tests.{and-left, and-right, or-none}
+use Rattle.law_model.proofs.Codec.{bag-length}
 use Rattle.law_model.proofs.RunBack.{entry-count}
 use Rattle.law_base.proofs.Results.{refuse-ok}
 use Rattle.law_nest.proofs.Pairs.{Pairs}
@@ -58,6 +59,13 @@ fits-good m s h =
 pub bag-fine : (b : Bytes) → bagFits b ≡ true → all portFits (toBag b) ≡ true
 unfolding bagFits
 bag-fine b h = and-right (eqb (length b % messageSize) 0 && leb (length b) (messageSize * maxGiven)) _ h
+
+pub bag-few : (b : Bytes) → bagFits b ≡ true → length (toBag b) ≤ maxGiven
+unfolding bagFits
+bag-few b h =
+    let e = eqb (length b % messageSize) 0 in
+    let l = leb-true (length b) (messageSize * maxGiven) (and-right e _ (and-left (e && leb (length b) (messageSize * maxGiven)) _ h)) in
+    omega (arith, bag-length b)
 
 -- an advance that the checks let through
 pub advance-ok : (m : Model) (run : Bytes) (t : ℕ) (bag : Bytes) → advanceChecks m run t bag ≡ ok tt → MayAdvance m run t bag

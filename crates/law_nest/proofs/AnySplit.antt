@@ -9,6 +9,7 @@ use mathlib.Core.Bool.{Bool, true, false, cond}
 use native.Mathlib.Omega.{arith}
 use native.Mathlib.Nat.{add-zero, zero-add}
 use lib.Dec.{eqb}
+use lib.ListN.{length}
 use Rattle.definition.specs.Model.{Bag, Coupling, Model, phaseAt, outputs, Tree, Forest, leaf, node, stop, more, nameOf}
 use Rattle.definition.specs.Devs.{Time, finite, earlier, remaining, later, sameTime, ticks, Decided, After, Totals, translate}
 use Rattle.definition.specs.Devs.{sigma, leastSigma, outputsTo, anew, changed, changedAll, resultantOut, resultantInt, resultantExt, resultantCon, transition}
@@ -154,7 +155,7 @@ module _ (m : Model) (at : ℕ → Entry) (now : ℕ) where
     new-searched c e k s (some i) h q = (sym (ap (λ r. r .phase) q), omega (arith, ap (λ r. r .last) q))
 
     -- what one atomic passes up
-    own-part : (c i : ℕ) (x : Bag) → part m now c (due m at now (leaf c)) x (at c) ≡ some i → (a : ℕ) → decidedOf (record { atomic = c; position = i } ∷ []) a ≡ partIn m at now a (leaf c) x
+    own-part : (c i : ℕ) (x : Bag) → part m now c (due m at now (leaf c)) x (at c) ≡ some i → (a : ℕ) → decidedOf (record { atomic = c; position = i; messages = length x } ∷ []) a ≡ partIn m at now a (leaf c) x
     unfolding decidedOf partIn
     own-part c i x h a = ap (λ p. cond (eqb c a) p none) (sym h)
 

@@ -23,7 +23,8 @@ use Rattle.law_nest.proofs.Trees.{only-in}
 use Rattle.law_nest.proofs.Components.{atomic-once, atomics-atomic, root, leaves}
 use Rattle.law_nest.proofs.Renumber.{listed-root, listed-atomic, distinct-atomics, isListed, new-root, new-eqb, new-atomics, flat-phase, flat-now}
 use Rattle.law_nest.proofs.Nest.{Ready, due, bagAt, outDue}
-use Rattle.law_nest.proofs.Paths.{hits, waysSum, down-tree, up-tree}
+use Rattle.law_nest.proofs.Hits.{hits}
+use Rattle.law_nest.proofs.Paths.{waysSum, down-tree, up-tree}
 use Rattle.law_nest.proofs.Carried.{weight, leafHits, outs, dueSum, due-tree}
 use Rattle.law_nest.proofs.Carry.{root-hits, carry, carry-root, carry-atomic}
 
@@ -44,7 +45,7 @@ reaching-sum m now d weigh x (k ∷ ks) =
     go true e = rw e
     go false e = omega arith
 
-arriving-sum : (m : Model) (now d : ℕ) (weigh : Message → ℕ) (xs : List Sent)
+pub arriving-sum : (m : Model) (now d : ℕ) (weigh : Message → ℕ) (xs : List Sent)
     → sumOf weigh (arriving m now d xs) ≡ sumOf (λ z. sumOf (weight d weigh (z .source) (z .message)) (m .couplings)) xs
 unfolding arriving
 arriving-sum m now d weigh xs =

@@ -18,7 +18,8 @@ use Rattle.law_base.proofs.Tests.{eqb-sym}
 use Rattle.law_nest.proofs.Occurs.{occurs, once-up, pick-one}
 use Rattle.law_nest.proofs.Trees.{OnlyIn, OnlyInAll}
 use Rattle.law_nest.proofs.Nest.{due}
-use Rattle.law_nest.proofs.Paths.{hit, hits, waysSum, waysSumAll}
+use Rattle.law_nest.proofs.Hits.{hit, hits}
+use Rattle.law_nest.proofs.Paths.{waysSum, waysSumAll}
 
 -- A coupling counts for the message y of s where it begins at its port and ends at a, with the weight of the message there.
 unfoldable pub weight : ℕ → (Message → ℕ) → ℕ → Message → Coupling → ℕ

@@ -1,22 +1,27 @@
 -- What the routes of a model carry of one message, from the root's input or from an atomic's output: the ways that lead on from its port.
 -- Assumes nothing.
-use mathlib.Core.Path.{_≡_, refl, ap, ap₂, _∙_}
+use mathlib.Core.Path.{_≡_, refl, sym, ap, ap₂, _∙_}
 use Prim.Native.Nat.{ℕ, _+_}
-use mathlib.Core.List.{_++_}
+use mathlib.Core.List.{List, [], _++_}
 use mathlib.Core.Bool.{Bool, true, false, not, cond}
 use native.Mathlib.Nat.{add-zero, zero-add}
 use lib.Dec.{eqb}
-use Rattle.definition.specs.Model.{Message, Bag, Model, isAtomic}
+use Rattle.definition.specs.Lists.{all}
+use Rattle.definition.specs.Model.{Message, Bag, Phase, Model, isAtomic, atomics, leaf}
 use Rattle.definition.specs.Records.{portFits}
 use Rattle.definition.specs.Routes.{endsIn, joinedAll, waysFrom, rootEnds, routes}
-use Rattle.law_base.proofs.Sums.{sumOf, sum-append, sum-zero, sum-cong}
-use Rattle.law_base.proofs.Lists.{all-if}
+use Rattle.definition.specs.SavedRun.{Entry}
+use Rattle.law_base.proofs.Sums.{sumOf, sum-append, sum-zero, sum-cong, sum-cond}
+use Rattle.law_base.proofs.Lists.{all-if, sum-cong-if, count-none}
 use Rattle.law_model.proofs.WellFormed.{WellFormed}
 use Rattle.law_base.proofs.Tests.{eqb-sym}
 use Rattle.law_nest.proofs.Trees.{leavesT, OnlyIn, only-in}
-use Rattle.law_nest.proofs.Components.{rooted, root-not, root, shape, leaves}
-use Rattle.law_nest.proofs.Paths.{hit, hits}
-use Rattle.law_nest.proofs.Carried.{weight, ways-leaf, leafHits, carried, no-hits}
+use Rattle.law_nest.proofs.Occurs.{occurs}
+use Rattle.law_nest.proofs.Components.{rooted, root-not, atomic-once, atomics-atomic, root, shape, leaves}
+use Rattle.law_nest.proofs.Nest.{due}
+use Rattle.law_nest.proofs.Hits.{hit, hits}
+use Rattle.law_nest.proofs.Paths.{waysSum}
+use Rattle.law_nest.proofs.Carried.{weight, ways-leaf, leafHits, carried, no-hits, outs, dueSum, due-tree}
 
 -- the root's own ports as ends
 pub root-hits : (a : ℕ) (weigh : Message → ℕ) (x : Bag) → hits a weigh rootEnds x ≡ cond (eqb 0 a) (sumOf weigh x) 0
@@ -59,3 +64,34 @@ module _ (m : Model) (w : WellFormed m) where
     pub carry-atomic : (s : ℕ) (y : Message) → isAtomic (m .components) s ≡ true → portFits y ≡ true
         → carry m a weigh s y ≡ leafHits (m .couplings) a weigh rootEnds (root m) s y
     carry-atomic s y e h = carry-shape s y h ∙ rw (root-not (m .components) s (rooted (m .components) (w .components .fit) (w .some-component)) e) (zero-add _)
+
+-- ---- what is sent
+
+-- what an atomic sends
+unfoldable pub sends : Model → (ℕ → Entry) → ℕ → ℕ → Bag
+sends m at now s = cond (due m at now (leaf s)) (outs m at now s) []
+
+-- What the routes carry of what is sent and of what is given, for any phases in the place of the model's own.
+module _ (m : Model) (w : WellFormed m) (ps : List Phase) (a : ℕ) (weigh : Message → ℕ) where
+  abbrev phased : Model
+  phased = record { components = m .components; phases = ps; rules = m .rules; couplings = m .couplings }
+
+  pub ways-carry : (at : ℕ → Entry) (now : ℕ) → ((s : ℕ) → isAtomic (m .components) s ≡ true → all portFits (outs phased at now s) ≡ true)
+      → waysSum phased at now a weigh rootEnds (root m) ≡ sumOf (λ s. sumOf (carry m a weigh s) (sends phased at now s)) (atomics (m .components))
+  unfolding dueSum sends
+  ways-carry at now ports =
+      let cs = m .components in
+      sym (due-tree phased at now a weigh (atomics cs) (isAtomic cs) (atomic-once cs (w .components .fit) (w .some-component)) rootEnds (root m) (only-in (isAtomic cs) (root m) (leaves m w)))
+      ∙ sum-cong-if (isAtomic cs) _ _ (atomics cs) (atomics-atomic cs (w .components .fit) (w .some-component))
+      (λ s e. ap (λ n. cond (due phased at now (leaf s)) n 0) (sum-cong-if portFits _ _ (outs phased at now s) (ports s e) (λ y h. sym (carry-atomic m w a weigh s y e h)))
+      ∙ sym (sum-cond (carry m a weigh s) (due phased at now (leaf s)) (outs phased at now s)))
+
+  pub given-carry : (x : Bag) → all portFits x ≡ true → hits a weigh (endsIn (m .couplings) (root m)) x ≡ sumOf (carry m a weigh 0) x
+  unfolding hits
+  given-carry x ports = sum-cong-if portFits _ _ x ports (λ y h. sym (carry-root m w a weigh y h))
+
+-- the root is no atomic
+pub root-absent : (m : Model) → WellFormed m → occurs 0 (atomics (m .components)) ≡ 0
+root-absent m w =
+    let cs = m .components in
+    count-none (isAtomic cs) (λ s. eqb 0 s) (atomics cs) (atomics-atomic cs (w .components .fit) (w .some-component)) (λ s. root-not cs s (rooted cs (w .components .fit) (w .some-component)))

@@ -5,6 +5,7 @@ use Prim.Native.Nat.{ℕ, _+_, _-_}
 use mathlib.Core.List.{List, [], _∷_}
 use mathlib.Core.Option.{Option, none, some}
 use mathlib.Core.Bool.{Bool, true, false, cond}
+use lib.ListN.{length}
 use lib.Dec.{eqb}
 use Rattle.definition.specs.Model.{Bag, Rule, Model, componentAt}
 use Rattle.definition.specs.Devs.{finite, sameTime, ticks, After}
@@ -37,11 +38,11 @@ set-or-kept m now c false (y ∷ x) r = searched m now (ruleFor m c (r .phase) (
 -- ---- both parts of a confluent transition
 
 -- what comes of it: the atomic is in a phase with nothing spent, and a rule's position comes up
-abbrev after : ℕ → ℕ → Option ℕ → After InPhase
-after c p o = record { state = unspent p; decided = record { atomic = c; position = toldAs o } ∷ [] }
+abbrev after : ℕ → Bag → ℕ → Option ℕ → After InPhase
+after c x p o = record { state = unspent p; decided = record { atomic = c; position = toldAs o; messages = length x } ∷ [] }
 
 unfoldable pub both : Model → ℕ → ℕ → Bag → After InPhase
-both m c p x = after c (bothParts m c p x) (ruleOfBoth m c p x)
+both m c p x = after c x (bothParts m c p x) (ruleOfBoth m c p x)
 
 -- a search leads to the same phase, and with nothing spent it spends nothing
 followed-phase : (ks : List Rule) (p since : ℕ) (o : Option ℕ) → followed ks p since o .phase ≡ ledTo ks p o
@@ -60,22 +61,22 @@ confluent-both : (m : Model) (c : ℕ) (s : InPhase) (x : Bag) → s .spent + ti
 unfolding confluent both bothParts ruleOfBoth internal external externalPart unspent
 confluent-both m c s x whole = go (eqb (componentAt (m .components) c .order) 0)
   where
-    first : (next : ℕ) → external m c (unspent next) 0 x ≡ after c (externalPart m c next 0 x) (ruleFor m c next 0 x)
+    first : (next : ℕ) → external m c (unspent next) 0 x ≡ after c x (externalPart m c next 0 x) (ruleFor m c next 0 x)
     first next =
         let o = ruleFor m c next 0 x in
-        ap (λ q. record { state = q; decided = record { atomic = c; position = toldAs o } ∷ [] }) (followed-unspent (m .rules) next o)
+        ap (λ q. record { state = q; decided = record { atomic = c; position = toldAs o; messages = length x } ∷ [] }) (followed-unspent (m .rules) next o)
 
     second : (e : ℕ) → e ≡ ticks (advanceOf m c (s .phase)) → (let found = ruleFor m c (s .phase) e x in
-        record { state = unspent (nextPhase m c (followed (m .rules) (s .phase) e found .phase)); decided = record { atomic = c; position = toldAs found } ∷ [] })
-        ≡ after c (nextPhase m c (externalPart m c (s .phase) (ticks (advanceOf m c (s .phase))) x)) (ruleFor m c (s .phase) (ticks (advanceOf m c (s .phase))) x)
+        record { state = unspent (nextPhase m c (followed (m .rules) (s .phase) e found .phase)); decided = record { atomic = c; position = toldAs found; messages = length x } ∷ [] })
+        ≡ after c x (nextPhase m c (externalPart m c (s .phase) (ticks (advanceOf m c (s .phase))) x)) (ruleFor m c (s .phase) (ticks (advanceOf m c (s .phase))) x)
     second e h =
         let found = ruleFor m c (s .phase) e x in
-        ap (λ p. after c (nextPhase m c p) found) (followed-phase (m .rules) (s .phase) e found)
-        ∙ ap (λ e. after c (nextPhase m c (ledTo (m .rules) (s .phase) (ruleFor m c (s .phase) e x))) (ruleFor m c (s .phase) e x)) h
+        ap (λ p. after c x (nextPhase m c p) found) (followed-phase (m .rules) (s .phase) e found)
+        ∙ ap (λ e. after c x (nextPhase m c (ledTo (m .rules) (s .phase) (ruleFor m c (s .phase) e x))) (ruleFor m c (s .phase) e x)) h
 
     go : (b : Bool) → cond b (external m c (unspent (nextPhase m c (s .phase))) 0 x) (let part = external m c s (ticks (timeAdvance m c s)) x in
         record { state = unspent (nextPhase m c (part .state .phase)); decided = part .decided })
-        ≡ after c (cond b (externalPart m c (nextPhase m c (s .phase)) 0 x) (nextPhase m c (externalPart m c (s .phase) (ticks (advanceOf m c (s .phase))) x)))
+        ≡ after c x (cond b (externalPart m c (nextPhase m c (s .phase)) 0 x) (nextPhase m c (externalPart m c (s .phase) (ticks (advanceOf m c (s .phase))) x)))
         (cond b (ruleFor m c (nextPhase m c (s .phase)) 0 x) (ruleFor m c (s .phase) (ticks (advanceOf m c (s .phase))) x))
     go true = first (nextPhase m c (s .phase))
     go false = second _ whole

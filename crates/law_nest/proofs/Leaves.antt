@@ -41,8 +41,8 @@ both-same m c x y s p = simp (part-same m c x y s)
 pub external-same : (m : Model) (c : ℕ) (x y : Bag) → Same x y → (s : InPhase) (e : ℕ) → external m c s e x ≡ external m c s e y
 unfolding external
 external-same m c x y h s e =
-    ap (λ o. record { state = followed (m .rules) (s .phase) (s .spent + e) o; decided = record { atomic = c; position = toldAs o } ∷ [] })
-    (rule-same m c x y h (s .phase) (s .spent + e))
+    ap₂ (λ o n. record { state = followed (m .rules) (s .phase) (s .spent + e) o; decided = record { atomic = c; position = toldAs o; messages = n } ∷ [] })
+    (rule-same m c x y h (s .phase) (s .spent + e)) (same-length x y h)
 
 pub confluent-same : (m : Model) (c : ℕ) (x y : Bag) → Same x y → (s : InPhase) → confluent m c s x ≡ confluent m c s y
 unfolding confluent

@@ -13,6 +13,7 @@ pub mod Entries
 pub mod AnySplit
 pub mod Leaves
 pub mod StepOf
+pub mod Hits
 pub mod Paths
 pub mod Carried
 pub mod Carry
@@ -20,3 +21,6 @@ pub mod Arrivals
 pub mod Firsts
 pub mod Stepping
 pub mod Capacity
+pub mod Handed
+pub mod BagsTold
+pub mod FlatBags

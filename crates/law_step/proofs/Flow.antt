@@ -10,7 +10,7 @@ use Rattle.definition.specs.Model.{Bag, Coupling}
 use Rattle.definition.specs.Routes.{portsTo}
 use Rattle.definition.specs.Devs.{translate}
 use Rattle.law_base.proofs.Sums.{sumOf, sum-append, sum-cong, sum-zero, sum-swap, if-zero, sum-keep, sum-cons}
-use Rattle.law_nest.proofs.Paths.{translate-sum}
+use Rattle.law_nest.proofs.Hits.{translate-sum}
 use Rattle.spec_step.specs.Pull.{joined}
 use Rattle.spec_step.specs.Put.{valuesOn}
 use Rattle.law_routes.proofs.Counts.{sum-pick}

@@ -18,7 +18,7 @@ use Rattle.law_base.proofs.Tests.{and-left, and-right, and-true}
 use Rattle.law_base.proofs.Lists.{all-append, all-map}
 use Rattle.law_model.proofs.WellFormed.{WellFormed, kept}
 use Rattle.law_model.proofs.PhaseValues.{isValue, hasValue, outputs-values}
-use Rattle.law_nest.proofs.Paths.{translate-ports}
+use Rattle.law_nest.proofs.Hits.{translate-ports}
 use Rattle.law_nest.proofs.Nest.{due, outOf, outTo, bagAt, bagAtAll, outDue}
 use Rattle.spec_step.specs.Pull.{joined, childOut, coupledOut, sourceIn, inputIn}
 use Rattle.spec_step.specs.Put.{valuesOn}

@@ -20,9 +20,9 @@ use Rattle.definition.specs.Advance.{Ended, advanceFrom}
 use Rattle.definition.specs.Engine.{toBag, bagFits, advanceChecks}
 use Rattle.law_base.proofs.Tests.{and-left, and-right, and-true}
 use Rattle.law_model.proofs.WellFormed.{WellFormed}
-use Rattle.law_model.proofs.Codec.{take-bytes, drop-bytes, bag-length}
+use Rattle.law_model.proofs.Codec.{take-bytes, drop-bytes}
 use Rattle.law_nest.proofs.Stepping.{Good}
-use Rattle.law_flat.proofs.Checks.{fits-good, advance-ok, bag-fine}
+use Rattle.law_flat.proofs.Checks.{fits-good, advance-ok, bag-fine, bag-few}
 use Rattle.law_calls.proofs.Lift.{EndsAlike}
 use Rattle.law_calls.proofs.Kept.{Fit}
 use Rattle.law_calls.proofs.Fitting.{fits-run}
@@ -73,13 +73,6 @@ rows-values (suc n) {s} a =
 pub bag-values : {b : Bytes} → AllBytes b → all hasValue (toBag b) ≡ true
 unfolding toBag
 bag-values {b} a = rows-values (length b / messageSize) a
-
-pub bag-few : (b : Bytes) → bagFits b ≡ true → length (toBag b) ≤ maxGiven
-unfolding bagFits
-bag-few b h =
-    let e = eqb (length b % messageSize) 0 in
-    let l = leb-true (length b) (messageSize * maxGiven) (and-right e _ (and-left (e && leb (length b) (messageSize * maxGiven)) _ h)) in
-    omega (arith, bag-length b)
 
 -- ---- a call
 

@@ -50,18 +50,18 @@ of-both m c p x o (internal-first z d) = rw z (decided-rule m c (nextPhase m c p
 of-both m c p x o (external-first z d) = rw z (decided-rule m c p (ticks (advanceOf m c p)) x o d)
 
 -- what the atomic c passes up, and that its transitions do
-abbrev passed : ℕ → ℕ → List Decided
-passed c n = record { atomic = c; position = n } ∷ []
+abbrev passed : ℕ → Bag → ℕ → List Decided
+passed c x n = record { atomic = c; position = n; messages = length x } ∷ []
 
 module _ (m : Model) (c now e : ℕ) (s : InPhase) (r : Entry) (x : Bag) (o : Option ℕ) (n : ℕ) (h : StandsAfter m c now e s r) where
-  external-told : DecidesFor m c now r x o → Told o n → external m c s e x .decided ≡ passed c n
+  external-told : DecidesFor m c now r x o → Told o n → external m c s e x .decided ≡ passed c x n
   unfolding external
-  external-told d t = ap (passed c) (ap toldAs (searches m c now e s r x h o d) ∙ told o n t)
+  external-told d t = ap (passed c x) (ap toldAs (searches m c now e s r x h o d) ∙ told o n t)
 
-  confluent-told : dueNow m now c r ≡ true → DecidesConfluent m c (r .phase) x o → Told o n → confluent m c s x .decided ≡ passed c n
+  confluent-told : dueNow m now c r ≡ true → DecidesConfluent m c (r .phase) x o → Told o n → confluent m c s x .decided ≡ passed c x n
   unfolding dueNow both
   confluent-told due d t =
-      ap (λ (z : After InPhase). z .decided) (confluent-due m c now e s r x (h .0) (h .1) due) ∙ ap (passed c) (ap toldAs (of-both m c (r .phase) x o d) ∙ told o n t)
+      ap (λ (z : After InPhase). z .decided) (confluent-due m c now e s r x (h .0) (h .1) due) ∙ ap (passed c x) (ap toldAs (of-both m c (r .phase) x o d) ∙ told o n t)
 
 -- ---- the table
 

@@ -25,6 +25,7 @@ pub mod Sent
 pub mod Spans
 pub mod Joined
 pub mod TracesByColumn
+pub mod AtomicBags
 pub mod Demand2
 pub mod FlatTrace
 pub mod FlatLoops

@@ -21,7 +21,7 @@ use Rattle.law_model.proofs.WellFormed.{WellFormed, couplings-fit}
 use Rattle.law_model.proofs.PhaseRange.{outputs-fit}
 use Rattle.law_model.proofs.PhaseValues.{isValue, hasValue, outputs-values}
 use Rattle.law_nest.proofs.Components.{rooted}
-use Rattle.law_nest.proofs.Paths.{translate-ports}
+use Rattle.law_nest.proofs.Hits.{translate-ports}
 use Rattle.law_flat.proofs.Couplings.{ports-reached}
 
 -- a message that a trace record can hold

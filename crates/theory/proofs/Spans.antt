@@ -27,7 +27,7 @@ use Rattle.law_base.proofs.Lists.{all-append, all-if, all-perm, length-perm, so
 use Rattle.law_base.proofs.Sorting.{message-order, rises-sort}
 use Rattle.law_model.proofs.WellFormed.{WellFormed}
 use Rattle.law_model.proofs.PhaseValues.{isValue, hasValue}
-use Rattle.law_columns.proofs.Everys.{every-append, every-if}
+use Rattle.law_base.proofs.Everys.{every-append, every-if}
 use Rattle.law_calls.proofs.Lift.{Agree}
 use Rattle.law_calls.proofs.Kept.{Fit}
 use Rattle.law_calls.proofs.BagOrder.{agree-order}
