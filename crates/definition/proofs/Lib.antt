@@ -16,3 +16,4 @@ pub mod RuleTable
 pub mod FlatTable
 pub mod TraceTable
 pub mod ColumnTable
+pub mod BagTable

@@ -194,14 +194,14 @@ fn workloads_are_as_large_as_they_say() {
     assert_eq!(sizes("nest LI, stray cues"), ([64, 126, 55], 70, 56));
     assert_eq!(sizes("each of 32 to each"), ([33, 64, 64], 1_024, 1_024));
     assert_eq!(sizes("1,024 rules, scattered"), ([34, 136, 1_024], 33, 33));
+    assert_eq!(sizes("64 messages, 32 rules"), ([3, 3, 32], 16, 16));
+    assert_eq!(sizes("4,096 messages, 32 rules"), ([3, 3, 32], 1_024, 1_024));
+    assert_eq!(sizes("16,384 messages, 32 rules"), ([2, 2, 32], 1_024, 1_024));
     assert_eq!(sizes("maximal, idle"), ([64, 512, 1_024], 1_024, 1_010));
 }
 
-/// In each of 40 periods of 16 moments, 55 atomics get one cue, one stray when they are due, and 14
-/// more strays.
-#[test]
-fn stray_cues_are_strays() {
-    let workload = workload("nest LI, stray cues");
+/// What the reference meets in the calls of a workload.
+fn observed(workload: &Workload) -> Observed {
     let mut run = vec![0; 600];
     reference::start(&workload.model, &mut run);
     let mut observed = Observed::default();
@@ -210,8 +210,36 @@ fn stray_cues_are_strays() {
         let lent = advance::Lent { trace: &mut [0; 1_000], rules: &mut [] };
         advance::advance(model, &mut run, call.t, bag, lent, dropped, &mut observed);
     }
+    observed
+}
+
+/// In each of 40 periods of 16 moments, 55 atomics get one cue, one stray when they are due, and 14
+/// more strays.
+#[test]
+fn stray_cues_are_strays() {
+    let observed = observed(&workload("nest LI, stray cues"));
     let by_ancestors = [0, 9, 9, 9, 9, 9, 9, 1];
     assert_eq!(observed.strays, by_ancestors.map(|atomics| 40 * 14 * atomics));
     assert_eq!(observed.external_by_rule, 40 * 55);
     assert_eq!(observed.confluent_internal_first_without_rule, 40 * 55);
+}
+
+/// In each step the last of 32 rules decides for a bag of so many messages. The others want no more than the
+/// bag has, so that an engine has to count.
+#[test]
+fn counted_bags_are_as_large_as_they_say() {
+    for (name, messages, steps) in [
+        ("64 messages, 32 rules", 64, 200),
+        ("4,096 messages, 32 rules", 4_096, 20),
+        ("16,384 messages, 32 rules", 16_384, 4),
+    ] {
+        let workload = workload(name);
+        let observed = observed(&workload);
+        let external = (observed.external_by_rule, observed.external_without_rule);
+        assert_eq!(external, (steps, 0), "{name}");
+        assert_eq!(observed.largest_decided_bag, messages, "{name}");
+        assert_eq!(observed.last_instant.highest_position, 31, "{name}");
+        let rules = decode(&workload.model).expect("an accepted model").rules;
+        assert!(rules.iter().all(|rule| usize::from(rule.least_count) <= messages), "{name}");
+    }
 }

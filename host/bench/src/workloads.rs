@@ -3,6 +3,7 @@
 
 mod bursts;
 mod calls;
+mod counting;
 mod fans;
 pub mod growth;
 mod nests;
@@ -61,13 +62,13 @@ impl Workload {
 
 /// Long calls, in which the steps count.
 pub fn steps() -> Vec<Workload> {
-    [nests::all(), stations::all(), fans::all(), rules::all(), bursts::all()]
+    [nests::all(), stations::all(), fans::all(), rules::all(), counting::all(), bursts::all()]
         .into_iter()
         .flatten()
         .collect()
 }
 
-/// Many short calls, in which a call's fixed cost counts.
+/// Many short calls, in which a call's fixed cost counts; and one kind with the largest bag of an atomic.
 pub fn short_calls() -> Vec<Workload> {
     calls::all()
 }

@@ -157,9 +157,11 @@ impl CallList<'_> {
         }
         let before = Buffers { run: &run_before, trace: call.trace(), rules: call.rules() };
         let after = Buffers { run: self.run.content(), trace, rules };
-        laws::test(self.model.as_ref(), call, &answer, &before, &after).map_err(|law| {
-            format!("{law}\nin {call}, answered {answer:?}\n{}", shown("model", &self.file))
-        })?;
+        laws::test(self.model.as_ref(), call, &answer, &before, &after)
+            .and_then(|()| laws::test_bags(&observed))
+            .map_err(|law| {
+                format!("{law}\nin {call}, answered {answer:?}\n{}", shown("model", &self.file))
+            })?;
         let counts = &mut self.comparison.counts;
         self.comparison.calls += 1;
         counts.number(call.kind(), answer.number());

@@ -4,10 +4,13 @@
 use crate::call::{Answer, Call};
 #[cfg(test)]
 use reference::examples::{relayed_hold, tick_among_strays};
-use reference::limits::{HIGHEST_PORT, NO_RULE, ROOT_BAG, STEPS_OF_AN_INSTANT, UNBOUNDED};
+use reference::limits::{
+    ATOMIC_BAG, HIGHEST_PORT, NO_RULE, ROOT_BAG, STEPS_OF_AN_INSTANT, UNBOUNDED,
+};
 use reference::lit_rules;
 use reference::little_endian::{u16_at, u64_at};
 use reference::model::Model;
+use reference::observed::Observed;
 use reference::records::Message;
 use reference::saved_run::{self, AtomicRun, SavedRun};
 use reference::trace::HEAD_BYTES;
@@ -61,6 +64,12 @@ pub fn test(
         }
         _ => Err("an answer of another call".into()),
     }
+}
+
+/// Tests what the reference met on its way to an outcome, be it in an instant left undone.
+pub fn test_bags(observed: &Observed) -> Result<(), String> {
+    let largest = observed.largest_atomic_bag;
+    holds(largest <= ATOMIC_BAG, "no bag of an atomic has more than 16,384 messages")
 }
 
 fn test_advance(
@@ -209,6 +218,18 @@ fn a_stay_begun_afresh_by_a_stray_is_told() {
         let told = "this does not hold: a phase without rules lasts until it is due";
         assert_eq!(law(wrong), Err(told.into()));
     }
+}
+
+#[test]
+fn a_bag_past_the_largest_is_told() {
+    let law = |messages: usize| {
+        let mut observed = Observed::default();
+        observed.external_part(0, messages, false);
+        test_bags(&observed)
+    };
+    assert_eq!(law(16_384), Ok(()));
+    let told = "this does not hold: no bag of an atomic has more than 16,384 messages";
+    assert_eq!(law(16_385), Err(told.into()));
 }
 
 #[test]

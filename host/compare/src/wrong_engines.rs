@@ -1,6 +1,7 @@
 //! Engines with one fault each, made of the reference: the comparison must find every one.
 
 mod columns;
+mod counts;
 mod lit_rules;
 mod stays;
 
@@ -40,6 +41,7 @@ enum Fault {
     NextDueNeverIs0,
     PositionOfOneByte,
     FlatteningCopies,
+    AboutCounts(counts::Wrong),
     AboutLitRules(lit_rules::Wrong),
 }
 
@@ -147,6 +149,7 @@ impl Engine for Faulty {
                 let model = stays::with_rules_for_strays(model);
                 reference::advance(&model, run, t, &given, trace, &mut [])
             }
+            (None, Fault::AboutCounts(wrong)) => wrong.advance(model, run, t, &given, trace, rules),
             (None, Fault::AboutLitRules(wrong)) => {
                 wrong.advance(model, run, t, &given, trace, rules)
             }
@@ -224,8 +227,9 @@ fn find_on_random_models(fault: Fault, models: u64) -> Option<String> {
 
 #[test]
 fn every_fault_is_found() {
+    let about_counts = counts::ALL.map(|(wrong, _)| Fault::AboutCounts(wrong));
     let about_lit_rules = lit_rules::ALL.map(|(wrong, ..)| Fault::AboutLitRules(wrong));
-    for fault in FAULTS.into_iter().chain(about_lit_rules) {
+    for fault in FAULTS.into_iter().chain(about_counts).chain(about_lit_rules) {
         assert!(find(fault, 0..600).is_some(), "{fault:?} was not found");
     }
 }
@@ -269,7 +273,8 @@ fn rows_alone_find_what_is_wrong_about_lit_rules() {
 
 #[test]
 fn the_reference_itself_has_none() {
-    for none in [Fault::None, Fault::NoneInTheFlatMachine] {
+    let in_counts = Fault::AboutCounts(counts::Wrong::Nothing);
+    for none in [Fault::None, Fault::NoneInTheFlatMachine, in_counts] {
         assert_eq!(find(none, 0..150), None);
         assert_eq!(find_on_random_models(none, 150), None);
     }

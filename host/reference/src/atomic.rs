@@ -115,8 +115,13 @@ fn elapsed_is_in_range(rule: &Rule, elapsed: u64) -> bool {
 }
 
 fn enough_messages(rule: &Rule, bag: &[Message]) -> bool {
+    match_count(rule, bag) >= usize::from(rule.least_count)
+}
+
+/// How many messages of a bag meet a rule: those on its port with a value in its range.
+pub fn match_count(rule: &Rule, bag: &[Message]) -> usize {
     let meets = |message: &&Message| {
         message.port == rule.port && (rule.low_value..=rule.high_value).contains(&message.value)
     };
-    bag.iter().filter(meets).count() >= usize::from(rule.least_count)
+    bag.iter().filter(meets).count()
 }

@@ -1,6 +1,6 @@
 //! Short calls on a small and on a maximal model, idle and with a bag.
 
-use super::{any_value, stations, Advance, Workload};
+use super::{any_value, counting, stations, Advance, Workload};
 use reference::builder::{bag, phase, rule, Builder, NEVER};
 use reference::records::Phase;
 
@@ -13,6 +13,7 @@ pub fn all() -> Vec<Workload> {
         Workload::with_calls("maximal, idle", &maximal(), idle_calls(40)),
         Workload::with_calls("maximal, one bag", &maximal(), bag_calls(40)),
         Workload::with_calls("maximal, one bag", &maximal(), bag_calls(40)).lit(),
+        counting::largest_bag_calls(),
     ]
 }
 

@@ -9,31 +9,42 @@ use reference::records::Rule;
 use reference::saved_run;
 use reference::Advanced;
 
-pub const NAMES: [&str; 5] = [
+pub const NAMES: [&str; 6] = [
     "least count that the bag just has",
     "least count one more than the bag has",
+    "least count 32,768 more than the bag has",
     "16,384 messages through eight levels",
     "4,096 messages through eight levels",
     "instant with more record bytes than 4,096",
 ];
 
-fn phase_in(run: &[u8], rank: usize) -> u8 {
-    run[saved_run::HEAD_BYTES + saved_run::ATOMIC_BYTES * rank]
+/// Gives a bag to a model of one atomic, which puts nothing out, and expects it in a phase.
+fn expect_phase(
+    comparison: &mut Comparison,
+    random: &mut Random,
+    model: &Builder,
+    given: &[u8],
+    phase: u8,
+) -> Compared<()> {
+    let run = expect(comparison, random, model, (2, given.to_vec(), 0), success(1, 1, 0))?;
+    let found = run[saved_run::HEAD_BYTES];
+    if found != phase {
+        return Err(format!("the phase is {found}"));
+    }
+    Ok(())
 }
 
-/// A rule that wants exactly as many messages as come, and one that wants one more.
+/// A rule that wants exactly as many messages as come, one that wants one more, and one whose least count
+/// has the highest bit of 16 beside that.
 pub fn largest_atomic_bags(comparison: &mut Comparison, random: &mut Random) -> Compared<()> {
     let given = bag(&[(0, random.next() as u16); 16]);
     let any = random.between(1, 1_023) as usize;
     for rows in [1_024, 64, 65, any] {
         let messages = 16 * rows as u16;
-        for (name, least, phase) in [(NAMES[0], messages, 1), (NAMES[1], messages + 1, 0)] {
-            let model = atomic_behind_rows(rows, least);
-            let call = (2, given.clone(), 0);
-            let run = expect(comparison, random, &model, call, success(1, 1, 0))?;
-            if phase_in(&run, 0) != phase {
-                return Err(format!("{name}, {messages}: the phase is {}", phase_in(&run, 0)));
-            }
+        for (name, more, phase) in [(NAMES[0], 0, 1), (NAMES[1], 1, 0), (NAMES[2], 32_768, 0)] {
+            let model = atomic_behind_rows(rows, messages + more);
+            expect_phase(comparison, random, &model, &given, phase)
+                .map_err(|fault| format!("{name}, {messages} messages: {fault}"))?;
             comparison.counts.meet(name);
         }
     }
@@ -47,20 +58,17 @@ fn doublings(random: &mut Random) -> Vec<usize> {
 
 pub fn atomic_bag_through_levels(comparison: &mut Comparison, random: &mut Random) -> Compared<()> {
     let times = doublings(random);
-    for (least, phase_after) in [(16_384, 1), (16_385, 0)] {
+    for (least, phase_after) in [(16_384, 1), (16_385, 0), (49_152, 0)] {
         let mut model = Builder::new();
         let innermost = model.coupled_chain(0, 7);
         let phases = [phase(NEVER, 0, &[]), phase(NEVER, 1, &[])];
         let atomic = model.atomic(innermost, &phases);
         (0..8).for_each(|link| model.couple_times(times[link], link, 3, link + 1, 3));
         model.rule(Rule { port: 3, least_count: least, ..rule(atomic, 0, 300, 1) });
-        let call = (7, bag(&[(3, 300); 16]), 0);
-        let run = expect(comparison, random, &model, call, success(1, 1, 0))?;
-        if phase_in(&run, 0) != phase_after {
-            return Err(format!("least count {least}: the phase is {}", phase_in(&run, 0)));
-        }
+        expect_phase(comparison, random, &model, &bag(&[(3, 300); 16]), phase_after)
+            .map_err(|fault| format!("{}, least count {least}: {fault}", NAMES[3]))?;
     }
-    comparison.counts.meet(NAMES[2]);
+    comparison.counts.meet(NAMES[3]);
     Ok(())
 }
 
@@ -88,7 +96,7 @@ pub fn root_bag_through_levels(comparison: &mut Comparison, random: &mut Random)
     (0..8).for_each(|link| model.couple_times(times[link], link + 1, 2, link, 2));
     let done = success(1, 1, 12_300);
     expect(comparison, random, &model, (5, Vec::new(), 12_300), done)?;
-    comparison.counts.meet(NAMES[3]);
+    comparison.counts.meet(NAMES[4]);
     Ok(())
 }
 
@@ -120,7 +128,7 @@ pub fn bursts(comparison: &mut Comparison, random: &mut Random) -> Compared<()> 
         expect(comparison, random, &model, (8, Vec::new(), length), expected)?;
     }
     if burst > 4_096 {
-        comparison.counts.meet(NAMES[4]);
+        comparison.counts.meet(NAMES[5]);
     }
     Ok(())
 }

@@ -1,6 +1,6 @@
 //! Cases made for one boundary of a step, an instant or the routes, with the outcome they must have.
 
-mod bags;
+pub mod bags;
 mod edges;
 pub mod lit_rules;
 mod steps;
