@@ -1,14 +1,14 @@
 -- The step on the tables of a call as something that takes steps, what it asks of the tables and the buffer lent, and the state with its due
 -- moments. Assumes nothing.
 use mathlib.Core.Path.{_≡_}
-use Prim.Native.Nat.{ℕ, _*_, _≤_, _<_}
+use Prim.Native.Nat.{ℕ, _≤_, _<_}
 use mathlib.Core.List.{List, [], map}
 use mathlib.Core.Bool.{_||_, not, cond}
 use lib.Dec.{eqb}
 use lib.ListN.{length, take, replicate}
 use Rattle.definition.specs.Bytes.{Bytes}
 use Rattle.definition.specs.Lists.{isEmpty, sortBy}
-use Rattle.definition.specs.Limits.{maxGiven, maxRoutes, noPosition}
+use Rattle.definition.specs.Limits.{noPosition}
 use Rattle.definition.specs.Model.{messageLe}
 use Rattle.definition.specs.Step.{Simulator}
 use Rattle.definition.specs.Step as Definition
@@ -25,6 +25,7 @@ use Rattle.spec_step.specs.Ranges.{InRange, Seated}
 use Rattle.spec_step.specs.TableStep.{tableNext}
 use Rattle.step_due.specs.Due.{CarriedIn}
 use Rattle.step_simulator.specs.Simulator.{tableSim}
+pub use Rattle.step_simulator.specs.Simulator.{Lent}
 
 -- The slices phases, rules and tables, where a bag has room for so many messages.
 abbrev pub simOf : List ℕ → List ℕ → List ℕ → ℕ → Simulator State
@@ -60,9 +61,10 @@ pub record Steppable (phases tables : List ℕ) (now : ℕ) (w : List ℕ) : Typ
   pub fit : Fit tables
   pub ready : Ready phases tables w
 
--- The words lent for a bag are no more than the largest one needs.
-abbrev pub Lent : ℕ → Type 0
-Lent work = work ≤ maxGiven * maxRoutes
+-- With the words lent for a bag.
+pub record CanTake (phases tables : List ℕ) (now : ℕ) (w : List ℕ) (work : ℕ) : Type 0 where
+  pub lent : Lent work
+  pub steppable : Steppable phases tables now w
 
 -- What the steps at `now` ask that put their records from `from` on.
 pub record CanRun (phases tables : List ℕ) (now : ℕ) (w : List ℕ) (work from out : ℕ) : Type 0 where

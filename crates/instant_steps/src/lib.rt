@@ -8,7 +8,7 @@ ghost use Rattle.definition.specs.Lists.{isEmpty};
 ghost use Rattle.definition.specs.Engine.{toBag};
 ghost use Rattle.run_state.specs.Held.{heldIn};
 ghost use Rattle.spec_step.specs.Tables.{atomicsIn};
-ghost use Rattle.instant_steps.specs.Sim.{instantOf, stepOf, givenAt, Fit, Ready, Steppable, Stepped, Begun, CanRun};
+ghost use Rattle.instant_steps.specs.Sim.{instantOf, stepOf, givenAt, Fit, Ready, Stepped, Begun, CanTake, CanRun};
 ghost use Rattle.instant_steps.specs.Verdicts.{Judged, RulesLeft};
 use clock::Moment;
 use instant_records::put_step;
@@ -80,7 +80,7 @@ fn take_step(
     given: &[u8],
     work: &mut [u32],
 ) -> usize
-    requires { ⌜ Steppable (now phases) (now tables) (at .0) (now state) ⌝ }
+    requires { ⌜ CanTake (now phases) (now tables) (at .0) (now state) (length (now work)) ⌝ }
     ensures { λ r. ⌜ Stepped (now (phases .entry)) (now (tables .entry)) (now (state .entry)) (now (state .exit)) (now (work .exit)) r
         (stepOf (now (phases .entry)) (now (rules .entry)) (now (tables .entry)) (length (now (work .entry))) (at .0) (now (given .entry)) (now (state .entry))) ⌝ }
 {

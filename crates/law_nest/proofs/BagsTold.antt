@@ -1,7 +1,7 @@
 -- How many messages its bag had, each external part passes up: so what comes up from a transition is what the resultants handed the atomics, and
 -- where nobody is handed more than a limit, nobody tells of more. Assumes nothing.
 use mathlib.Core.Path.{_≡_, refl, sym, ap, _∙_, subst, fun-ext}
-use Prim.Native.Nat.{ℕ, _+_, _≤_}
+use Prim.Native.Nat.{ℕ, _≤_}
 use mathlib.Core.List.{[], _∷_, _++_, append-nil}
 use mathlib.Core.Bool.{Bool, true, false, cond}
 use native.Mathlib.Omega.{arith}

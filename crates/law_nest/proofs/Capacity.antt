@@ -1,20 +1,20 @@
 -- A route carries no more messages than its source sends: from the root at most as many as are given, 16, and from an atomic at most 4. So an
 -- atomic's bag has at most 16 messages a route and the root's output bag at most 4 (number 14 is never given), and the code's buffers are long
 -- enough. Assumes nothing.
-use mathlib.Core.Path.{_≡_, refl, ap, _∙_}
+use mathlib.Core.Path.{_≡_, refl, ap}
 use Prim.Native.Nat.{ℕ, _+_, _*_, _≤_}
-use mathlib.Core.List.{List, [], _∷_, _++_, map}
+use mathlib.Core.List.{List, [], _∷_, _++_}
 use mathlib.Core.Bool.{Bool, true, false, _&&_, cond}
 use native.Mathlib.Omega.{arith}
 use native.Mathlib.Nat.{mul-le-mul-left, mul-le-mul-right}
 use lib.Dec.{eqb}
 use lib.ListN.{length, length-take}
 use borrow.Author.Tests.{eq-eqb}
-use Rattle.definition.specs.Lists.{all, concat}
+use Rattle.definition.specs.Lists.{all}
 use Rattle.definition.specs.Limits.{maxOutputs}
 use Rattle.definition.specs.Model.{Message, Bag, Coupling, Phase, Model, phaseAt, slots, outputs, Tree, Forest, leaf, node, stop, more, nameOf, tree}
 use Rattle.definition.specs.Records.{portFits}
-use Rattle.definition.specs.Routes.{portsTo, Port, endsIn, endsFrom, joinedAll, waysFrom, waysFromAll, rootEnds, routes}
+use Rattle.definition.specs.Routes.{Port, endsIn, joinedAll, waysFrom, waysFromAll, rootEnds, routes}
 use Rattle.definition.specs.SavedRun.{Entry}
 use Rattle.definition.specs.AtomicBags.{endingAt}
 use Rattle.law_base.proofs.Sums.{sumOf, sum-le}

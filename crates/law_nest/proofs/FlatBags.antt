@@ -1,8 +1,8 @@
 -- The flat machine's bags: a coupling there carries at most what its one source sends, 16 messages of the given bag or 4 of an atomic.
 -- Assumes nothing.
-use mathlib.Core.Path.{_≡_, refl, sym, ap, _∙_}
+use mathlib.Core.Path.{_≡_, refl, ap, _∙_}
 use Prim.Native.Nat.{ℕ, _+_, _*_, _≤_}
-use mathlib.Core.List.{List, [], _∷_, _++_}
+use mathlib.Core.List.{List, [], _∷_}
 use mathlib.Core.Bool.{Bool, true, false, _&&_, cond}
 use native.Mathlib.Omega.{arith}
 use native.Mathlib.Nat.{mul-le-mul-right}
@@ -11,20 +11,19 @@ use lib.ListN.{length}
 use borrow.Author.Tests.{eqb-true}
 use Rattle.definition.specs.Lists.{count}
 use Rattle.definition.specs.Limits.{maxOutputs}
-use Rattle.definition.specs.Model.{Message, Bag, Coupling, Model, atomics, phaseAt, outputs}
+use Rattle.definition.specs.Model.{Bag, Coupling, Model, atomics, phaseAt, outputs}
 use Rattle.definition.specs.SavedRun.{Entry}
 use Rattle.definition.specs.FlatMachine.{Sent, sent, dueNow, putOut, allSent, arriving}
 use Rattle.definition.specs.AtomicBags.{endingAt}
 use Rattle.law_base.proofs.Sums.{sumOf, sum-append, sum-map, sum-cond, sum-zero, sum-le, sum-swap, sum-scale}
 use Rattle.law_base.proofs.Lists.{count-sum}
-use Rattle.law_base.proofs.Tests.{eqb-sym}
 use Rattle.law_model.proofs.WellFormed.{WellFormed}
 use Rattle.law_nest.proofs.Occurs.{occurs}
 use Rattle.law_nest.proofs.Components.{atomic-most}
 use Rattle.law_nest.proofs.Carried.{weight}
 use Rattle.law_nest.proofs.Carry.{root-absent}
 use Rattle.law_nest.proofs.Arrivals.{arriving-sum}
-use Rattle.law_nest.proofs.Capacity.{sum-ones, sum-const, sum-most, outputs-few}
+use Rattle.law_nest.proofs.Capacity.{sum-ones, sum-const, outputs-few}
 
 -- what is sent in some steps only
 if-most : (b : Bool) (n k : ℕ) → n ≤ k → cond b n 0 ≤ k

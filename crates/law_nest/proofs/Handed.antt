@@ -1,6 +1,6 @@
 -- What the resultants of a nest hand an atomic in a transition, from any state: at most what the routes may carry to it. The account is one of
 -- numbers alone: for each level, what its parts send each other and what goes out of it. Assumes nothing.
-use mathlib.Core.Path.{_≡_, refl, sym, ap, ap₂, _∙_}
+use mathlib.Core.Path.{_≡_, refl, sym, ap, ap₂}
 use Prim.Native.Nat.{ℕ, _+_, _*_, _≤_}
 use mathlib.Core.List.{List, [], _∷_, _++_, map}
 use mathlib.Core.Bool.{Bool, true, false, _&&_, cond}

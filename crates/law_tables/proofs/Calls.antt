@@ -1,13 +1,12 @@
 -- The call advance, from the definition to the tables: where the checks let it through, its outcome is that of the instants on tables, with the
 -- code's state read as entries. This is what the code of the call cites. Assumes nothing.
 use mathlib.Core.Path.{_≡_, refl, sym, ap, _∙_, subst}
-use Prim.Native.Nat.{ℕ, zero, suc, _*_, _/_, _%_, _≤_, _<_}
+use Prim.Native.Nat.{ℕ, zero, suc, _*_, _/_, _≤_, _<_}
 use mathlib.Core.List.{List, map}
-use mathlib.Core.Bool.{true, _&&_}
+use mathlib.Core.Bool.{true}
 use native.Mathlib.Omega.{arith}
-use lib.Dec.{leb, eqb}
 use lib.ListN.{length, take}
-use borrow.Author.Tests.{leb-true, lt-ltb, ltb-true}
+use borrow.Author.Tests.{lt-ltb, ltb-true}
 use Rattle.definition.specs.Lists.{all}
 use Rattle.definition.specs.Bytes.{Bytes, AllBytes, none, more, littleEndian, numberAt, chunks, ok}
 use Rattle.definition.specs.Limits.{messageSize, maxGiven, maxMoment}
@@ -17,8 +16,8 @@ use Rattle.definition.specs.Routes.{routes}
 use Rattle.definition.specs.SavedRun.{Entry, runOf, runFits, nextDue}
 use Rattle.definition.specs.Step.{nested}
 use Rattle.definition.specs.Advance.{Ended, advanceFrom}
-use Rattle.definition.specs.Engine.{toBag, bagFits, advanceChecks}
-use Rattle.law_base.proofs.Tests.{and-left, and-right, and-true}
+use Rattle.definition.specs.Engine.{toBag, advanceChecks}
+use Rattle.law_base.proofs.Tests.{and-true}
 use Rattle.law_model.proofs.WellFormed.{WellFormed}
 use Rattle.law_model.proofs.Codec.{take-bytes, drop-bytes}
 use Rattle.law_nest.proofs.Stepping.{Good}

@@ -1,5 +1,5 @@
 -- Counting in a bag of keys, and the first position that passes a test, as the loops meet them. Assumes nothing.
-use mathlib.Core.Path.{_≡_, refl}
+use mathlib.Core.Path.{_≡_, refl, sym, ap, _∙_, subst}
 use mathlib.Core.List.{List, [], _∷_, map}
 use mathlib.Core.Option.{none, some}
 use mathlib.Core.Bool.{Bool, true, false, _&&_, cond}
@@ -33,6 +33,38 @@ count-more p l i n h = rw (add-one i, drop-cons l i 0 h) (one (p (getD l i 0)))
 pub count-end : (p : ℕ → Bool) (l : List ℕ) → count p (drop (length l) l) ≡ 0
 unfolding count
 count-end p l = rw (drop-length l)
+
+-- no key lies between two of which the upper is the lower one
+pub none-between : (low high : ℕ) → high < low → (l : List ℕ) → count (between low high) l ≡ 0
+unfolding count between
+none-between low high h [] = refl
+none-between low high h (k ∷ l) = rw (none-between low high h l, apart (leb low k) refl (leb k high) refl)
+  where
+    apart : (a : Bool) → leb low k ≡ a → (b : Bool) → leb k high ≡ b → (a && b) ≡ false
+    apart false e b f = refl
+    apart true e false f = refl
+    apart true e true f = absurd (omega (arith, leb-true low k e, leb-true k high f))
+
+-- How far a key of 32 bits lies above the lower of two, round the end of 32 bits where it lies below: at most their distance where it lies
+-- between them.
+pub between-above : (low high key above : ℕ) → low ≤ high → high < 4294967296 → above < 4294967296 → (above + low) % 4294967296 ≡ key
+    → leb above (high - low) ≡ between low high key
+unfolding between
+between-above low high key above h top small e = go (leb above (high - low)) refl (leb low key) refl (leb key high) refl
+  where
+    whole : 4294967296 * ((above + low) / 4294967296) + key ≡ above + low
+    whole = ap (λ r. 4294967296 * ((above + low) / 4294967296) + r) (sym e) ∙ div-add-mod (above + low) 4294967296
+
+    under : key < 4294967296
+    under = subst (λ r. r < 4294967296) e (mod-lt (above + low) {m = 4294967296} (omega arith))
+
+    go : (t : Bool) → leb above (high - low) ≡ t → (a : Bool) → leb low key ≡ a → (b : Bool) → leb key high ≡ b → t ≡ (a && b)
+    go true u true v true w = refl
+    go true u true v false w = absurd (omega (arith, whole, under, leb-true above (high - low) u, leb-true low key v, leb-false key high w))
+    go true u false v b w = absurd (omega (arith, whole, under, leb-true above (high - low) u, leb-false low key v))
+    go false u true v true w = absurd (omega (arith, whole, under, leb-false above (high - low) u, leb-true low key v, leb-true key high w))
+    go false u true v false w = refl
+    go false u false v b w = refl
 
 -- a test on keys that is a test on messages
 pub count-keys : (p : ℕ → Bool) (q : Message → Bool) → ((k : ℕ) → p k ≡ q (messageOf k)) → (l : List ℕ) → count p l ≡ count q (map messageOf l)

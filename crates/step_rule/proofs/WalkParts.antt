@@ -1,7 +1,7 @@
 -- Parts of the two walks by hand: the rest of a body, positions of a loop, what a bag owns, and the call of `rule_holds`, of which a walk knows
 -- only that it meets its contract. Assumes nothing.
 use mathlib.Core.Path.{_≡_, refl}
-use Prim.Native.Nat.{ℕ, _-_, _<_, _^_}
+use Prim.Native.Nat.{ℕ, _-_, _≤_, _<_, _^_}
 use mathlib.Core.List.{List, [], _∷_, map}
 use mathlib.Core.Bool.{Bool, true, false, not}
 use mathlib.Core.WellFounded.{WellFounded, InvImage·wf}
@@ -18,7 +18,7 @@ use prog.Routine.{Routine}
 use prog.Wp.{Heap}
 use ghost.Atoms.{Atoms, sem}
 use contract.Monad.{Fun, fact}
-use types.Kit.{Given, ‵, _⊛_, ⋆, _$_, _∵_, !, qed, move, use1, split, join, fjoin, done}
+use types.Kit.{Given, ‵, _⊛_, ⋆, _$_, _∵_, !, qed, move, use1, split, join, fjoin, frame, done}
 use denote.Laws.{Is}
 use denote.Memory.{pointee}
 use denote.Plain.{uint-makes}
@@ -30,7 +30,9 @@ use denote.Struct.Laws as LL
 use denote.Triple.Statement.{Contract}
 use denote.Triple.Entry.{Vals, Args}
 use denote.Triple.Spec.{tripleOf}
+use denote.Triple.Walked.{says}
 use denote.Triple.Clauses.{ensured, lasts}
+use Rattle.definition.specs.Limits.{maxAtomicBag}
 use Rattle.definition.specs.Atomic.{holds}
 use Rattle.law_base.specs.Keys.{messageOf}
 use Rattle.model_records.specs.Values.{ruleOf}
@@ -107,18 +109,18 @@ module _ {M : Type 1} (𝓤 : URA M) (H : Heap 𝓤) (A : Atoms 𝓤) (W : Given
   abbrev pub truth : Rule → Bool
   truth k = holds c p (e .0) (map messageOf (now bag)) (ruleOf k)
 
-  -- the numbers are owned for nothing, the bag is had twice
-  pub asked : (k : Rule) → Is R.the-row k (R′.lowered k ∷ []) → c < 2 ^ 16 → p < 2 ^ 8 → Is S.the-row e (S′.lowered e ∷ [])
-      → ent 𝓤 (⋆ 𝓤 H A (‵ (flft κ q) ∷ ‵ (BagOwn κ bag) ∷ [])) (sep 𝓤 (RuleHolds 𝓤 H A mem run .pre (to k)) (sem 𝓤 H A (BagOwn κ bag)))
-  asked k kg cg pg eg =
+  -- the numbers are owned for nothing; the bag is had twice, once for the callee
+  pub asked : (k : Rule) → Is R.the-row k (R′.lowered k ∷ []) → c < 2 ^ 16 → p < 2 ^ 8 → Is S.the-row e (S′.lowered e ∷ []) → length (now bag) ≤ maxAtomicBag
+      → ent 𝓤 (⋆ 𝓤 H A (‵ (flft κ q) ∷ ‵ (BagOwn κ bag) ∷ [])) (sep 𝓤 (sem 𝓤 H A (BagOwn κ bag)) (RuleHolds 𝓤 H A mem run .pre (to k)))
+  asked k kg cg pg eg few =
       qed W (‵ (flft κ q) ∷ ‵ (BagOwn κ bag) ∷ []) ∵
-      move ! (1 ∷ []) $ use1 W (‵ (BagOwn κ bag) ⊛ ‵ (BagOwn κ bag)) (shr-slice-copy 𝓤 H A W (named 0) κ u32 .twice bag (bag-val bag ∷ [])) $ split ! $
+      move ! (1 ∷ []) $ use1 W (‵ (BagOwn κ bag) ⊛ ‵ (BagOwn κ bag)) (shr-slice-copy 𝓤 H A W (named 0) κ u32 .twice bag (bag-val bag ∷ [])) $ split ! $ frame ! $ says ! few $
       nothing ! $ move ! (1 ∷ 0 ∷ []) $ fjoin ! $
       owned ! S.the-row (Is S.the-row) (LL.makes S.the-type S′.the-plain 𝓤 H A) e (S′.lowered e ∷ []) eg $ fjoin ! $
       owned ! u8 (Is u8) (uint-makes 𝓤 H A W w8) p (vint w8 p ∷ []) (refl, pg) $ fjoin ! $
       owned ! u16 (Is u16) (uint-makes 𝓤 H A W w16) c (vint w16 c ∷ []) (refl, cg) $ fjoin ! $
       owned ! R.the-row (Is R.the-row) (LL.makes R.the-type R′.the-plain 𝓤 H A) k (R′.lowered k ∷ []) kg $ fjoin ! $
-      nothing ! $ move ! (3 ∷ 0 ∷ []) $ join ! $ join ! $ nothing ! $ move ! (1 ∷ 0 ∷ []) $ join ! $ done !
+      nothing ! $ move ! (2 ∷ 0 ∷ []) $ join ! $ done !
 
   -- of the callee's `ensured`, the clause alone
   pub said : (k : Rule) (r : Bool) → ent 𝓤 (ensured 𝓤 H A rule-holds.ended (rule-holds.clauses 𝓤 H A mem run) (κ, tt) (given-to k) tt r) (fact 𝓤 (r ≡ truth k))

@@ -4,7 +4,7 @@ ghost use mathlib.Core.Path.{_≡_};
 ghost use mathlib.Core.List.{map};
 ghost use Prim.Native.Nat.{_+_, _*_, _/_, _≤_, _<_, min};
 ghost use lib.ListN.{length, getD};
-ghost use Rattle.definition.specs.Limits.{ruleSize};
+ghost use Rattle.definition.specs.Limits.{ruleSize, maxAtomicBag};
 ghost use Rattle.definition.specs.Lists.{count};
 ghost use Rattle.definition.specs.Atomic.{withinElapsed, meets, holds};
 ghost use Rattle.model_records.specs.Values.{ruleOf, rulesIn};
@@ -15,6 +15,7 @@ use clock::Stay;
 use limits::NEVER_FIELD;
 use limits::RULE_SIZE;
 use model_records::Rule;
+use std::num::wrapping_sub_u32;
 use widen::u8_to_u32;
 use widen::u32_to_u64;
 
@@ -24,14 +25,20 @@ pub enum Found {
     Nothing,
 }
 
-// How many keys of the bag lie between two.
-fn count_between(bag: &[u32], low: u32, high: u32) -> usize
+// How many keys of the bag lie between two. A bag of an atomic has at most 16,384 messages, so 16 bits are enough for a count of them. How far a
+// key lies above `low` is one comparison for two: a key below wraps to more than any width.
+fn count_between(bag: &[u32], low: u32, high: u32) -> u16
+    requires { ⌜ length (now bag) ≤ maxAtomicBag ⌝ } // so that no count overflows
     ensures { λ r. ⌜ r ≡ count (between low high) (now (bag .entry)) ⌝ }
 {
-    let mut n: usize = 0;
+    if high < low {
+        return 0;
+    }
+    let width = high - low;
+    let mut n: u16 = 0;
     for i in 0..bag.len() {
-        let key = bag[i];
-        if (low <= key) & (key <= high) {
+        let above = wrapping_sub_u32(bag[i], low);
+        if above <= width {
             n += 1;
         }
     }
@@ -39,7 +46,8 @@ fn count_between(bag: &[u32], low: u32, high: u32) -> usize
 }
 
 // How many messages of the bag meet the rule: those on its port with a value in its range lie between two keys.
-fn count_meeting(rule: Rule, bag: &[u32]) -> usize
+fn count_meeting(rule: Rule, bag: &[u32]) -> u16
+    requires { ⌜ length (now bag) ≤ maxAtomicBag ⌝ }
     ensures { λ r. ⌜ r ≡ count (meets (ruleOf rule)) (map messageOf (now (bag .entry))) ⌝ }
 {
     let port = rule.port as u32 * 65536;
@@ -70,12 +78,12 @@ fn head_of(component: u16, phase: u8) -> u32
 
 // The bag is looked at only where the other conditions hold. Component and phase are compared as heads: one test for two.
 fn rule_holds(rule: Rule, component: u16, phase: u8, elapsed: Stay, bag: &[u32]) -> bool
+    requires { ⌜ length (now bag) ≤ maxAtomicBag ⌝ }
     ensures { λ r. ⌜ r ≡ holds component phase (elapsed .0) (map messageOf (now (bag .entry))) (ruleOf rule) ⌝ }
 {
     let own = head_of(rule.component as u16, rule.phase);
     if (own == head_of(component, phase)) & within_elapsed(rule, elapsed) {
-        let least = rule.least as usize;
-        least <= count_meeting(rule, bag)
+        rule.least <= count_meeting(rule, bag)
     } else {
         false
     }
@@ -93,7 +101,7 @@ fn deciding_in(
     elapsed: Stay,
     bag: &[u32],
 ) -> Found
-    requires { ⌜ end ≤ length (now rules) ⌝ }
+    requires { ⌜ (end ≤ length (now rules)) × (length (now bag) ≤ maxAtomicBag) ⌝ }
     ensures { λ r. ⌜ foundOf r ≡ decidingIn (map ruleOf (now (rules .entry))) first end component phase (elapsed .0) (map messageOf (now (bag .entry))) ⌝ }
 {
     let mut i = first;
@@ -108,8 +116,9 @@ fn deciding_in(
     }
 }
 
-// The same in an array, which it lends: an array by value asks nothing of its callers, where a lent slice of structs asks a proof by hand.
+// The same in an array, which it lends: an array by value asks no proof by hand of its callers, where a lent slice of structs does.
 fn deciding_of(rules: [Rule; 1], component: u16, phase: u8, elapsed: Stay, bag: &[u32]) -> Found
+    requires { ⌜ length (now bag) ≤ maxAtomicBag ⌝ }
     ensures { λ r. ⌜ foundOf r ≡ decidingIn (map ruleOf rules) 0 1 component phase (elapsed .0) (map messageOf (now (bag .entry))) ⌝ }
 {
     deciding_in(&rules, 0, 1, component, phase, elapsed, bag)
@@ -136,7 +145,7 @@ fn decided_at(
     elapsed: Stay,
     bag: &[u32],
 ) -> Found
-    requires { ⌜ (i < length (now rules) / ruleSize) × (at ≡ ruleSize * i) × (head ≡ headOf component phase) ⌝ }
+    requires { ⌜ (i < length (now rules) / ruleSize) × (at ≡ ruleSize * i) × (head ≡ headOf component phase) × (length (now bag) ≤ maxAtomicBag) ⌝ }
     ensures { λ r. ⌜ foundOf r ≡ decidingIn (rulesIn (now (rules .entry))) i (i + 1) component phase (elapsed .0) (map messageOf (now (bag .entry))) ⌝ }
 {
     if head_at(rules, at) != head {
@@ -173,7 +182,7 @@ fn decided_past(
     elapsed: Stay,
     bag: &[u32],
 ) -> Found
-    requires { ⌜ min (length (now rules) / ruleSize) end ≤ i ⌝ }
+    requires { ⌜ (min (length (now rules) / ruleSize) end ≤ i) × (length (now bag) ≤ maxAtomicBag) ⌝ }
     ensures { λ r. ⌜ foundOf r ≡ decidingIn (rulesIn (now (rules .entry))) i end component phase (elapsed .0) (map messageOf (now (bag .entry))) ⌝ }
 {
     if end <= i {
@@ -196,6 +205,7 @@ pub fn deciding(
     elapsed: Stay,
     bag: &[u32],
 ) -> Found
+    requires { ⌜ length (now bag) ≤ maxAtomicBag ⌝ }
     ensures { λ r. ⌜ foundOf r ≡ decidingIn (rulesIn (now (rules .entry))) first end component phase (elapsed .0) (map messageOf (now (bag .entry))) ⌝ }
 {
     let stop = stop_before(rules, end);

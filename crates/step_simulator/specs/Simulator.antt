@@ -8,7 +8,7 @@ use Prim.Native.Nat.{ℕ, _+_, _≤_, _<_, min}
 use lib.ListN.{length, take, getD}
 use Rattle.definition.specs.Lists.{sortBy}
 use Rattle.definition.specs.Bytes.{Bytes}
-use Rattle.definition.specs.Limits.{maxComponents}
+use Rattle.definition.specs.Limits.{maxComponents, maxAtomicBag}
 use Rattle.definition.specs.Model.{Bag, messageLe}
 use Rattle.definition.specs.Devs.{Time}
 use Rattle.definition.specs.Engine.{toBag}
@@ -56,8 +56,13 @@ partOfOne phases rules tables flags room now given st i =
     let c = getD tables (numbersAt + i) 0 in
     T.partBy (phasesIn phases) tables (rulesIn rules) now st i c (isUp (marksIn flags) c) (map messageOf (take room (keysFor phases tables flags given c)))
 
--- A position whose due moment is carried.
-pub record CanChange (phases : Bytes) (tables w : List ℕ) (i : ℕ) : Type 0 where
+-- The words lent for a bag are no more than the largest one needs.
+abbrev pub Lent : ℕ → Type 0
+Lent work = work ≤ maxAtomicBag
+
+-- A position whose due moment is carried, and so many words for its bag.
+pub record CanChange (phases : Bytes) (tables w : List ℕ) (i work : ℕ) : Type 0 where
+  pub lent : Lent work
   pub position : i < maxComponents
   pub in-range : InRange tables
   pub carried : getD (endsIn w) i 0 ≡ endOf phases tables w i
@@ -73,7 +78,8 @@ abbrev pub partsOfAll : Bytes → Bytes → List ℕ → List ℕ → ℕ → �
 partsOfAll phases rules tables flags room now given n i st =
     T.partsFrom (phasesIn phases) tables (rulesIn rules) (marksIn flags) (reachedIn flags) room now (toBag given) n i st
 
-pub record Changeable (phases : Bytes) (tables : List ℕ) (n : ℕ) (w : List ℕ) : Type 0 where
+pub record Changeable (phases : Bytes) (tables : List ℕ) (n : ℕ) (w : List ℕ) (work : ℕ) : Type 0 where
+  pub lent : Lent work
   pub few : n ≤ maxComponents
   pub in-range : InRange tables
   pub carried : CarriedIn phases tables n w
@@ -92,10 +98,11 @@ pub record RootBag (room : ℕ) (work : List ℕ) (count : ℕ) (keys : List ℕ
 
 -- ---- the step
 
--- What a step at `now` asks: a moment that another may follow, tables in range, and the state's due moments.
-pub record CanStep (phases : Bytes) (tables : List ℕ) (n now : ℕ) (w : List ℕ) : Type 0 where
+-- What a step at `now` asks: a moment that another may follow, tables in range, the state's due moments, and no more words for a bag than
+-- the largest one needs.
+pub record CanStep (phases : Bytes) (tables : List ℕ) (n now : ℕ) (w : List ℕ) (work : ℕ) : Type 0 where
   pub moment : now < latest
-  pub changeable : Changeable phases tables n w
+  pub changeable : Changeable phases tables n w work
 
 -- What it leaves: the state with its due moments, the rules that decided in it over those of before, and the root's bag, sorted, in the first
 -- `count` words of `work`.

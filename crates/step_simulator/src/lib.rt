@@ -44,7 +44,7 @@ fn change_one(
     i: u8,
     work: &mut [u32],
 )
-    requires { ⌜ CanChange (now phases) (now tables) (now state) i ⌝ }
+    requires { ⌜ CanChange (now phases) (now tables) (now state) i (length (now work)) ⌝ }
     ensures { λ _. ⌜ Changed (now (phases .entry)) (now (tables .entry)) (now (state .entry)) (now (state .exit)) i
         (changedOne (now (phases .entry)) (now (rules .entry)) (now (tables .entry)) (now (flags .entry))
         (length (now (work .entry))) (at .0) (now (given .entry)) (heldIn (now (state .entry))) i)
@@ -73,7 +73,7 @@ fn change_all(
     at: Moment,
     work: &mut [u32],
 )
-    requires { ⌜ Changeable (now phases) (now tables) n (now state) ⌝ }
+    requires { ⌜ Changeable (now phases) (now tables) n (now state) (length (now work)) ⌝ }
     ensures { λ _. ⌜ AllChanged (now (phases .entry)) (now (tables .entry)) n (now (state .entry)) (now (state .exit))
         (changedAll (now (phases .entry)) (now (rules .entry)) (now (tables .entry)) (now (flags .entry))
         (length (now (work .entry))) (at .0) (now (given .entry)) n 0 (heldIn (now (state .entry))))
@@ -118,7 +118,7 @@ pub fn step_once(
     given: &[u8],
     work: &mut [u32],
 ) -> usize
-    requires { ⌜ CanStep (now phases) (now tables) n (at .0) (now state) ⌝ }
+    requires { ⌜ CanStep (now phases) (now tables) n (at .0) (now state) (length (now work)) ⌝ }
     ensures { λ r. ⌜ HasStepped (now (phases .entry)) (now (tables .entry)) n (now (state .entry)) (now (state .exit)) (now (work .exit)) r
         (tableStep (now (phases .entry)) (now (rules .entry)) (now (tables .entry)) n (length (now (work .entry)))
         (at .0) (toBag (now (given .entry))) (heldIn (now (state .entry)))) ⌝ }

@@ -112,10 +112,10 @@ unfolding changedAt
 phase-put st new i p last e l = sym (ap (λ (s : State). getD (s .phase) i 0) e ∙ getD-set-same (st .phase) i p 0 l)
 
 -- A phase that is entered, and then its due moment: the words carry that of the state that they hold.
-pub entered-ends : (phases : Bytes) (tables w₀ w w₁ : List ℕ) (i c p last : ℕ) → heldIn w ≡ changedAt (heldIn w₀) i p last → length (heldIn w₀ .phase) ≡ maxComponents
-    → endsIn w ≡ endsIn w₀ → AtomicAt phases tables w₀ i c → EndPut w w₁ i (endFor phases tables c p (getD (heldIn w .last) i 0))
+pub entered-ends : (phases : Bytes) (tables w₀ w w₁ bag : List ℕ) (i c p last : ℕ) → heldIn w ≡ changedAt (heldIn w₀) i p last → length (heldIn w₀ .phase) ≡ maxComponents
+    → endsIn w ≡ endsIn w₀ → AtomicAt phases tables w₀ i c bag → EndPut w w₁ i (endFor phases tables c p (getD (heldIn w .last) i 0))
     → endsIn w₁ ≡ set (endsIn w₀) i (endOf phases tables w₁ i)
-entered-ends phases tables w₀ w w₁ i c p last entry size ends here end =
+entered-ends phases tables w₀ w w₁ bag i c p last entry size ends here end =
     let phase = phase-put (heldIn w₀) (heldIn w) i p last entry (omega (arith, size, here .position)) in
     let named = due-named (phasesIn phases) tables (heldIn w) i c p (here .own) phase in
     end .ends ∙ rw (ends, end .held) (ap (λ u. set (endsIn w₀) i (dueNumber u)) named)

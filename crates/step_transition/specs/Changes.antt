@@ -5,9 +5,9 @@ use mathlib.Core.Option.{Option, none, some}
 use mathlib.Core.Bool.{Bool, cond}
 use lib.Dec.{ltb}
 use Prim.Native.Nat.{ℕ, _+_, _/_, _%_, _≤_, _<_}
-use lib.ListN.{getD, set}
+use lib.ListN.{length, getD, set}
 use Rattle.definition.specs.Bytes.{Bytes}
-use Rattle.definition.specs.Limits.{maxComponents, noPosition}
+use Rattle.definition.specs.Limits.{maxComponents, maxAtomicBag, noPosition}
 use Rattle.definition.specs.Model.{Bag, Rule}
 use Rattle.definition.specs.Engine.{dueNumber}
 use Rattle.definition.specs.Atomic.{toldAs}
@@ -57,12 +57,13 @@ changeOf phases rules tables now w i c due bag = changedBy (phasesIn phases) tab
 abbrev pub endOf : Bytes → List ℕ → List ℕ → ℕ → ℕ
 endOf phases tables w i = dueNumber (dueAtPosition (phasesIn phases) tables (heldIn w) i)
 
--- A position, the atomic that stands there, and its due moment carried.
-pub record AtomicAt (phases : Bytes) (tables w : List ℕ) (i c : ℕ) : Type 0 where
+-- A position, the atomic that stands there, its due moment carried, and a bag that an atomic can be handed: its messages are counted in 16 bits.
+pub record AtomicAt (phases : Bytes) (tables w : List ℕ) (i c : ℕ) (bag : List ℕ) : Type 0 where
   pub position : i < maxComponents
   pub component : c < maxComponents
   pub own : c ≡ getD tables (numbersAt + i) 0
   pub carried : getD (endsIn w) i 0 ≡ endOf phases tables w i
+  pub few : length bag ≤ maxAtomicBag
 
 -- The words hold that state, the rule of the atomic's external part, and its due moment.
 pub record Changed (phases : Bytes) (tables w₀ w : List ℕ) (i : ℕ) (after : State) (part : Option ℕ) : Type 0 where

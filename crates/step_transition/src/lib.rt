@@ -2,9 +2,9 @@
 ghost use mathlib.Core.Path.{_≡_};
 ghost use mathlib.Core.List.{map};
 ghost use mathlib.Core.Option.{some};
-ghost use Prim.Native.Nat.{_/_, _%_, _<_};
+ghost use Prim.Native.Nat.{_/_, _%_, _≤_, _<_};
 ghost use lib.ListN.{getD, length};
-ghost use Rattle.definition.specs.Limits.{maxComponents};
+ghost use Rattle.definition.specs.Limits.{maxComponents, maxAtomicBag};
 ghost use Rattle.definition.specs.Model.{noRule};
 ghost use Rattle.model_records.specs.Values.{phasesIn, rulesIn};
 ghost use Rattle.law_base.specs.Keys.{messageOf};
@@ -87,7 +87,7 @@ fn decided(
     elapsed: Stay,
     bag: &[u32],
 ) -> u32
-    requires { ⌜ c < maxComponents ⌝ }
+    requires { ⌜ (c < maxComponents) × (length (now bag) ≤ maxAtomicBag) ⌝ }
     ensures { λ r. ⌜ Led r (leadIn (now (tables .entry)) (rulesIn (now (rules .entry))) c p (elapsed .0) (map messageOf (now (bag .entry))))
         (ruleIn (now (tables .entry)) (rulesIn (now (rules .entry))) c p (elapsed .0) (map messageOf (now (bag .entry)))) ⌝ }
 {
@@ -120,7 +120,7 @@ fn confluent(
     p: u8,
     bag: &[u32],
 ) -> u32
-    requires { ⌜ c < maxComponents ⌝ }
+    requires { ⌜ (c < maxComponents) × (length (now bag) ≤ maxAtomicBag) ⌝ }
     ensures { λ r. ⌜ Led r (some (confluentIn (phasesIn (now (phases .entry))) (now (tables .entry)) (rulesIn (now (rules .entry))) c p (map messageOf (now (bag .entry)))))
         (confluentRule (phasesIn (now (phases .entry))) (now (tables .entry)) (rulesIn (now (rules .entry))) c p (map messageOf (now (bag .entry)))) ⌝ }
 {
@@ -149,7 +149,7 @@ fn lead(
     due: bool,
     bag: &[u32],
 ) -> u32
-    requires { ⌜ (i < maxComponents) × (c < maxComponents) × (length (now bag) ≡ 0 → ⊥) ⌝ }
+    requires { ⌜ (i < maxComponents) × (c < maxComponents) × (length (now bag) ≡ 0 → ⊥) × (length (now bag) ≤ maxAtomicBag) ⌝ }
     ensures { λ r. ⌜ Leads r
         (leadOf (now (phases .entry)) (now (rules .entry)) (now (tables .entry)) (at .0) (now (state .entry)) i c due (now (bag .entry)))
         (partOf (now (phases .entry)) (now (rules .entry)) (now (tables .entry)) (at .0) (now (state .entry)) i c due (now (bag .entry))) ⌝ }
@@ -176,7 +176,7 @@ pub fn transition(
     due: bool,
     bag: &[u32],
 )
-    requires { ⌜ AtomicAt (now phases) (now tables) (now state) i c ⌝ }
+    requires { ⌜ AtomicAt (now phases) (now tables) (now state) i c (now bag) ⌝ }
     ensures { λ _. ⌜ Changed (now (phases .entry)) (now (tables .entry)) (now (state .entry)) (now (state .exit)) i
         (changeOf (now (phases .entry)) (now (rules .entry)) (now (tables .entry)) (at .0) (now (state .entry)) i c due (now (bag .entry)))
         (partOf (now (phases .entry)) (now (rules .entry)) (now (tables .entry)) (at .0) (now (state .entry)) i c due (now (bag .entry))) ⌝ }

@@ -11,8 +11,8 @@ use borrow.Author.Tests.{le-leb}
 use Rattle.definition.specs.Lists.{all}
 use Rattle.definition.specs.Bytes.{Bytes, AllBytes, ok}
 use Rattle.definition.specs.Limits.{maxRoutes, maxRootBag}
-use Rattle.definition.specs.Model.{Bag, Model, tree}
-use Rattle.definition.specs.Routes.{waysFrom, rootEnds, routes}
+use Rattle.definition.specs.Model.{Bag, Model}
+use Rattle.definition.specs.Routes.{routes}
 use Rattle.definition.specs.Pinned.Decoder.{accepted}
 use Rattle.definition.specs.Devs.{transition, devsStep}
 use Rattle.definition.specs.SavedRun.{Entry}

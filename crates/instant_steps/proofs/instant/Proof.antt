@@ -144,8 +144,9 @@ returns c =
 take-step-requires : tie.Need-take-step-requires Inv-loop μ-loop
 take-step-requires c κs =
     let p : tie.At-loop Inv-loop μ-loop = search in
-    let q = start-of p .pre .steppable in
-    record { moment = q .moment; fit = q .fit; ready = p .loop .inv .ready }
+    let q = start-of p .pre in
+    let s = q .steppable in
+    record { lent = rw (p .loop .inv .words) (q .lent); steppable = record { moment = s .moment; fit = s .fit; ready = p .loop .inv .ready } }
 
 -- ---- after the step
 

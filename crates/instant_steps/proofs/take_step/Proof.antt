@@ -9,14 +9,16 @@ use Rattle.instant_steps.proofs.take_step.Tie as tie
 atomics-in-requires : tie.Need-atomics-in-requires
 atomics-in-requires c κs =
     let start : tie.Start = search in
-    start .pre .fit .in-range .atomics
+    start .pre .steppable .fit .in-range .atomics
 
 step-once-requires : tie.Need-step-once-requires
 step-once-requires c κs =
     let start : tie.Start = search in let after-atomics-in : tie.After-atomics-in = search in
-    let q = start .pre in
-    rw (after-atomics-in .atomics-in .ensures)
-    (record { moment = q .moment; changeable = record { few = q .fit .in-range .atomics; in-range = q .fit .in-range; carried = q .ready .carried } })
+    let q = start .pre .steppable in
+    rw (after-atomics-in .atomics-in .ensures) (record {
+      moment = q .moment;
+      changeable = record { lent = start .pre .lent; few = q .fit .in-range .atomics; in-range = q .fit .in-range; carried = q .ready .carried };
+    })
 
 returns : tie.Need-returns
 returns c =
@@ -28,7 +30,7 @@ returns c =
     record {
       state = p .held ∙ s .state;
       rules = p .rules ∙ s .rules;
-      ready = ready-next (now (a .phases)) (now (a .tables)) _ _ _ (start .pre .fit) (s .carried) (after-next-end .next-end .ensures) p;
+      ready = ready-next (now (a .phases)) (now (a .tables)) _ _ _ (start .pre .steppable .fit) (s .carried) (after-next-end .next-end .ensures) p;
       size = s .size;
       bag = s .bag;
     }

@@ -33,6 +33,7 @@ use denote.Triple.Entry.{Vals, Args, onEntry}
 use denote.Triple.Spec.{Meets, tripleOf}
 use denote.Triple.Table.{entered, cited}
 use denote.Triple.Walked.{needs, goes-dropped, Walks, walked, walk-meets}
+use Rattle.definition.specs.Limits.{maxAtomicBag}
 use Rattle.model_records.specs.declared.Rule.{Rule}
 use Rattle.model_records.proofs.Rule as R
 use Rattle.clock.specs.declared.Stay.{Stay}
@@ -60,11 +61,11 @@ module _ {M : Type 1} (𝓤 : URA M) (H : Heap 𝓤) (A : Atoms 𝓤) (W : Given
   vals = sliceVal (b, o) (length ys) ∷ vint w16 from-i ∷ vint w16 end ∷ vint w16 c ∷ vint w8 p ∷ S′.lowered e ∷ bag-val bag ∷ []
 
   -- the MIR up to the loop
-  walk : (𝓣 : Tables 𝓤 H) → Triple 𝓤 (𝓣 .C #step-rule·rule-holds) (RuleHolds 𝓤 H A mem run) → end ≤ length ys → Room R.the-row (length ys) → Room u32 (length (now bag))
-      → from-i < 2 ^ 16 → end < 2 ^ 16 → c < 2 ^ 16 → p < 2 ^ 8 → Is S.the-row e (S′.lowered e ∷ [])
+  walk : (𝓣 : Tables 𝓤 H) → Triple 𝓤 (𝓣 .C #step-rule·rule-holds) (RuleHolds 𝓤 H A mem run) → end ≤ length ys → length (now bag) ≤ maxAtomicBag
+      → Room R.the-row (length ys) → Room u32 (length (now bag)) → from-i < 2 ^ 16 → end < 2 ^ 16 → c < 2 ^ 16 → p < 2 ^ 8 → Is S.the-row e (S′.lowered e ∷ [])
       → ent 𝓤 (onEntry 𝓤 H A deciding-in.signature (κ, (κ′, tt)) (q, (q′, tt)) passed as-passed)
       (WpFn 𝓤 H (𝓣 .C) (𝓣 .Λ) code.function vals (Post 𝓤 H A W mem run κ κ′ q q′ b o γ ys from-i end c p e bag))
-  walk 𝓣 known within room bag-room fg fits cg pg eg =
+  walk 𝓣 known within few room bag-room fg fits cg pg eg =
       qed W (raw (onEntry 𝓤 H A deciding-in.signature (κ, (κ′, tt)) (q, (q′, tt)) passed as-passed) ∷ []) ∵ enter ! (𝓣 .C) (𝓣 .Λ) code.function vals _ $
       alloc1 ! (λ l₀. alloc1 ! (λ l₁. alloc1 ! (λ l₂. alloc1 ! (λ l₃. alloc1 ! (λ l₄. alloc1 ! (λ l₅. alloc1 ! (λ l₆. alloc1 ! (λ l₇. alloc1 ! (λ l₈. alloc1 ! (λ l₉.
       alloc1 ! (λ l₁₀. alloc1 ! (λ l₁₁. alloc1 ! (λ l₁₂. alloc1 ! (λ l₁₃. alloc1 ! (λ l₁₄. alloc1 ! (λ l₁₅. alloc0 ! $ params1 ! $
@@ -77,7 +78,7 @@ module _ {M : Type 1} (𝓤 : URA M) (H : Heap 𝓤) (A : Atoms 𝓤) (W : Given
       (apart 𝓤 H A W mem run κ κ′ q q′ b o γ ys from-i end c p e bag) $
       split ! $ move ! (1 ∷ []) $ split ! $ move ! (1 ∷ []) $ split ! $ move ! (3 ∷ 2 ∷ 0 ∷ 1 ∷ []) $
       searched 𝓤 H A W mem run κ κ′ q q′ b o γ ys from-i end c p e bag
-      𝓣 known within room fits cg pg eg l₀ l₁ l₂ l₃ l₄ l₅ l₆ l₇ l₈ l₉ l₁₀ l₁₁ l₁₂ l₁₃ l₁₄ l₁₅ fg))))))))))))))))
+      𝓣 known within few room fits cg pg eg l₀ l₁ l₂ l₃ l₄ l₅ l₆ l₇ l₈ l₉ l₁₀ l₁₁ l₁₂ l₁₃ l₁₄ l₁₅ fg))))))))))))))))
 
 module _ {M : Type 1} (𝓤 : URA M) (H : Heap 𝓤) (A : Atoms 𝓤) (W : Given 𝓤 H A) (mem : Memory → SProp 𝓤) (run : Routine → Fun 𝓤) (𝓣 : Tables 𝓤 H)
     (known : Triple 𝓤 (𝓣 .C #step-rule·rule-holds) (RuleHolds 𝓤 H A mem run)) where
@@ -103,10 +104,10 @@ module _ {M : Type 1} (𝓤 : URA M) (H : Heap 𝓤) (A : Atoms 𝓤) (W : Given
           ),
         ),
       ))
-      (λ κs qs bounds a g are. needs 𝓤 _ _ (λ within.
+      (λ κs qs bounds a g are. needs 𝓤 _ _ (λ asked.
       walk 𝓤 H A W mem run (κs .0) (κs .1 .0) (qs .0) (qs .1 .0) (a .0 .ptr .0) (a .0 .ptr .1) (a .0 .name) (a .0 .now) (a .1 .0) (a .1 .1 .0) (a .1 .1 .1 .0) (a .1 .1 .1 .1 .0)
       (a .1 .1 .1 .1 .1 .0) (a .1 .1 .1 .1 .1 .1 .0)
-      𝓣 known within (are .0 .0 .1) (are .1 .1 .1 .1 .1 .1 .0 .0 .1) (are .1 .0 .1) (are .1 .1 .0 .1) (are .1 .1 .1 .0 .1) (are .1 .1 .1 .1 .0 .1) (are .1 .1 .1 .1 .1 .0)))
+      𝓣 known (asked .0) (asked .1) (are .0 .0 .1) (are .1 .1 .1 .1 .1 .1 .0 .0 .1) (are .1 .0 .1) (are .1 .1 .0 .1) (are .1 .1 .1 .0 .1) (are .1 .1 .1 .1 .0 .1) (are .1 .1 .1 .1 .1 .0)))
 
   deciding-in-meets : Meets 𝓤 H A deciding-in.signature (WpFn 𝓤 H (𝓣 .C) (𝓣 .Λ) code.function) (deciding-in.spec 𝓤 H A mem run)
   deciding-in-meets = walk-meets 𝓤 H A deciding-in.ended stayed W (

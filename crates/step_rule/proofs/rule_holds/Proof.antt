@@ -25,7 +25,8 @@ returns : tie.Need-returns
 unfolding holds
 returns c =
     let then1 : tie.Then1 = search in let after-within-elapsed : tie.After-within-elapsed = search in
-    rw (c .count-meeting .ensures, sym (after-within-elapsed .within-elapsed .ensures), sym (named after-within-elapsed), then1 .if1 .taken)
+    let after-count-meeting : tie.After-count-meeting = search in
+    rw (after-count-meeting .count-meeting .ensures, sym (after-within-elapsed .within-elapsed .ensures), sym (named after-within-elapsed), then1 .if1 .taken)
 
 returns-2 : tie.Need-returns-2
 unfolding holds
@@ -33,4 +34,4 @@ returns-2 c = rw (sym (c .before .within-elapsed .ensures), sym (named (c .befor
 
 pub rule-holds-spec : {M : Type 1} → statement M
 rule-holds-spec =
-    tie.close (tie.spec (λ c. search needs) (λ c κs. search needs) (λ c κs. search needs) (λ c κs. search needs) (λ c. search needs) (λ c κs. search needs) returns returns-2)
+    tie.close (tie.spec (λ c. search needs) (λ c κs. search needs) (λ c κs. search needs) (λ c κs. search needs) (λ c κs. search needs) returns returns-2)

@@ -39,7 +39,7 @@ change-one-requires : tie.Need-change-one-requires Inv-loop μ-loop
 change-one-requires c κs =
     let start : tie.Start Inv-loop μ-loop = search in let at-loop : tie.At-loop Inv-loop μ-loop = search in
     let l = at-loop .loop in
-    record { position = omega (arith, start .pre .few); in-range = start .pre .in-range; carried = l .inv .3 (l .i) (omega arith) }
+    record { lent = rw (l .inv .1) (start .pre .lent); position = omega (arith, start .pre .few); in-range = start .pre .in-range; carried = l .inv .3 (l .i) (omega arith) }
 
 loop-again : tie.Need-loop-again Inv-loop μ-loop
 loop-again c =

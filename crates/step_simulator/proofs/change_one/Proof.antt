@@ -90,9 +90,10 @@ slice-aggregate-bag c =
 
 transition-requires : tie.Need-transition-requires
 transition-requires c κs =
-    let start : tie.Start = search in let row : tie.After-row-in = search in
+    let start : tie.Start = search in let row : tie.After-row-in = search in let after-collect-bag : tie.After-collect-bag = search in
     let q = start .pre in
-    record { position = q .position; component = numbered row; own = row .row-in .ensures; carried = q .carried }
+    let f = pulled after-collect-bag in
+    record { position = q .position; component = numbered row; own = row .row-in .ensures; carried = q .carried; few = rw length-take (omega (arith, f .size, q .lent)) }
 
 returns-2 : tie.Need-returns-2
 unfolding isUp

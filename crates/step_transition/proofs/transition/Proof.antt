@@ -52,7 +52,7 @@ returns c =
     rw (is-due .if2 .taken) (record {
       state = end .held ∙ set ∙ led-into (a .at .0) st (a .i) _ _ led;
       rules = end .rules ∙ entry .rules ∙ still-rules ps (now (a .tables)) rs (a .at .0) st (a .i) (a .c) _ _ (now (a .bag)) (empty .if1 .taken);
-      ends = entered-ends (now (a .phases)) (now (a .tables)) (now (a .state)) _ _ (a .i) (a .c) (after-next-of .next-of .result) (a .at .0) set (held-size (now (a .state)) (after-whole .whole .ensures) .0) (entry .ends) (start .pre) end;
+      ends = entered-ends (now (a .phases)) (now (a .tables)) (now (a .state)) _ _ _ (a .i) (a .c) (after-next-of .next-of .result) (a .at .0) set (held-size (now (a .state)) (after-whole .whole .ensures) .0) (entry .ends) (start .pre) end;
     })
 
 -- nothing is due, and nothing comes
@@ -73,7 +73,7 @@ returns-2 c =
 lead-requires : tie.Need-lead-requires
 lead-requires c κs =
     let start : tie.Start = search in let else1 : tie.Else1 = search in
-    (start .pre .position, start .pre .component, else1 .if1 .left)
+    (start .pre .position, start .pre .component, else1 .if1 .left, start .pre .few)
 
 put-no-rule-requires : tie.Need-put-no-rule-requires
 put-no-rule-requires c κs = let k : tie.After-u8-to-usize = search in within k
@@ -118,7 +118,7 @@ returns-4 c =
     record {
       state = end .held ∙ set ∙ led-into (a .at .0) st (a .i) _ _ (sym byte ∙ leads .phase);
       rules = end .rules ∙ entry .rules ∙ (rw at-i (put-some (lastRulesIn (now (a .state))) (a .i) _ _ told));
-      ends = entered-ends (now (a .phases)) (now (a .tables)) (now (a .state)) _ _ (a .i) (a .c) (after-phase-told .phase-told .result) (a .at .0) set (held-size (now (a .state)) (after-whole .whole .ensures) .0) (entry .ends) (start .pre) end;
+      ends = entered-ends (now (a .phases)) (now (a .tables)) (now (a .state)) _ _ _ (a .i) (a .c) (after-phase-told .phase-told .result) (a .at .0) set (held-size (now (a .state)) (after-whole .whole .ensures) .0) (entry .ends) (start .pre) end;
     }
 
 pub transition-spec : {M : Type 1} → statement M

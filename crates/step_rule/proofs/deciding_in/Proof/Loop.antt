@@ -43,6 +43,7 @@ use denote.Triple.Call.{calls-at}
 use denote.Triple.Entry.{Vals, Args, onEntry}
 use denote.Triple.Walked.{says, Stays, stay-dropped, walkOf, ends-at}
 use denote.Triple.Clauses.{ensured}
+use Rattle.definition.specs.Limits.{maxAtomicBag}
 use Rattle.law_base.specs.Keys.{messageOf}
 use Rattle.spec_step.specs.TableStep.{decidingIn}
 use Rattle.model_records.specs.Values.{ruleOf}
@@ -138,7 +139,7 @@ module _ {M : Type 1} (𝓤 : URA M) (H : Heap 𝓤) (A : Atoms 𝓤) (W : Given
   Upto = Position Reached
 
   module _ (𝓣 : Tables 𝓤 H) (known : Triple 𝓤 (𝓣 .C #step-rule·rule-holds) (RuleHolds 𝓤 H A mem run)) (within : end ≤ length ys)
-      (room : Room R.the-row (length ys)) (fits : end < 2 ^ 16) (cg : c < 2 ^ 16) (pg : p < 2 ^ 8) (eg : Is S.the-row e (S′.lowered e ∷ []))
+      (few : length (now bag) ≤ maxAtomicBag) (room : Room R.the-row (length ys)) (fits : end < 2 ^ 16) (cg : c < 2 ^ 16) (pg : p < 2 ^ 8) (eg : Is S.the-row e (S′.lowered e ∷ []))
       (l₀ l₁ l₂ l₃ l₄ l₅ l₆ l₇ l₈ l₉ l₁₀ l₁₁ l₁₂ l₁₃ l₁₄ l₁₅ : ℕ) where
     abbrev pub C : Calls 𝓤 H
     C = 𝓣 .C
@@ -198,7 +199,7 @@ module _ {M : Type 1} (𝓤 : URA M) (H : Heap 𝓤) (A : Atoms 𝓤) (W : Given
         assigns ! (of-opd ! (load ! (from ! (hop ! (look ! 9 refl) (stop !))) (look-raw ! 0 refl))) (from ! (stop !)) (init ! 7 refl (LL.lawful R.the-type R′.the-laws 𝓤 H A W .typed k _ g .0)) $
         elem-back ! R.the-row s ys (i .0) zero-rule (R′.lowered k ∷ []) b o inside $ shuts-slice ! tt R.the-row s ys b o $
         -- [the rules' token; the fractured borrow; the bag's token; the bag; _15; …]
-        move ! (2 ∷ 3 ∷ []) $ use2 W (raw (RuleHolds 𝓤 H A mem run .pre (asks k)) ⊛ ‵ (BagOwn κ′ bag)) (asked 𝓤 H A W mem run κ′ q′ c p e bag k g cg pg eg) $ split ! $
+        move ! (2 ∷ 3 ∷ []) $ use2 W (‵ (BagOwn κ′ bag) ⊛ raw (RuleHolds 𝓤 H A mem run .pre (asks k))) (asked 𝓤 H A W mem run κ′ q′ c p e bag k g cg pg eg few) $ split ! $ move ! (1 ∷ []) $
         calls-at ! (fmOf 𝓤 H (W .laws) 𝓣) (RuleHolds 𝓤 H A mem run) known (asks k) (and-then ! (load ! (from ! (stop !)) (look ! 4 refl)) (and-then ! (load ! (from ! (stop !)) (look ! 26 refl))
         (and-then ! (load ! (from ! (stop !)) (look ! 24 refl)) (and-then ! (load ! (from ! (stop !)) (look ! 22 refl)) (and-then ! (load ! (from ! (stop !)) (look ! 20 refl)) (no-more !)))))) (λ u.
         use1 W (later (some (λ (r : Bool). ((‵ (flft κ′ q′) ⊛ ‵ ftrue) ⊛ ‵ (Boolean .own r (u ∷ []))) ⊛
