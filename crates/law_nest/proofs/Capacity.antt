@@ -147,5 +147,10 @@ module _ (m : Model) (w : WellFormed m) (at : ℕ → Entry) (now : ℕ) where
           let bag = bagAt m at now a (root m) x in
           let u = up-tree m at now a (λ z. 1) (root m) rootEnds ready in
           let d = down-tree m at now a (λ z. 1) (root m) x in
-          let c = routes-carry m a n (hits a (λ z. 1) (endsIn (m .couplings) (root m)) x) (waysSum m at now a (λ z. 1) rootEnds (root m)) most (rw (shape m w) (route-carries a n 0 (endsIn (m .couplings) (root m)) x given ports)) (rw (shape m w) (ways-carry-few a rootEnds (root m))) in
+          let ks = m .couplings in
+          let into : hits a (λ z. 1) (endsIn ks (root m)) x ≤ n * endingAt a (joinedAll 0 (endsIn ks (tree m)))
+          = rw (shape m w) (route-carries a n 0 (endsIn ks (root m)) x given ports) in
+          let sent : waysSum m at now a (λ z. 1) rootEnds (root m) ≤ maxOutputs * endingAt a (waysFrom ks rootEnds (tree m))
+          = rw (shape m w) (ways-carry-few a rootEnds (root m)) in
+          let c = routes-carry m a n _ _ most into sent in
           omega (arith, u, d, c, sum-ones bag, mul-le-mul-left n (ending-most a (routes m)))

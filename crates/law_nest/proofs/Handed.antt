@@ -71,7 +71,12 @@ module _ (m : Model) where
         handed-few (leaf c) s b x ends =
             let p = phaseAt m c (s .phase) in
             let y = outputs p in
-            omega (arith, hits-leaf (m .couplings) a (λ z. 1) c x, ap (λ k. cond (eqb c a) k 0) (sum-ones x), route-carries a maxOutputs c ends (cond b y []) (few-if b maxOutputs y (outputs-few p)) (fit-if b y (outputs-fit m w c (s .phase))))
+            omega (
+              arith,
+              hits-leaf (m .couplings) a (λ z. 1) c x,
+              ap (λ k. cond (eqb c a) k 0) (sum-ones x),
+              route-carries a maxOutputs c ends (cond b y []) (few-if b maxOutputs y (outputs-few p)) (fit-if b y (outputs-fit m w c (s .phase))),
+            )
         handed-few (node c f) s b x ends =
             let ps = sending (imminentIn f s b) f s in
             omega (
