@@ -1,19 +1,20 @@
--- The largest bag of an atomic: 16 given messages along 1,024 routes are 16,384. Rows where a rule wants as many, and one more; and what comes up
--- from the step tells just that many, so that the limit of request (iv) is met. Assumes nothing.
+-- The largest bag of an atomic: 16 given messages along 1,024 routes are 16,384. Rows where a rule wants as many, and one more; and just so many
+-- come up from the step and arrive in the flat machine, so that the limit of request (iv) is met. Assumes nothing.
 use mathlib.Core.Path.{_≡_, refl}
 use Prim.Native.Nat.{ℕ}
 use mathlib.Core.List.{List, [], _∷_, _++_, map}
-use lib.ListN.{replicate}
+use lib.ListN.{length, replicate}
 use Rattle.definition.specs.Lists.{concat}
 use Rattle.definition.specs.Bytes.{Bytes}
 use Rattle.definition.specs.Limits.{neverField, maxAtomicBag}
-use Rattle.definition.specs.Model.{Model, noComponent, tree}
+use Rattle.definition.specs.Model.{Bag, Model, noComponent, tree}
 use Rattle.definition.specs.File.{modelBytes}
 use Rattle.definition.specs.Devs.{Decided, devsStep}
 use Rattle.definition.specs.Step.{load}
 use Rattle.definition.specs.SavedRun.{noEntry}
 use Rattle.definition.specs.Engine.{toBag}
 use Rattle.definition.specs.Flatten.{flat}
+use Rattle.definition.specs.FlatMachine.{allSent, arriving}
 use Rattle.definition.specs.Calls.{startCall, startAnswer, engine, flatMachine}
 use Rattle.definition.specs.Carrying.{rootOf}
 use Rattle.definition.proofs.Models.{coupledIn, atomicIn, silent, onValue, link}
@@ -40,25 +41,40 @@ heard least phase = record {
   run = saved 1 ((phase, 0) ∷ []) ++ zeros 9;
 }
 
-unfoldable pub largest : List Row
-largest = heard 16384 1 ∷ heard 16385 0 ∷ []
+-- The rule that wants as many decides, and the one that wants one more does not.
+unfoldable pub enough : List Row
+enough = heard 16384 1 ∷ []
 
--- What comes up from the step: the rule decides at 16,384, and the bag has just as many messages.
+unfoldable pub oneMore : List Row
+oneMore = heard 16385 0 ∷ []
+
+-- What comes up from the step of the nest, and what arrives at the atomic, number 1 of the flat form.
 unfoldable pub toldOf : Model → List Decided
 toldOf m = devsStep (rootOf m) 0 (toBag sixteen) (record { state = load m (λ _. noEntry) 0 (tree m); event = 0 }) .1 .decided
 
+unfoldable pub arrivedIn : Model → Bag
+arrivedIn m = arriving m 0 1 (allSent m 0 (toBag sixteen) (noEntry ∷ []))
+
 unfoldable pub bagged : Type 0
-unfolding tabled hearing sixteen heard largest toldOf
+unfolding tabled hearing sixteen heard enough oneMore toldOf arrivedIn
 bagged = Unit {0}
 
-pub engine-largest : map (actual (λ m. engine (modelBytes m))) largest ≡ map expected largest
+pub engine-enough : map (actual (λ m. engine (modelBytes m))) enough ≡ map expected enough
 unfolding bagged
-engine-largest = refl
+engine-enough = refl
 
-pub flat-largest : map (actual (λ m. flatMachine (modelBytes (flat m)))) largest ≡ map expected largest
+pub flat-enough : map (actual (λ m. flatMachine (modelBytes (flat m)))) enough ≡ map expected enough
 unfolding bagged
-flat-largest = refl
+flat-enough = refl
+
+pub engine-one-more : map (actual (λ m. engine (modelBytes m))) oneMore ≡ map expected oneMore
+unfolding bagged
+engine-one-more = refl
 
 pub told-largest : toldOf (hearing 16384) ≡ record { atomic = 2; position = 0; messages = maxAtomicBag } ∷ []
 unfolding bagged
 told-largest = refl
+
+pub arrived-largest : length (arrivedIn (flat (hearing 16384))) ≡ maxAtomicBag
+unfolding bagged
+arrived-largest = refl
