@@ -24,7 +24,7 @@ agree() {
 
 # The kept files are those that their source makes.
 python3 "$here/make.py" "$made" || failed=1
-for kept in "$here"/*.bin "$here"/*.model; do
+for kept in "$here"/*.bin "$here"/*.model "$here"/*.feed; do
   agree "make.py $(basename "$kept")" "$kept" "$made/$(basename "$kept")"
 done
 
@@ -138,6 +138,38 @@ awk 'BEGIN { for (t = 0; t < 86400000; t += 5000) print t, 0, 7 + t / 5000 % 2; 
   archive list "$made" | sed "s:$made:.:"
 } >"$made/day.out"
 agree 'archive day' "$here/day.archived" "$made/day.out"
+
+# Feeds: the worked run, the cues that the inserter takes, a day of cues through a trace of any length; and refusals.
+build feed "$here/feed.c"
+build_as_cpp feed_as_cpp "$here/feed.c"
+feed() {
+  "$made/feed" "$@" 2>&1
+  echo "status $?"
+}
+model cue_source
+"$made/feed" "$here/captions.model" "$here/captions.feed" 8000 | grep '^[0-9].*:' >"$made/captions.fed"
+agree 'feed of the captions' "$made/captions.records" "$made/captions.fed"
+"$made/feed" "$here/captions.model" "$here/day.feed" 86400000 >"$made/day.whole"
+for room in 15 29 65536; do
+  "$made/feed_as_cpp" "$here/captions.model" "$here/day.feed" 86400000 "$room" >"$made/day.parts"
+  agree "feed of a day, $room bytes a call" "$made/day.whole" "$made/day.parts"
+done
+{
+  feed "$made/cue_source.model" "$here/cue_source.feed" 30
+  grep -c : "$made/day.whole"
+  head -n 5 "$made/day.whole"
+  tail -n 5 "$made/day.whole"
+  head -c 20 "$here/captions.feed" >"$made/cut.feed"
+  feed "$here/captions.model" "$made/cut.feed" 8000
+  feed "$here/captions.model" "$here/captions.feed" 4999
+  feed "$here/captions.model" "$here/captions.feed" 1000000000001
+  feed "$made/jam.model" "$here/captions.feed" 8000
+  feed "$here/captions.model" "$here/captions.feed" 8000 14
+  feed "$made/bad_rule.model" "$here/captions.feed" 8000
+  feed "$here/captions.model" "$here/captions.feed" noon
+  feed "$here/captions.model" "$made/none.feed" 8000 | sed "s:$made:.:"
+} >"$made/day.out"
+agree 'feeds' "$here/day.fed" "$made/day.out"
 
 # The heaviest calls on a stack of 256 KiB.
 build stack "$top/host/stack/stack.c"

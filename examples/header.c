@@ -111,12 +111,40 @@ static void by_columns(void) {
     holds(pdevs_trace_to_columns(records, sizeof records, columns, sizeof records).number == PDEVS_BUFFER_TOO_SHORT, "no room");
 }
 
+/* Two bags laid out by the places that the header names: run to their end, too early for it, and cut. */
+static void by_feed(void) {
+    enum { FIRST = PDEVS_FEED_HEAD_SIZE, SECOND = FIRST + PDEVS_FEED_BAG_SIZE(1), LENGTH = SECOND + PDEVS_FEED_BAG_SIZE(0) };
+    uint8_t feed[LENGTH] = {0};
+    pdevs_fed f;
+    feed[PDEVS_FEED_BAG_COUNT] = 2;
+    feed[FIRST + PDEVS_FEED_BAG_MOMENT] = 1;
+    feed[FIRST + PDEVS_FEED_BAG_MESSAGE_COUNT] = 1;
+    feed[FIRST + PDEVS_FEED_BAG_HEAD_SIZE + PDEVS_MESSAGE_PORT] = 3;
+    feed[SECOND + PDEVS_FEED_BAG_MOMENT] = 3;
+    holds(start() == PDEVS_OK, "a start");
+    f = pdevs_advance_feed(model, sizeof model, run, sizeof run, 4, feed, LENGTH - 1, trace, sizeof trace);
+    holds(f.number == PDEVS_BAD_FEED && f.bags == 0, "a cut feed");
+    f = pdevs_advance_feed(model, sizeof model, run, sizeof run, 2, feed, LENGTH, trace, sizeof trace);
+    holds(f.number == PDEVS_BAD_MOMENT && f.bags == 0, "an end before the last bag");
+    f = pdevs_advance_feed(model, sizeof model, run, sizeof run, 4, feed, LENGTH, trace, sizeof trace);
+    holds(f.number == PDEVS_OK && f.bags == 2, "a feed");
+    holds(f.instants == 4 && f.steps == 4, "a feed's instants and steps");
+    holds(f.trace_bytes == 4 * (PDEVS_RECORD_HEAD_SIZE + PDEVS_MESSAGE_SIZE), "a feed's records");
+    f = pdevs_advance_feed(model, sizeof model, run, sizeof run, 9, feed, FIRST, trace, sizeof trace);
+    holds(f.number == PDEVS_BAD_FEED, "a count of bags that are not there");
+    feed[PDEVS_FEED_BAG_COUNT] = 0;
+    f = pdevs_advance_feed(model, sizeof model, run, sizeof run, 99, feed, FIRST, trace, sizeof trace);
+    holds(f.number == PDEVS_BUFFER_TOO_SHORT && f.bags == 0 && f.instants == 6, "no bag, and a trace too short");
+}
+
 int main(void) {
     numbers();
     calls();
     by_columns();
+    by_feed();
+    holds(PDEVS_MAX_FEED == 57002, "the longest feed");
     holds(PDEVS_MAX_RUN == 577, "the longest run");
     holds(PDEVS_MAX_RULES_TABLE == 126, "the longest rules table");
-    holds(strcmp(PDEVS_VERSION, "2.1") == 0, "the version");
+    holds(strcmp(PDEVS_VERSION, "2.2") == 0, "the version");
     return failed;
 }

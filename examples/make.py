@@ -2,7 +2,8 @@
 """Writes the example files, from models that can be read here: make.py [FOLDER], by default this one.
 
 NAME.bin is an input of the printing program, an end moment (8 bytes) and a model file; NAME.txt beside it is what the program
-must print. NAME.model is a model file alone: for the inserter and the archive with its NAME.cues, and for the test of the stack.
+must print. NAME.model is a model file alone: for the inserter and the archive with its NAME.cues, for the program that runs a feed
+with its NAME.feed, and for the test of the stack.
 """
 import pathlib
 import struct
@@ -179,6 +180,31 @@ def deep():
     return m
 
 
+def feed(bags):
+    """A list of bags prepared beforehand: moments with what is given there, a list of (port, value)."""
+    content = struct.pack("<H", len(bags))
+    for moment, messages in bags:
+        content += struct.pack("<QB", moment, len(messages)) + b"".join(struct.pack("<BH", *message) for message in messages)
+    return content
+
+
+def worked_cues():
+    """A bag that reaches nothing, and two without messages: they are steps or stops, and the worked run stays as it is."""
+    return [(5, [(0, 5)]), (10, []), (25, [])]
+
+
+def caption_cues():
+    """The cues of captions.cues."""
+    return [(0, [(0, 7)]), (1000, [(0, 8)]), (1500, [(0, 7), (0, 8), (0, 9)]), (5000, [(0, 7)])]
+
+
+def day_of_cues():
+    """A day of captions: a cue in every five minutes, 7 and 8 by turns, and at each hour a bag without messages."""
+    five_minutes, hour, day = 300000, 3600000, 86400000
+    cues = [(k * five_minutes + k * 7919 % five_minutes, [(0, 7 + k % 2)]) for k in range(day // five_minutes)]
+    return sorted(cues + [(k * hour, []) for k in range(1, 24)])
+
+
 def run(end, file):
     return struct.pack("<Q", end) + file
 
@@ -199,6 +225,9 @@ FILES = {
     "full_root_bag.model": full_root_bag().file(),
     "deep.model": deep().file(),
     "largest.model": largest().file(),
+    "cue_source.feed": feed(worked_cues()),
+    "captions.feed": feed(caption_cues()),
+    "day.feed": feed(day_of_cues()),
 }
 
 if __name__ == "__main__":

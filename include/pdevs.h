@@ -1,6 +1,6 @@
 /*
- * A Parallel DEVS timing engine: reads a model, starts a run, advances it, reads it, flattens a model, and rearranges what a
- * run has written.
+ * A Parallel DEVS timing engine: reads a model, starts a run, advances it, by one bag or by a feed of many, reads it, flattens a
+ * model, and rearranges what a run has written.
  *
  * Every function is proved, for all bytes and numbers put in: the numbers it answers and the whole content of each lent
  * buffer are those of the engine's definitions. What the functions ask of the caller is at the end of this comment.
@@ -24,11 +24,15 @@
  *
  * A bag has 3 bytes for each message: port (1), value (2). At most 16 messages, in any order.
  *
+ * A feed is a list of bags that was prepared beforehand, a day's cues for example: bag count (2, at most 1,000), then for each bag
+ * its moment (8), its message count (1, 0 to 16) and its messages, 3 bytes each as in a bag. The moments rise strictly, none is
+ * above 1,000,000,000,000, and nothing follows the last bag. PDEVS_MAX_FEED bytes, 57,002, hold any feed.
+ *
  * A trace has a record for each step with output at the root: moment (8), step in its instant from 0 (2), message count (2),
  * and 3 bytes for each message, in rising order of port, then value. The pairs of moment and step rise strictly, moment first.
  * The traces of successive advances, each given the run buffer as the one before left it, joined in turn are one trace, up to
  * 4,294,967,295 records, whichever model each of them runs: refused advances add nothing to it, and those that 13, 14 or 15 ended
- * add the instants done. A start begins another one.
+ * add the instants done. So the trace of a feed is one, and is joined like that of an advance. A start begins another one.
  *
  * A trace by columns has the same numbers in another order, for archives, where moments are searched and like stands beside like:
  * record count (4), all moments (8 each), all steps (2), all message counts (2), all ports (1), all values (2). It has
@@ -38,8 +42,8 @@
  * the file, counted in rules from 0, or PDEVS_NO_RULE. PDEVS_MAX_RULES_TABLE bytes, 126, hold the table of any model.
  *
  * A call answers a number: 0 is success, the others are refusals. PDEVS_NUMBERS below has them all, with names and words, in
- * the order of the checks. With 1 to 12 and 16 to 18, and with 15 from every call but advance, every other number answered is 0
- * and no byte of any buffer is changed. 13, 14 and 15 from advance keep what was done before: see there.
+ * the order of the checks. With 1 to 12 and 16 to 19, and with 15 from every call but the two that advance a run, every other
+ * number answered is 0 and no byte of any buffer is changed. 13, 14 and 15 from these two keep what was done before: see there.
  *
  * What is asked of the caller:
  *   - a pointer is not null, also where its length is 0, and is valid for its length (readable; writable where not const);
@@ -56,8 +60,8 @@
 
 /* The version of this interface: the minor number rises where something is added, the major where programs must change. */
 #define PDEVS_VERSION_MAJOR 2
-#define PDEVS_VERSION_MINOR 1
-#define PDEVS_VERSION PDEVS_VERSION_OF(PDEVS_VERSION_MAJOR, PDEVS_VERSION_MINOR) /* the same as a text, "2.1" */
+#define PDEVS_VERSION_MINOR 2
+#define PDEVS_VERSION PDEVS_VERSION_OF(PDEVS_VERSION_MAJOR, PDEVS_VERSION_MINOR) /* the same as a text, "2.2" */
 #define PDEVS_VERSION_OF(major, minor) PDEVS_VERSION_TEXT(major, minor)
 #define PDEVS_VERSION_TEXT(major, minor) #major "." #minor
 
@@ -77,7 +81,8 @@
     ROW(2, PDEVS_MODEL_LEFT_OVER, "bytes are left over at the end of the model file")                                    \
     ROW(9, PDEVS_TOO_MANY_ROUTES, "there are more than 1,024 routes")                                                    \
     ROW(10, PDEVS_RUN_DOES_NOT_FIT, "the saved run is too short, or does not fit the model")                             \
-    ROW(11, PDEVS_BAD_MOMENT, "the moment lies before the open moment, or above 1,000,000,000,000")                      \
+    ROW(19, PDEVS_BAD_FEED, "the feed breaks its layout, or has a port above 3, or bytes are left over")                 \
+    ROW(11, PDEVS_BAD_MOMENT, "a moment lies before the open moment or a feed's last bag, or above 1,000,000,000,000")   \
     ROW(12, PDEVS_BAD_BAG, "the bag's length is no multiple of 3, or it has over 16 messages, or a port above 3")        \
     ROW(13, PDEVS_STILL_DUE, "something is still due at a moment after 1,024 steps there")                               \
     ROW(14, PDEVS_ROOT_BAG_LIMIT, "a step's bag at the root has over 4,096 messages")                                    \
@@ -86,7 +91,7 @@
     ROW(15, PDEVS_BUFFER_TOO_SHORT, "the records pass the end of the lent trace, or the lent buffer is too short")       \
     ROW(16, PDEVS_BAD_POSITION, "the position is at or above the number of atomics")
 
-/* PDEVS_OK to PDEVS_NOT_COLUMNS. */
+/* PDEVS_OK to PDEVS_BAD_FEED. */
 #define PDEVS_NAMED(number, name, words) name = number,
 enum pdevs_number { PDEVS_NUMBERS(PDEVS_NAMED) };
 #undef PDEVS_NAMED
@@ -99,6 +104,15 @@ enum pdevs_number { PDEVS_NUMBERS(PDEVS_NAMED) };
 #define PDEVS_RECORD_MOMENT 0
 #define PDEVS_RECORD_STEP 8
 #define PDEVS_RECORD_MESSAGE_COUNT 10
+
+/* A feed: its bag count, and where the first bag begins; a bag's head, and where its fields lie. A bag's messages follow its head,
+   and the next bag follows them. */
+#define PDEVS_FEED_BAG_COUNT 0
+#define PDEVS_FEED_HEAD_SIZE 2
+#define PDEVS_FEED_BAG_HEAD_SIZE 9
+#define PDEVS_FEED_BAG_MOMENT 0
+#define PDEVS_FEED_BAG_MESSAGE_COUNT 8
+#define PDEVS_FEED_BAG_SIZE(messages) (PDEVS_FEED_BAG_HEAD_SIZE + PDEVS_MESSAGE_SIZE * (messages))
 
 /* The bytes of a saved run, of a rules table, and of a trace by columns. */
 #define PDEVS_RUN_SIZE(atomics) (10 + 9 * (atomics))
@@ -125,9 +139,11 @@ enum pdevs_number { PDEVS_NUMBERS(PDEVS_NAMED) };
 #define PDEVS_MAX_RUN PDEVS_RUN_SIZE(PDEVS_MAX_ATOMICS)
 #define PDEVS_MAX_RULES_TABLE PDEVS_RULES_TABLE_SIZE(PDEVS_MAX_ATOMICS)
 
-/* The longest bag, in messages and in bytes, and the latest moment. */
+/* The longest bag, in messages and in bytes, the longest feed, in bags and in bytes, and the latest moment. */
 #define PDEVS_MAX_BAG_MESSAGES 16
 #define PDEVS_MAX_BAG (PDEVS_MAX_BAG_MESSAGES * PDEVS_MESSAGE_SIZE)
+#define PDEVS_MAX_FEED_BAGS 1000
+#define PDEVS_MAX_FEED (PDEVS_FEED_HEAD_SIZE + PDEVS_MAX_FEED_BAGS * PDEVS_FEED_BAG_SIZE(PDEVS_MAX_BAG_MESSAGES))
 #define PDEVS_MAX_MOMENT UINT64_C(1000000000000)
 
 /* The next due moment where nothing is ever due. */
@@ -142,6 +158,9 @@ typedef struct { uint64_t number, bytes; } pdevs_written;
 
 /* The number; how many instants were done, and their steps; how many bytes of trace were written. */
 typedef struct { uint64_t number, instants, steps, trace_bytes; } pdevs_advanced;
+
+/* The number; how many bags of a feed were done; then as an advance answers, for all its calls together. */
+typedef struct { uint64_t number, bags, instants, steps, trace_bytes; } pdevs_fed;
 
 /* The number; an atomic's phase and last moment; the whole model's next due moment, or PDEVS_NEVER. */
 typedef struct { uint64_t number, phase, last, next_due; } pdevs_reading;
@@ -190,6 +209,33 @@ pdevs_written pdevs_start(const uint8_t *model, size_t model_len, uint8_t *run, 
 pdevs_advanced pdevs_advance(const uint8_t *model, size_t model_len, uint8_t *run, size_t run_len,
                              uint64_t t, const uint8_t *bag, size_t bag_len, uint8_t *trace, size_t trace_len,
                              uint8_t *rules, size_t rules_len);
+
+/*
+ * Runs a feed to an end moment: advances to each bag's moment with that bag, in turn, and then to `end` with an empty bag where
+ * it lies past the last bag or there is none. Each of these advances goes on where the one before left `run`, and writes on
+ * behind it in `trace`; none has a rules table. The first that is refused stops it. Numbers: 1 to 9, 10, 19, 11, then for each
+ * instant 13, 14, 15.
+ *
+ * 19 says that `feed` is none: it is cut off, has over 1,000 bags or bytes left over, a bag has over 16 messages, a moment does
+ * not lie above the one before it or lies above 1,000,000,000,000, or a port is above 3. 11 says that `end` lies before the last
+ * bag or above 1,000,000,000,000, or that the first bag, or `end` where there is none, lies before the open moment. Both are
+ * known before anything is done.
+ *
+ * On 0 every bag was done, `bags` is their number, and the open moment of `run` is end + 1. `instants`, `steps` and `trace_bytes`
+ * are those of all advances together, and their records stand at the front of `trace`, one trace. A bag without messages counts
+ * among the bags; the advance to `end` does not.
+ *
+ * On 13, 14 or 15 one instant was not done: it left no byte anywhere. `bags` bags were done before; the advance that was stopped
+ * is that of the next bag, or where all were done the one to `end`. All instants before the undone one stand, in `run`, in
+ * `trace` and in the numbers answered, also those of the advance that was stopped. After 15 the call may be made again with the
+ * bags that are left, that is the feed without its first `bags` bags, the same end and the trace anew: it goes on where this one
+ * stopped (where no byte of trace was written, the next instant needs a longer one). After 13 and 14 the advance that was
+ * stopped is refused so again.
+ *
+ * The bytes of `run` beyond the saved run and of `trace` beyond `trace_bytes` stay.
+ */
+pdevs_fed pdevs_advance_feed(const uint8_t *model, size_t model_len, uint8_t *run, size_t run_len,
+                             uint64_t end, const uint8_t *feed, size_t feed_len, uint8_t *trace, size_t trace_len);
 
 /*
  * Reads the atomic at a position, counted from 0 among the atomics in file order, and the whole model's next due moment.

@@ -23,7 +23,7 @@ typedef struct {
     size_t model_len;
     uint64_t answers[MAX_ANSWERS];
     size_t count;
-    uint64_t steps, trace_bytes; /* of all advances together */
+    uint64_t steps, trace_bytes; /* of all advances and feeds together */
     uint8_t run[RUN];
     uint8_t rules[PDEVS_MAX_RULES_TABLE + 7];
     uint8_t flat[PDEVS_MAX_MODEL + 7];
@@ -57,7 +57,30 @@ static void advance(outcome *o, const uint8_t *model, size_t model_len, uint64_t
     rearrange(o, a.trace_bytes);
 }
 
-/* Start, advances with full and empty bags into long and short traces, what they write by columns, and readings. */
+/* A feed of two full bags and an empty one between them, from a moment on. */
+static void advance_feed(outcome *o, const uint8_t *model, size_t model_len, uint64_t t, size_t trace_len) {
+    static const uint8_t messages[] = {PDEVS_MAX_BAG_MESSAGES, 0, PDEVS_MAX_BAG_MESSAGES};
+    uint8_t feed[PDEVS_FEED_HEAD_SIZE + 3 * PDEVS_FEED_BAG_SIZE(PDEVS_MAX_BAG_MESSAGES)] = {3};
+    size_t at = PDEVS_FEED_HEAD_SIZE, k;
+    pdevs_fed f;
+    for (k = 0; k < sizeof messages; k++, t += 300) {
+        feed[at + PDEVS_FEED_BAG_MOMENT] = (uint8_t)(t % 256);
+        feed[at + PDEVS_FEED_BAG_MOMENT + 1] = (uint8_t)(t / 256);
+        feed[at + PDEVS_FEED_BAG_MESSAGE_COUNT] = messages[k];
+        at += PDEVS_FEED_BAG_SIZE(messages[k]);
+    }
+    f = pdevs_advance_feed(model, model_len, o->run, sizeof o->run, t, feed, at, o->trace, trace_len);
+    say(o, f.number);
+    say(o, f.bags);
+    say(o, f.instants);
+    say(o, f.steps);
+    say(o, f.trace_bytes);
+    o->steps += f.steps;
+    o->trace_bytes += f.trace_bytes;
+    rearrange(o, f.trace_bytes);
+}
+
+/* Start, advances with full and empty bags and feeds into long and short traces, what they write by columns, and readings. */
 static void calls_on(outcome *o, const uint8_t *model, size_t model_len) {
     static const uint64_t moments[] = {0, 1, 5, 6, 40, 1000, 1005, 2100};
     uint8_t bag[PDEVS_MAX_BAG];
@@ -77,6 +100,8 @@ static void calls_on(outcome *o, const uint8_t *model, size_t model_len) {
         advance(o, model, model_len, moments[k], bag, k % 2 ? 0 : sizeof bag, 14);
         advance(o, model, model_len, moments[k], bag, k % 2 ? 0 : sizeof bag, TRACE);
     }
+    advance_feed(o, model, model_len, 2200, TRACE);
+    advance_feed(o, model, model_len, 3200, 14);
 }
 
 static void *all_calls(void *argument) {

@@ -1,12 +1,14 @@
 // The engine's calls for C, under the names of include/pdevs.h; each promises what the engine's own call promises.
 // A slice stands for a pointer and a length.
 ghost use mathlib.Core.Path.{_≡_};
-ghost use Rattle.call_answers.specs.Answers.{wroteOf, advancedOf, readOf};
+ghost use Rattle.call_answers.specs.Answers.{wroteOf, advancedOf, fedOf, readOf};
 ghost use Rattle.definition.specs.Pinned.Decoder.{checkModel};
 ghost use Rattle.definition.specs.Pinned.TraceReader.{traceToColumns, columnsToTrace};
 ghost use Rattle.definition.specs.Engine.{start, advance, reading};
+ghost use Rattle.definition.specs.FeedCall.{advanceFeed};
 ghost use Rattle.definition.specs.Flatten.{flatten};
 use call_answers::Advanced;
+use call_answers::Fed;
 use call_answers::Reading;
 use call_answers::Written;
 
@@ -37,6 +39,20 @@ pub extern "C" fn pdevs_advance(
         ≡ advance (now (model .entry)) (now (run .entry)) t (now (bag .entry)) (now (trace .entry)) (now (table .entry)) ⌝ }
 {
     engine::advance(model, run, t, bag, trace, table)
+}
+
+#[no_mangle]
+pub extern "C" fn pdevs_advance_feed(
+    model: &[u8],
+    run: &mut [u8],
+    end: u64,
+    feed: &[u8],
+    trace: &mut [u8],
+) -> Fed
+    ensures { λ r. ⌜ fedOf (now (run .exit)) (now (trace .exit)) r
+        ≡ advanceFeed (now (model .entry)) (now (run .entry)) end (now (feed .entry)) (now (trace .entry)) ⌝ }
+{
+    engine::advance_feed(model, run, end, feed, trace)
 }
 
 #[no_mangle]

@@ -16,8 +16,10 @@ use clock::Moment;
 use instant_loop::advance_from;
 use limits::BAD_BAG;
 use limits::BAD_MOMENT;
+use limits::FEW_ROUTES;
+use limits::FEW_WORDS;
 use limits::MAX_MOMENT;
-use limits::MESSAGES_IN;
+use limits::MOST_WORDS;
 use limits::RUN_DOES_NOT_FIT;
 use model_file::Checked;
 use model_file::Counts;
@@ -27,14 +29,6 @@ use table_words::atomics_in;
 use widen::u8_to_usize;
 use widen::u16_to_u64;
 use widen::usize_to_u64;
-
-// A route carries at most 16 messages into an atomic. A model with few routes, as most have, gets a small buffer, so that a short call does
-// not pay for filling a large one with zeros.
-const FEW_ROUTES: u16 = 64;
-
-const FEW_WORDS: usize = MESSAGES_IN * 64;
-
-const MOST_WORDS: usize = MESSAGES_IN * 1024;
 
 // A call refused before any instant: its number and zeros.
 fn refused(number: u64) -> Advanced

@@ -16,6 +16,16 @@ pub struct Advanced {
     pub trace_bytes: u64,
 }
 
+// The number, the bags of a feed whose own calls succeeded, the instants done, their steps, and the trace bytes written.
+#[repr(C)]
+pub struct Fed {
+    pub number: u64,
+    pub bags: u64,
+    pub instants: u64,
+    pub steps: u64,
+    pub trace_bytes: u64,
+}
+
 // The number; phase and last moment of an atomic; the next due moment of the whole model.
 #[repr(C)]
 pub struct Reading {

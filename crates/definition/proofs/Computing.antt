@@ -14,11 +14,15 @@ use Rattle.definition.specs.Instant
 use Rattle.definition.specs.Advance
 use Rattle.definition.specs.Engine
 use Rattle.definition.specs.Flatten
+use Rattle.definition.specs.Feed
+use Rattle.definition.specs.Pinned.FeedReader
+use Rattle.definition.specs.FeedCall
 use Rattle.definition.specs.FlatMachine
 use Rattle.definition.specs.Calls
 use Rattle.definition.specs.Columns
 use Rattle.definition.specs.Pinned.TraceReader
 use Rattle.definition.specs.TracesByColumn
+use Rattle.definition.specs.Feeds
 
 unfoldable pub computing : Type 0
 unfolding
@@ -58,11 +62,16 @@ unfolding
     FlatMachine.anyDue FlatMachine.takeSteps FlatMachine.firstDue FlatMachine.flatDue FlatMachine.notAfter FlatMachine.placed
     FlatMachine.inOrder FlatMachine.recorded FlatMachine.entriesIn FlatMachine.tableWith FlatMachine.standing FlatMachine.verdictOn FlatMachine.copied FlatMachine.attempt
     FlatMachine.openedPast FlatMachine.orEnd FlatMachine.dueBefore FlatMachine.inTurn FlatMachine.answered FlatMachine.flatAdvance
-    FlatMachine.flatStart FlatMachine.flatReading
+    Feed.feedBagBytes Feed.feedBytes Feed.lastMoment Feed.firstMoment Feed.feedCalls
+    FeedReader.bagLength FeedReader.toFeedBag FeedReader.feedBagFits FeedReader.bagsFrom FeedReader.feedOf
+    FeedCall.nothingFed FeedCall.stoppedBy FeedCall.followedBy FeedCall.fedInTurn FeedCall.ownBags FeedCall.fedOr FeedCall.feedChecks
+    FeedCall.advanceFeed
+    FlatMachine.bagsInTurn FlatMachine.toTheEnd FlatMachine.turned FlatMachine.flatFeed FlatMachine.flatStart FlatMachine.flatReading
     Calls.called Calls.runCalls Calls.engine Calls.flatMachine
     Columns.pairBelow Columns.recordFits Columns.column Columns.messagesOf Columns.columnBytes
     TraceReader.isInOrder TraceReader.isTrace TraceReader.toRecord TraceReader.recordLength TraceReader.traceRecords TraceReader.traceOf
     TraceReader.numbersAt TraceReader.messagesFrom TraceReader.dealt TraceReader.recordCount TraceReader.countsIn TraceReader.messagesIn
     TraceReader.columnRecords TraceReader.columnsOf TraceReader.rearranged TraceReader.restored TraceReader.traceToColumns TraceReader.columnsToTrace
     TracesByColumn.joinedTraces
+    Feeds.madeCalls Feeds.counted Feeds.lastNumber
 computing = Unit {0}

@@ -17,3 +17,4 @@ pub mod FlatTable
 pub mod TraceTable
 pub mod ColumnTable
 pub mod BagTable
+pub mod FeedTable

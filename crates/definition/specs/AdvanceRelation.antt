@@ -1,5 +1,5 @@
 -- Advance once more, as a relation and with no count of turns: which instant comes next, what makes an instant done or jammed, and
--- how a call ends. Demand 1 is stated with it. Assumes nothing.
+-- how a call ends; and how the calls of a feed end, one after the other. Demand 1 is stated with it. Assumes nothing.
 use mathlib.Core.Path.{_≡_}
 use Prim.Native.Nat.{ℕ, suc, _+_, _≤_, _<_}
 use mathlib.Core.List.{List, [], _∷_, _++_}
@@ -11,6 +11,8 @@ use Rattle.definition.specs.Devs.{finite}
 use Rattle.definition.specs.Step.{Output, Simulator}
 use Rattle.definition.specs.Instant.{goesOn, over, instantTrace, instantRules}
 use Rattle.definition.specs.Advance.{Progress, Ended, ended, succeeded, isBefore}
+use Rattle.definition.specs.Engine.{toBag}
+use Rattle.definition.specs.Feed.{FeedBag}
 
 -- The given bag belongs to the first step: what is still to be given after the steps that gave xs.
 abbrev pub stillGiven : Bag → List Output → Bag
@@ -75,3 +77,12 @@ module _ {S : Type 0} (k : Simulator S) where
           → WithinLimits p t (y ∷ ys) → Ends p (succeeded t (withInstant p t (y ∷ ys) s'))
       -- nothing happens at t: "A moment without a step is no instant and is not counted."
       idle : (p : Progress S) → isBefore (k .next (p .state)) t ≡ false → goesOn k t given (p .state) ≡ false → Ends p (succeeded t p)
+
+  -- How the calls of a feed end from p on, on one trace of `room` bytes: how many succeed, and where they end. Each goes on from where the one
+  -- before it ended, and "The first refused call stops it".
+  pub data EndsInTurn (room : ℕ) : List FeedBag → Progress S → ℕ → Ended S → Type 0 where
+    all-succeed : (p : Progress S) → EndsInTurn room [] p 0 (ended 0 p)
+    stops : (c : FeedBag) (cs : List FeedBag) (p : Progress S) (e : Ended S) → Ends room (c .moment) (toBag (c .bag)) p e → 0 < e .number
+        → EndsInTurn room (c ∷ cs) p 0 e
+    then : (c : FeedBag) (cs : List FeedBag) (p : Progress S) (e : Ended S) (n : ℕ) (d : Ended S) → Ends room (c .moment) (toBag (c .bag)) p e
+        → e .number ≡ 0 → EndsInTurn room cs (e .progress) n d → EndsInTurn room (c ∷ cs) p (suc n) d

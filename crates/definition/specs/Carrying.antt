@@ -2,7 +2,7 @@
 -- call; and when it stands for a saved run. Demand 2 is stated with it. Assumes nothing.
 use mathlib.Core.Path.{_≡_}
 use mathlib.Core.Logic.{_⊎_}
-use Prim.Native.Nat.{ℕ, _+_, _≤_, _<_}
+use Prim.Native.Nat.{ℕ, _+_, _≤_, _<_, min}
 use mathlib.Core.List.{List, [], _∷_}
 use mathlib.Core.Bool.{true, false}
 use lib.ListN.{length, take, drop, getD}
@@ -14,9 +14,10 @@ use Rattle.definition.specs.Atomic.{unspent, devsOf, partsOf}
 use Rattle.definition.specs.SavedRun.{Entry, noEntry, atomicCount, runLength, runOf, runBytes, entryOf, runFits}
 use Rattle.definition.specs.Step.{Simulator, decidedInFileOrder}
 use Rattle.definition.specs.Advance.{Progress, Ended}
-use Rattle.definition.specs.AdvanceRelation.{Ends}
+use Rattle.definition.specs.AdvanceRelation.{Ends, EndsInTurn}
 use Rattle.definition.specs.Engine.{toBag, bagFits, withRules, dueNumber}
-use Rattle.definition.specs.Calls.{AdvanceCall, Call, startCall, advanceCall, readingCall, Answer, startAnswer, advanceAnswer, readingAnswer, Machine, called}
+use Rattle.definition.specs.Feed.{FeedBag, IsFeed, FeedMistimed, FeedTimed, feedCalls}
+use Rattle.definition.specs.Calls.{AdvanceCall, FeedCall, Call, startCall, advanceCall, feedCall, readingCall, Answer, startAnswer, advanceAnswer, feedAnswer, readingAnswer, Machine, called}
 
 -- ---- the resultant
 
@@ -93,6 +94,13 @@ pub data Answers (m : Model) (q : BetweenCalls m) : Call → Answer → BetweenC
       → Ends (carried m) (length (c .trace)) (c .moment) (toBag (c .bag)) (begins (q .opening) (q .since)) e
       → Answers m q (advanceCall c) (advanceAnswer (e .number) (e .progress .instants) (e .progress .steps) (length (e .progress .trace)) (stored (e .progress .trace) (c .trace))
       (withRules (atomicCount m) (e .progress) (c .table))) (leftBy e)
+  refuses-feed : (c : FeedCall) → ((bs : List FeedBag) → IsFeed (c .feed) bs → ⊥) → Answers m q (feedCall c) (feedAnswer 19 0 0 0 0 (c .trace)) q
+  refuses-feed-time : (c : FeedCall) (bs : List FeedBag) → IsFeed (c .feed) bs → FeedMistimed (q .opening) (c .end) bs
+      → Answers m q (feedCall c) (feedAnswer 11 0 0 0 0 (c .trace)) q
+  answers-feed : (c : FeedCall) (bs : List FeedBag) (n : ℕ) (e : Ended (Since (rootOf m))) → IsFeed (c .feed) bs → FeedTimed (q .opening) (c .end) bs
+      → EndsInTurn (carried m) (length (c .trace)) (feedCalls bs (c .end)) (begins (q .opening) (q .since)) n e
+      → Answers m q (feedCall c) (feedAnswer (e .number) (min n (length bs)) (e .progress .instants) (e .progress .steps) (length (e .progress .trace))
+      (stored (e .progress .trace) (c .trace))) (leftBy e)
   refuses-position : (position : ℕ) → atomicCount m ≤ position → Answers m q (readingCall position) (readingAnswer 16 0 0 0) q
   answers-reading : (position : ℕ) (rs : List Entry) → position < atomicCount m → StandsFor m (q .opening) (q .since) rs
       → Answers m q (readingCall position) (readingAnswer 0 (getD rs position noEntry .phase) (getD rs position noEntry .last) (dueNumber (devsDue (rootOf m) (q .since)))) q

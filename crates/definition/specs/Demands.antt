@@ -3,17 +3,17 @@
 -- buffer. Assumes nothing.
 use mathlib.Core.Path.{_≡_}
 use mathlib.Core.Logic.{_⊎_}
-use Prim.Native.Nat.{ℕ, _+_, _*_, _≤_, _<_}
+use Prim.Native.Nat.{ℕ, _+_, _*_, _≤_, _<_, min}
 use mathlib.Core.List.{List, _++_}
 use mathlib.Core.Bool.{true, false}
-use lib.ListN.{length, take}
+use lib.ListN.{length, take, drop}
 use Rattle.definition.specs.Lists.{Same}
 use Rattle.definition.specs.Bytes.{Bytes, AllBytes, ok, stored}
-use Rattle.definition.specs.Limits.{maxMoment, positionSize, longestModel, longestRun, longestTable}
+use Rattle.definition.specs.Limits.{maxMoment, positionSize, longestModel, longestRun, longestTable, longestFeed}
 use Rattle.definition.specs.Model.{Bag, Model, Tree}
 use Rattle.definition.specs.File.{modelBytes}
 use Rattle.definition.specs.Pinned.Decoder.{accepted, checkModel}
-use Rattle.definition.specs.Sound.{Sound}
+use Rattle.definition.specs.Sound.{Sound, Every}
 use Rattle.definition.specs.Refusals.{Judged}
 use Rattle.definition.specs.Devs.{Since}
 use Rattle.definition.specs.Atomic.{ruleFor, devsOf}
@@ -21,12 +21,14 @@ use Rattle.definition.specs.SavedRun.{Entry, runLength, atomicCount, run
 use Rattle.definition.specs.Clauses.{RunFits, BagFits, Decides}
 use Rattle.definition.specs.Step.{nested}
 use Rattle.definition.specs.Advance.{Ended}
-use Rattle.definition.specs.AdvanceRelation.{Ends}
+use Rattle.definition.specs.AdvanceRelation.{Ends, EndsInTurn}
 use Rattle.definition.specs.Engine.{Wrote, Advanced, WasRead, startRun, start, toBag, bagFits, withRules, advanced, advance, readAt, reading}
 use Rattle.definition.specs.Flatten.{flat, flatten}
 use Rattle.definition.specs.Columns.{Rearranges}
 use Rattle.definition.specs.Pinned.TraceReader.{traceToColumns, columnsToTrace}
-use Rattle.definition.specs.Calls.{Call, runCalls, engine, flatMachine}
+use Rattle.definition.specs.Feed.{FeedBag, feedBytes, IsFeed, FeedMistimed, FeedTimed, feedCalls}
+use Rattle.definition.specs.FeedCall.{Fed, nothingFed, advanceFeed}
+use Rattle.definition.specs.Calls.{Call, FeedOfBytes, runCalls, engine, flatMachine}
 use Rattle.definition.specs.Carrying.{carried, rootOf, StandsFor, BetweenCalls, atStart, begins, Saved, Through}
 
 -- ---- Demand 1
@@ -109,6 +111,45 @@ pub data AdvanceNumber (file run : Bytes) (t : ℕ) (bag trace : Bytes) : ℕ �
   by-instants : (m : Model) (e : Ended (List Entry)) → accepted file ≡ ok m → MayAdvance m run t bag
       → Ends (nested m) (length trace) t (toBag bag) (begins (openingOf m run) (runOf m run .entries)) e → AdvanceNumber file run t bag trace (e .number)
 
+pub data FeedRefusal (file run : Bytes) (end : ℕ) (feed : Bytes) : ℕ → Type 0 where
+  feed-refuses-model : (n : ℕ) → 0 < n → Judged file n → FeedRefusal file run end feed n
+  feed-refuses-run : (m : Model) → accepted file ≡ ok m → runFits m run ≡ false → FeedRefusal file run end feed 10
+  -- "19 when the feed breaks its layout, has a port above 3 or has bytes left over, checked after the saved run and before the times"
+  feed-refuses-feed : (m : Model) → accepted file ≡ ok m → runFits m run ≡ true → ((bs : List FeedBag) → IsFeed feed bs → ⊥) → FeedRefusal file run end feed 19
+  -- "An end moment before the last bag, or above the highest, is refused by 11"
+  feed-refuses-time : (m : Model) (bs : List FeedBag) → accepted file ≡ ok m → runFits m run ≡ true → IsFeed feed bs → FeedMistimed (openingOf m run) end bs
+      → FeedRefusal file run end feed 11
+
+-- The arguments of a feed that no row refuses.
+pub record MayFeed (m : Model) (run : Bytes) (end : ℕ) (feed : Bytes) (bs : List FeedBag) : Type 0 where
+  pub run-fits : runFits m run ≡ true
+  pub is-feed : IsFeed feed bs
+  pub timed : FeedTimed (openingOf m run) end bs
+
+-- How its calls end from the saved run on, n of them having succeeded.
+abbrev pub FeedEnds : Model → Bytes → ℕ → Bytes → List FeedBag → ℕ → Ended (List Entry) → Type 0
+FeedEnds m run end trace bs n e = EndsInTurn (nested m) (length trace) (feedCalls bs end) (begins (openingOf m run) (runOf m run .entries)) n e
+
+-- What it then answers: "the number of bags whose own call succeeded", the counts, and the buffers with what was written at their fronts.
+abbrev pub fedAs : Bytes → Bytes → List FeedBag → ℕ → Ended (List Entry) → Fed
+fedAs run trace bs n e =
+    let p = e .progress in
+    record {
+      number = e .number;
+      bags = min n (length bs);
+      instants = p .instants;
+      steps = p .steps;
+      used = length (p .trace);
+      run = stored (runBytes (record { opening = p .opening; entries = p .state })) run;
+      trace = stored (p .trace) trace;
+    }
+
+-- The number of any feed: that of a row, or the one with which its calls end: 0, 13, 14 or 15, each by its case of `Ends`.
+pub data FeedNumber (file run : Bytes) (end : ℕ) (feed trace : Bytes) : ℕ → Type 0 where
+  feed-by-row : (n : ℕ) → FeedRefusal file run end feed n → FeedNumber file run end feed trace n
+  feed-by-calls : (m : Model) (bs : List FeedBag) (n : ℕ) (e : Ended (List Entry)) → accepted file ≡ ok m → MayFeed m run end feed bs
+      → FeedEnds m run end trace bs n e → FeedNumber file run end feed trace (e .number)
+
 pub record Demand1 : Type 0 where
   -- A model outside the layouts is refused by its listed number: the number of a file is that of the table, and no other.
   pub model-judged : (file : Bytes) → AllBytes file → Judged file (checkModel file)
@@ -141,6 +182,10 @@ pub record Demand1 : Type 0 where
       → advance file run t bag trace table ≡ refusedAdvance n run trace table
   pub advance-number : (file run : Bytes) (t : ℕ) (bag trace table : Bytes) → AllBytes file
       → AdvanceNumber file run t bag trace (advance file run t bag trace table .number)
+  pub feed-refused : (file run : Bytes) (end : ℕ) (feed trace : Bytes) (n : ℕ) → AllBytes feed → FeedRefusal file run end feed n
+      → advanceFeed file run end feed trace ≡ nothingFed n run trace
+  pub feed-number : (file run : Bytes) (end : ℕ) (feed trace : Bytes) → AllBytes file → AllBytes feed
+      → FeedNumber file run end feed trace (advanceFeed file run end feed trace .number)
   -- Everything else is accepted.
   pub start-done : (file buffer : Bytes) (m : Model) → accepted file ≡ ok m → runLength (atomicCount m) ≤ length buffer
       → start file buffer ≡ record { number = 0; written = runLength (atomicCount m); buffer = stored (runBytes (startRun m)) buffer }
@@ -160,15 +205,25 @@ pub record Demand1 : Type 0 where
   pub advance-only : (file run : Bytes) (t : ℕ) (bag trace table : Bytes) (m : Model) → AllBytes file → accepted file ≡ ok m → MayAdvance m run t bag
       → (e : Ended (List Entry)) → Ends (nested m) (length trace) t (toBag bag) (begins (openingOf m run) (runOf m run .entries)) e
       → advance file run t bag trace table ≡ advanced run trace table (ok e)
+  -- A feed that is not refused ends as its calls do, one after the other, and in no other way: one run and one trace for all of them.
+  pub feed-ends : (file run : Bytes) (end : ℕ) (feed trace : Bytes) (m : Model) (bs : List FeedBag) → AllBytes file → accepted file ≡ ok m
+      → MayFeed m run end feed bs → (n : ℕ) × (e : Ended (List Entry)) × FeedEnds m run end trace bs n e × (advanceFeed file run end feed trace ≡ fedAs run trace bs n e)
+  pub feed-only : (file run : Bytes) (end : ℕ) (feed trace : Bytes) (m : Model) (bs : List FeedBag) → AllBytes file → accepted file ≡ ok m
+      → MayFeed m run end feed bs → (n : ℕ) (e : Ended (List Entry)) → FeedEnds m run end trace bs n e → advanceFeed file run end feed trace ≡ fedAs run trace bs n e
   -- Where no instant stands and the call did not succeed, no lent byte has changed.
   pub nothing-done : (file run : Bytes) (t : ℕ) (bag trace table : Bytes) (m : Model) → AllBytes file → AllBytes run → accepted file ≡ ok m
       → 0 < advance file run t bag trace table .number → advance file run t bag trace table .instants ≡ 0
       → (advance file run t bag trace table .run ≡ run) × (advance file run t bag trace table .trace ≡ trace) × (advance file run t bag trace table .table ≡ table)
-  -- A start and an advance, whatever its number, leave a run that fits.
+  pub nothing-fed : (file run : Bytes) (end : ℕ) (feed trace : Bytes) (m : Model) → AllBytes file → AllBytes run → accepted file ≡ ok m
+      → 0 < advanceFeed file run end feed trace .number → advanceFeed file run end feed trace .bags ≡ 0 → advanceFeed file run end feed trace .instants ≡ 0
+      → advanceFeed file run end feed trace ≡ nothingFed (advanceFeed file run end feed trace .number) run trace
+  -- A start, an advance and a feed, whatever the number, leave a run that fits.
   pub start-fits : (file buffer : Bytes) (m : Model) → AllBytes file → accepted file ≡ ok m → runLength (atomicCount m) ≤ length buffer
       → runFits m (start file buffer .buffer) ≡ true
   pub advance-fits : (file run : Bytes) (t : ℕ) (bag trace table : Bytes) (m : Model) → AllBytes file → accepted file ≡ ok m → runFits m run ≡ true
       → runFits m (advance file run t bag trace table .run) ≡ true
+  pub feed-fits : (file run : Bytes) (end : ℕ) (feed trace : Bytes) (m : Model) → AllBytes file → accepted file ≡ ok m → runFits m run ≡ true
+      → runFits m (advanceFeed file run end feed trace .run) ≡ true
 
 -- ---- Demand 2
 
@@ -207,9 +262,9 @@ pub record Demand2 : Type 0 where
   -- From call to call: through every list of calls, from any saved run, and from any successful start on, the resultant stands for the
   -- saved run after each call and gives its answer, its trace and its deciding rules.
   pub through-calls : (file run : Bytes) (m : Model) → AllBytes file → accepted file ≡ ok m → (q : BetweenCalls m) → Saved m q run
-      → (calls : List Call) → Through m (engine file) q run calls
+      → (calls : List Call) → Every FeedOfBytes calls → Through m (engine file) q run calls
   pub from-start : (file run : Bytes) (m : Model) → AllBytes file → accepted file ≡ ok m → (before calls : List Call)
-      → start file (runCalls (engine file) run before .1) .number ≡ 0
+      → Every FeedOfBytes calls → start file (runCalls (engine file) run before .1) .number ≡ 0
       → Through m (engine file) (atStart m) (start file (runCalls (engine file) run before .1) .buffer) calls
   -- The search by which an atomic's external part is decided finds the first rule whose conditions all hold.
   pub rule-decides : (m : Model) (c p e : ℕ) (x : Bag) → Decides (m .rules) c p e x (ruleFor m c p e x)
@@ -225,8 +280,8 @@ pub record Demand2 : Type 0 where
 unfoldable pub flatForm : Bytes → Bytes → Bytes
 flatForm file buffer = written (flatten file buffer)
 
--- "a single claim about the whole list of calls": for every list of start, advance and reading calls, refused ones included, whatever the
--- times, bags, positions, lent traces, lent tables and first bytes of the run buffer, an accepted model and its flat form give the same answers and
+-- "a single claim about the whole list of calls": for every list of start, advance, feed and reading calls, refused ones included, whatever the
+-- times, bags, feeds, positions, lent traces, lent tables and first bytes of the run buffer, an accepted model and its flat form give the same answers and
 -- refusals in the same order, the same bytes in each lent trace, each lent table and the whole run buffer, and these are those that demands 1 and 2
 -- name and those of the flat machine. The flat form is itself accepted and flattens to itself.
 pub record Alike (file flatFile : Bytes) : Type 0 where
@@ -237,7 +292,7 @@ pub record Alike (file flatFile : Bytes) : Type 0 where
       × (runCalls (engine flatFile) run calls ≡ runCalls (flatMachine flatFile) run calls)
   -- and what they give is what the resultant of the nested model gives, through the whole list
   pub calls-defined : (m : Model) → accepted file ≡ ok m → (q : BetweenCalls m) (run : Bytes) → AllBytes run → Saved m q run → (calls : List Call)
-      → Through m (engine flatFile) q run calls × Through m (flatMachine flatFile) q run calls
+      → Every FeedOfBytes calls → Through m (engine flatFile) q run calls × Through m (flatMachine flatFile) q run calls
 
 -- Flattening answers 0 exactly where the model is accepted and the buffer is long enough (demand 1).
 unfoldable pub Demand3 : Type 0
@@ -256,12 +311,24 @@ pub record Together (a b one : Advanced) : Type 0 where
   pub trace : one .trace ≡ tracedBy a ++ b .trace
   pub table : one .table ≡ b .table
 
+-- .. and the answers of a feed and of one with the bags that it left.
+pub record FedTogether (a b one : Fed) : Type 0 where
+  pub number : one .number ≡ b .number
+  pub bags : one .bags ≡ a .bags + b .bags
+  pub instants : one .instants ≡ a .instants + b .instants
+  pub steps : one .steps ≡ a .steps + b .steps
+  pub used : one .used ≡ a .used + b .used
+  pub run : one .run ≡ b .run
+  pub trace : one .trace ≡ take (a .used) (a .trace) ++ b .trace
+
 pub record Header : Type 0 where
   -- PDEVS_MAX_MODEL, PDEVS_MAX_RUN and PDEVS_MAX_RULES_TABLE suffice for every model, flat ones too.
   pub model-length : (file : Bytes) (m : Model) → AllBytes file → accepted file ≡ ok m
       → (length file ≤ longestModel) × (length (modelBytes (flat m)) ≤ longestModel)
   pub run-length : (file : Bytes) (m : Model) → AllBytes file → accepted file ≡ ok m → runLength (atomicCount m) ≤ longestRun
   pub table-length : (file : Bytes) (m : Model) → AllBytes file → accepted file ≡ ok m → positionSize * atomicCount m ≤ longestTable
+  -- PDEVS_MAX_FEED suffices for every feed.
+  pub feed-length : (feed : Bytes) (bs : List FeedBag) → IsFeed feed bs → length feed ≤ longestFeed
   -- PDEVS_COLUMNS_SIZE: columns are 4 bytes longer than their trace.
   pub columns-length : (trace columns : Bytes) → Rearranges trace columns → length columns ≡ length trace + 4
   -- After 15 the same call, with the trace anew, goes on where this one stopped.
@@ -277,3 +344,8 @@ pub record Header : Type 0 where
   pub refused-again : (file run : Bytes) (t : ℕ) (bag trace table anew lent : Bytes) (n : ℕ) (m : Model) → AllBytes file → accepted file ≡ ok m
       → (n ≡ 13) ⊎ (n ≡ 14) → advance file run t bag trace table .number ≡ n
       → advance file (advance file run t bag trace table .run) t bag anew lent ≡ refusedAdvance n (advance file run t bag trace table .run) anew lent
+  -- After 15 the feed without the bags whose own calls succeeded, to the same end and with the trace anew, goes on where this one stopped.
+  pub feed-resumes : (file run : Bytes) (end : ℕ) (feed trace anew : Bytes) (m : Model) (bs : List FeedBag) → AllBytes file → accepted file ≡ ok m
+      → MayFeed m run end feed bs → advanceFeed file run end feed trace .number ≡ 15
+      → (let a = advanceFeed file run end feed trace in
+      FedTogether a (advanceFeed file (a .run) end (feedBytes (drop (a .bags) bs)) anew) (advanceFeed file run end feed (take (a .used) (a .trace) ++ anew)))

@@ -1,7 +1,8 @@
 -- The flat machine, from its own section of document 01, with its own steps, instants, trace records and loop over the instants. It
 -- shares with the engine: the model and its acceptance; the lines for one atomic (its output, advance and next phase, its deciding rule and
 -- how its position is told, when it is due); times and limits; the bytes of a message, of a saved run and of a given bag; the run that
--- start writes; the checks of a call's arguments; what a refused call answers, what a writer writes and what a reading shows of an entry.
+-- start writes; the bags of a feed; the checks of a call's arguments; what a refused call answers, what a writer writes and what a reading
+-- shows of an entry.
 -- Assumes nothing.
 use Prim.Native.Nat.{ℕ, zero, suc, _+_, _*_, _-_}
 use mathlib.Core.List.{List, [], _∷_, _++_, map}
@@ -19,6 +20,8 @@ use Rattle.definition.specs.Devs.{Time, finite, never, earlier, sameTime
 use Rattle.definition.specs.Atomic.{toldAs, advanceOf, nextPhase, ruleFor}
 use Rattle.definition.specs.SavedRun.{Entry, runBytes, runOf, dueOf}
 use Rattle.definition.specs.Engine.{Wrote, wrote, startRun, Advanced, advanceChecks, toBag, WasRead, wasRead, readingChecks, readAt}
+use Rattle.definition.specs.Feed.{FeedBag, lastMoment}
+use Rattle.definition.specs.FeedCall.{Fed, fedOr, feedChecks}
 
 -- ---- a step
 
@@ -251,6 +254,39 @@ flatAdvance file run t bag trace table = answered run trace table (do
   m ← accepted file
   _ ← advanceChecks m run t bag
   ok (inTurn m t (toBag bag) (suc t) (record { state = run; trace = trace; table = table; instants = 0; steps = 0; used = 0 })))
+
+-- ---- a feed
+
+-- How many bags' own calls succeeded, the number, and how far the machine has come.
+pub record Turned : Type 0 where
+  pub bags : ℕ
+  pub number : ℕ
+  pub stage : Stage
+
+-- "its advance calls in turn", each from the state and the trace as the one before left them. "The first refused call stops it".
+unfoldable pub bagsInTurn : Model → List FeedBag → (done : ℕ) → Stage → Turned
+bagsInTurn m [] done g = record { bags = done; number = 0; stage = g }
+bagsInTurn m (b ∷ bs) done g =
+    let r = inTurn m (b .moment) (toBag (b .bag)) (suc (b .moment)) g in
+    let on = bagsInTurn m bs (suc done) (r .1) in
+    cond (eqb (r .0) 0) on (record { bags = done; number = r .0; stage = r .1 })
+
+-- "plus an empty-bag advance to the end if it lies past the last bag or there is none"
+unfoldable pub toTheEnd : Model → List FeedBag → ℕ → Turned → Turned
+toTheEnd m bs end r =
+    let e = inTurn m end [] (suc end) (r .stage) in
+    cond (eqb (r .number) 0 && (isEmpty bs || ltb (lastMoment bs) end)) (record { bags = r .bags; number = e .0; stage = e .1 }) r
+
+unfoldable pub turned : Turned → Fed
+turned r =
+    let g = r .stage in
+    record { number = r .number; bags = r .bags; instants = g .instants; steps = g .steps; used = g .used; run = g .state; trace = g .trace }
+
+unfoldable pub flatFeed : Bytes → Bytes → ℕ → Bytes → Bytes → Fed
+flatFeed file run end feed trace = fedOr run trace (do
+  m ← accepted file
+  bs ← feedChecks m run end feed
+  ok (turned (toTheEnd m bs end (bagsInTurn m bs 0 (record { state = run; trace = trace; table = []; instants = 0; steps = 0; used = 0 })))))
 
 -- ---- start and reading
 

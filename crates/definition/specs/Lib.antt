@@ -17,6 +17,8 @@ pub mod Step
 pub mod Instant
 pub mod Advance
 pub mod Engine
+pub mod Feed
+pub mod FeedCall
 pub mod Flatten
 pub mod Columns
 pub mod FlatMachine
@@ -28,3 +30,4 @@ pub mod StrayCue
 pub mod DecidedRules
 pub mod TracesByColumn
 pub mod AtomicBags
+pub mod Feeds

@@ -104,11 +104,19 @@ noPosition = 65535
 abbrev pub positionSize : ℕ
 positionSize = 2
 
+-- "a feed of up to 1,000 bags"
+abbrev pub maxBags : ℕ
+maxBags = 1000
+
+-- The head of a bag of a feed: moment (8) and message count (1).
+abbrev pub bagHead : ℕ
+bagHead = 9
+
 -- "up to 4,294,967,295 records", whose number has 4 bytes
 abbrev pub maxRecords : ℕ
 maxRecords = 4294967295
 
--- ---- lengths that suffice for every model
+-- ---- lengths that suffice for every model and every feed
 -- The longest model file: four counts, 64 components, 512 phases, 1,024 rules, 1,024 couplings.
 abbrev pub longestModel : ℕ
 longestModel = 32072
@@ -120,3 +128,7 @@ longestRun = 577
 -- The longest table of deciding rules: that of 63 atomics.
 abbrev pub longestTable : ℕ
 longestTable = 126
+
+-- The longest feed: its count, and 1,000 bags of 16 messages.
+abbrev pub longestFeed : ℕ
+longestFeed = 57002

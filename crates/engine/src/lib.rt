@@ -4,9 +4,11 @@ ghost use mathlib.Core.Path.{_≡_};
 ghost use Rattle.definition.specs.Pinned.Decoder.{checkModel};
 ghost use Rattle.definition.specs.Pinned.TraceReader.{traceToColumns, columnsToTrace};
 ghost use Rattle.definition.specs.Engine.{start, advance, reading};
+ghost use Rattle.definition.specs.FeedCall.{advanceFeed};
 ghost use Rattle.definition.specs.Flatten.{flatten};
-ghost use Rattle.call_answers.specs.Answers.{wroteOf, advancedOf, readOf};
+ghost use Rattle.call_answers.specs.Answers.{wroteOf, advancedOf, fedOf, readOf};
 use call_answers::Advanced;
+use call_answers::Fed;
 use call_answers::Reading;
 use call_answers::Written;
 
@@ -37,6 +39,14 @@ pub fn advance(
         ≡ advance (now (file .entry)) (now (run .entry)) t (now (bag .entry)) (now (trace .entry)) (now (table .entry)) ⌝ }
 {
     call_advance::advance(file, run, t, bag, trace, table)
+}
+
+// Makes the advance calls of a feed in turn, then one to the end if it lies past the last bag or there is none.
+pub fn advance_feed(file: &[u8], run: &mut [u8], end: u64, feed: &[u8], trace: &mut [u8]) -> Fed
+    ensures { λ r. ⌜ fedOf (now (run .exit)) (now (trace .exit)) r
+        ≡ advanceFeed (now (file .entry)) (now (run .entry)) end (now (feed .entry)) (now (trace .entry)) ⌝ }
+{
+    call_feed::advance_feed(file, run, end, feed, trace)
 }
 
 // Reads the atomic at a position of a run, and when something is due next.

@@ -28,7 +28,7 @@ use Rattle.instant_attempt.specs.declared.Ended.{Ended}
 use Rattle.instant_loop.specs.Ends.{endedOf, tableLeft, outcomeOf}
 
 -- The trace with its records in front.
-trace-stored : (used : ℕ) (trace₀ trace : Bytes) → Beyond trace₀ trace used → stored (take used trace) trace₀ ≡ trace
+pub trace-stored : (used : ℕ) (trace₀ trace : Bytes) → Beyond trace₀ trace used → stored (take used trace) trace₀ ≡ trace
 unfolding stored
 trace-stored used trace₀ trace b =
     let l : length (take used trace) ≡ used = length-take-le used trace (omega (arith, b .within, b .size)) in

@@ -213,17 +213,22 @@ module _ (phases tables : List ℕ) (k : Simulator State) (t : ℕ) (x : Bag) (w
 
   module _ (trace′ : Bytes) (ws′ : List ℕ) (e : Ended) (v : ℕ) (next : v ≡ nextOf (k .next old) t) where
     pub ends-last : TriedAt phases tables t g ws ws′ trace trace′ (instant k t x old) e → t ≤ v → (f : Ended) → f ≡ finishedOf t e
-        → Advanced tables trace₀ trace′ ws′ f whole
+        → Advanced phases tables trace₀ trace′ ws′ f whole
     ends-last a l f w =
         let s = turn-last phases tables k t x g ws ws′ trace trace′ e (left - 1) a (not-before (k .next old) t v next l) in
         let d = beyond-on trace₀ trace trace′ (g .used) (e .progress .used) (a .more) b (a .beyond) in
-        record { same = ap (endedOf trace′ tables ws′) w ∙ sym s ∙ here; beyond = subst (Beyond trace₀ trace′) (sym (ap (λ (z : Ended). z .progress .used) w ∙ used-as t e)) d }
+        record {
+          same = ap (endedOf trace′ tables ws′) w ∙ sym s ∙ here;
+          beyond = subst (Beyond trace₀ trace′) (sym (ap (λ (z : Ended). z .progress .used) w ∙ used-as t e)) d;
+          ready = a .ready;
+        }
 
     module _ (y : Bag) (none : y ≡ []) (a : TriedAt phases tables v g ws ws′ trace trace′ (instant k v y old) e) (l : v < t) where
-      pub ends-stop : (e .number ≡ 0 → ⊥) → Advanced tables trace₀ trace′ ws′ e whole
+      pub ends-stop : (e .number ≡ 0 → ⊥) → Advanced phases tables trace₀ trace′ ws′ e whole
       ends-stop z = record {
         same = sym (turn-stop phases tables k t x g ws ws′ trace trace′ e (left - 1) v y none a (is-before (k .next old) t v next l) z) ∙ here;
         beyond = beyond-on trace₀ trace trace′ (g .used) (e .progress .used) (a .more) b (a .beyond);
+        ready = a .ready;
       }
 
       pub goes-on : e .number ≡ 0 → Beyond trace₀ trace′ (e .progress .used) × (advancing k (length trace₀) t x (left - 1) (progressOf trace′ tables ws′ (e .progress)) ≡ whole)
@@ -245,10 +250,10 @@ module _ (phases tables : List ℕ) (k : Simulator State) (t : ℕ) (x : Bag) (w
           (subst (λ (w : ℕ). TriedAt phases tables w g ws ws′ trace trace′ (instant k w (toBag (givenTo bag w t)) old) e) q a)
 
       pub ends-turn : v ≤ t → (not (eqb (e .number) 0) || leb t v) ≡ true → (f : Ended) → f ≡ finishedOf t e
-          → Advanced tables trace₀ trace′ ws′ f whole
+          → Advanced phases tables trace₀ trace′ ws′ f whole
       ends-turn m h f w = go (leb t v) refl
         where
-          go : (b : Bool) → leb t v ≡ b → Advanced tables trace₀ trace′ ws′ f whole
+          go : (b : Bool) → leb t v ≡ b → Advanced phases tables trace₀ trace′ ws′ f whole
           go true q = let l = leb-true t v q in ends-last (last-as (omega arith)) l f w
           go false q =
               let o : not (eqb (e .number) 0) ≡ true = or-left (not (eqb (e .number) 0)) (leb t v) h q in

@@ -54,10 +54,11 @@ advancingOf phases rules tables words room t bag turns p = advancing (simOf phas
 abbrev pub endedOf : Bytes → List ℕ → List ℕ → Ended → Definition.Ended State
 endedOf trace tables w e = ended (e .number) (progressOf trace tables w (e .progress))
 
--- They end as the definition says, and the trace beyond the records is as lent.
-pub record Advanced (tables : List ℕ) (trace₀ trace : Bytes) (w : List ℕ) (r : Ended) (e : Definition.Ended State) : Type 0 where
+-- They end as the definition says, the trace beyond the records is as lent, and another call may go on from there.
+pub record Advanced (phases tables : List ℕ) (trace₀ trace : Bytes) (w : List ℕ) (r : Ended) (e : Definition.Ended State) : Type 0 where
   pub same : endedOf trace tables w r ≡ e
   pub beyond : Beyond trace₀ trace (r .progress .used)
+  pub ready : Ready phases tables w
 
 -- After success the open moment is one past t.
 unfoldable pub finishedOf : ℕ → Ended → Ended

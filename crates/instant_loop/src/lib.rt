@@ -74,7 +74,7 @@ pub fn advance_on(
     trace: &mut [u8],
 ) -> Ended
     requires { ⌜ Callable (now phases) (now tables) (t .0) from (now state) (length (now work)) (length (now trace)) ⌝ }
-    ensures { λ r. ⌜ Advanced (now (tables .entry)) (now (trace .entry)) (now (trace .exit)) (now (state .exit)) r
+    ensures { λ r. ⌜ Advanced (now (phases .entry)) (now (tables .entry)) (now (trace .entry)) (now (trace .exit)) (now (state .exit)) r
         (advancingOf (now (phases .entry)) (now (rules .entry)) (now (tables .entry)) (length (now (work .entry))) (length (now (trace .entry))) (t .0)
         (now (bag .entry)) (suc (t .0)) (progressOf (now (trace .entry)) (now (tables .entry)) (now (state .entry)) from)) ⌝ }
 {

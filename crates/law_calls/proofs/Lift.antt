@@ -178,7 +178,7 @@ module _ {S₁ S₂ : Type 0} where
     succeeded-alike t p q h = (refl, record { opening = refl; state = h .2; instants = h .0 .instants; steps = h .0 .steps; trace = h .0 .trace; rules = h .0 .rules }, omega arith)
 
     module _ (room t : ℕ) (x y : Bag) (fine : Fine x y) where
-      advancing-alike : (n : ℕ) (p : Progress S₁) (q : Progress S₂) → Alike Between p q → p .opening ≤ t
+      pub advancing-alike : (n : ℕ) (p : Progress S₁) (q : Progress S₂) → Alike Between p q → p .opening ≤ t
           → EndsAlike Between t (advancing k₁ room t x n p) (advancing k₂ room t y n q)
       unfolding advancing ended
       advancing-alike zero p q a o = (refl, a, omega arith)

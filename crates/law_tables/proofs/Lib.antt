@@ -1,4 +1,5 @@
--- An advance on a model's tables is the definition's advance.
+-- An advance and a feed on a model's tables are the definition's.
 pub mod Until
 pub mod Tables
 pub mod Calls
+pub mod Feeds

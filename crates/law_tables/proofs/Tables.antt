@@ -16,14 +16,14 @@ use Rattle.definition.specs.Routes.{routes}
 use Rattle.definition.specs.SavedRun.{Entry, nextDue}
 use Rattle.definition.specs.Step.{Stepped, Simulator, step, nested}
 use Rattle.definition.specs.Instant.{isDue}
-use Rattle.definition.specs.Advance.{advanceFrom}
+use Rattle.definition.specs.Advance.{Progress, advancing}
 use Rattle.law_model.proofs.WellFormed.{WellFormed}
 use Rattle.law_nest.proofs.Pairs.{pairs-if}
 use Rattle.law_nest.proofs.Nest.{Fresh}
 use Rattle.law_nest.proofs.Stepping.{Good}
 use Rattle.law_flat.proofs.Checks.{entry-fresh}
 use Rattle.law_calls.proofs.SameBags.{SameOutput}
-use Rattle.law_calls.proofs.Lift.{Agree, EndsAlike, advance-alike}
+use Rattle.law_calls.proofs.Lift.{Agree, Alike, EndsAlike, advancing-alike}
 use Rattle.law_calls.proofs.Kept.{Kept, Fit, kept-step, fit-early, fit-opens, kept-closes}
 use Rattle.clock.specs.Times.{latest}
 use Rattle.run_state.specs.declared.State.{State}
@@ -33,7 +33,7 @@ use Rattle.spec_step.specs.Tabled.{Tabled}
 use Rattle.law_model.proofs.PhaseValues.{hasValue}
 use Rattle.law_step.proofs.StepLaw.{Holds, soon-at, table-state, table-decided, table-out, table-room}
 use Rattle.law_step.proofs.NextLaw.{table-next}
-use Rattle.law_tables.proofs.Until.{nothing, until, advance-until}
+use Rattle.law_tables.proofs.Until.{nothing, until, advancing-until}
 
 -- A given bag as the checks let it through.
 pub record Given (x y : Bag) : Type 0 where
@@ -135,12 +135,17 @@ module _ (m : Model) (w : WellFormed m) (t : List ℕ) (h : Tabled m t) (room : 
 
   -- ---- an advance
 
-  -- from a state whose entries fit at the open moment, to a moment that may be asked for
-  pub advance-tables : (o trace u : ℕ) (x : Bag) (st : State) → length x ≤ maxGiven → all portFits x ≡ true → all hasValue x ≡ true
-      → Fit m o (held st) → length (atomics (m .components)) ≤ length (st .phase) → length (atomics (m .components)) ≤ length (st .last) → o ≤ u → u ≤ maxMoment
-      → EndsAlike BetweenTables u (advanceFrom (nested m) trace u x o (held st)) (advanceFrom sim trace u x o st)
-  advance-tables o trace u x st few ports values fit phases lasts l b =
-      subst (λ e. EndsAlike BetweenTables u e (advanceFrom sim trace u x o st)) (advance-until maxMoment (nested m) trace u x b o (held st))
-      (subst (λ e. EndsAlike BetweenTables u (advanceFrom (until maxMoment (nested m)) trace u x o (held st)) e) (advance-until maxMoment sim trace u x b o st)
-      (advance-alike (agree-tables maxMoment (omega arith)) trace u x x (record { same = refl; few = few; ports = ports; values = values }) o (held st) st
-      (record { entries = refl; phases = phases; lasts = lasts; soon = soon-at m w st o (pairs-if _ (Fresh m o) (atomics (m .components)) (held st) (entry-fresh m o) fit) (omega arith) }, fit) l))
+  -- from a state that holds entries which fit at the open moment
+  pub fit-tables : (o : ℕ) (rs : List Entry) (st : State) → rs ≡ held st → Fit m o rs
+      → length (atomics (m .components)) ≤ length (st .phase) → length (atomics (m .components)) ≤ length (st .last) → o + maxAdvance ≤ latest → BetweenTables o rs st
+  fit-tables o rs st e fit phases lasts early =
+      let good = subst (Good m o) e (pairs-if _ (Fresh m o) (atomics (m .components)) rs (entry-fresh m o) fit) in
+      (record { entries = e; phases = phases; lasts = lasts; soon = soon-at m w st o good early }, fit)
+
+  -- and as far as a call has come, to a moment that may be asked for
+  pub advancing-tables : (trace u : ℕ) (x : Bag) (n : ℕ) (p : Progress (List Entry)) (q : Progress State) → length x ≤ maxGiven → all portFits x ≡ true → all hasValue x ≡ true
+      → Alike BetweenTables p q → p .opening ≤ u → u ≤ maxMoment → EndsAlike BetweenTables u (advancing (nested m) trace u x n p) (advancing sim trace u x n q)
+  advancing-tables trace u x n p q few ports values a l b =
+      subst (λ e. EndsAlike BetweenTables u e (advancing sim trace u x n q)) (advancing-until maxMoment (nested m) trace u x b n p)
+      (subst (λ e. EndsAlike BetweenTables u (advancing (until maxMoment (nested m)) trace u x n p) e) (advancing-until maxMoment sim trace u x b n q)
+      (advancing-alike (agree-tables maxMoment (omega arith)) trace u x x (record { same = refl; few = few; ports = ports; values = values }) n p q a l))

@@ -13,7 +13,7 @@ use Rattle.definition.specs.Model.{Bag}
 use Rattle.definition.specs.Devs.{Time, finite, never, ticks}
 use Rattle.definition.specs.Step.{Output, Simulator}
 use Rattle.definition.specs.Instant.{goesOn, isDue, stepsAt, instant}
-use Rattle.definition.specs.Advance.{Progress, Ended, tried, continued, succeeded, isBefore, advancing, advanceFrom}
+use Rattle.definition.specs.Advance.{Progress, Ended, tried, continued, succeeded, isBefore, advancing}
 use Rattle.law_base.proofs.Tests.{clash}
 
 -- what a step gives in which nothing happens
@@ -47,7 +47,7 @@ module _ {S : Type 0} (limit : ℕ) (k : Simulator S) where
     continued-cong f g p (ok q) h = h q
     continued-cong f g p (refused n) h = refl
 
-    advancing-until : (n : ℕ) (p : Progress S) → advancing (until limit k) room t x n p ≡ advancing k room t x n p
+    pub advancing-until : (n : ℕ) (p : Progress S) → advancing (until limit k) room t x n p ≡ advancing k room t x n p
     unfolding advancing
     advancing-until zero p = refl
     advancing-until (suc n) p = go (isBefore (k .next (p .state)) t) refl (advancing-until n)
@@ -62,7 +62,3 @@ module _ {S : Type 0} (limit : ℕ) (k : Simulator S) where
             (instant-until (ticks (k .next (p .state))) [] (p .state) (omega (arith, before t (k .next (p .state)) e)))
             ∙ continued-cong _ _ p _ ih
         go false e ih = ap (λ i. continued (succeeded t) p (tried room t p i)) (instant-until t x (p .state) l)
-
-    pub advance-until : (o : ℕ) (s : S) → advanceFrom (until limit k) room t x o s ≡ advanceFrom k room t x o s
-    unfolding advanceFrom
-    advance-until o s = advancing-until (suc t) _

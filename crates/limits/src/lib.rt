@@ -80,6 +80,13 @@ pub const LATEST_OPENING: u64 = MAX_MOMENT + 1;
 // The latest number stands for never.
 pub const NEVER_MOMENT: u64 = 18446744073709551615;
 
+// A feed of bags: how many there may be, and the head of one, its moment and its message count.
+pub const MAX_BAGS: u16 = 1000;
+
+pub const BAG_HEAD: usize = 9;
+
+pub const BAG_COUNT_AT: usize = 8;
+
 // The position of a rule, in the table of deciding rules two bytes: this one stands for none.
 pub const NO_POSITION: u16 = 65535;
 
@@ -87,6 +94,14 @@ pub const POSITION_SIZE: usize = 2;
 
 // A route carries at most so many messages into an atomic.
 pub const MESSAGES_IN: usize = 16;
+
+// Words for the messages of a bag. A model with few routes, as most have, gets a small buffer, so that a short call does not pay for filling a
+// large one with zeros.
+pub const FEW_ROUTES: u16 = 64;
+
+pub const FEW_WORDS: usize = MESSAGES_IN * 64;
+
+pub const MOST_WORDS: usize = MESSAGES_IN * 1024;
 
 // ---- the numbers of refusals, by the names of the C header. Each has the width in which the code first answers it: a record's number one
 // byte, a file's two, a call's eight.
@@ -125,3 +140,5 @@ pub const BAD_POSITION: u64 = 16;
 pub const NOT_A_TRACE: u64 = 17;
 
 pub const NOT_COLUMNS: u64 = 18;
+
+pub const BAD_FEED: u64 = 19;

@@ -27,7 +27,7 @@ number-refused (ok a) n l e = absurd (omega arith)
 number-refused (refused k) n l e = ap refused e
 
 -- a row of the model's table refuses the file
-by-row : (file : Bytes) (n : ℕ) → 0 < n → Judged file n → accepted file ≡ refused n
+pub by-row : (file : Bytes) (n : ℕ) → 0 < n → Judged file n → accepted file ≡ refused n
 unfolding checkModel
 by-row file n l j = number-refused (accepted file) n l (judged-only file n j)
 

@@ -1,5 +1,5 @@
 -- Demand 1: what is outside the layouts is refused by its listed number and changes no lent byte, everything else is accepted, and an advance
--- ends as the papers tell. Assumes nothing.
+-- and a feed end as the papers tell. Assumes nothing.
 use Rattle.law_refusals.proofs.Runs as RR
 use Rattle.law_refusals.proofs.Bags as RB
 use mathlib.Core.Path.{subst, _≡_, refl, sym, ap, _∙_}
@@ -31,10 +31,12 @@ use Rattle.law_flat.proofs.Checks.{advance-ok}
 use Rattle.law_refusals.proofs.Judged.{judged, judged-only, judged-number, sound-accepted, accepted-sound as sound-of}
 use Rattle.law_calls.proofs.BagOrder.{agree-order}
 use Rattle.theory.proofs.CallRows.{row-of, start-refused, start-number, flatten-refused, flatten-number, reading-refused, reading-number, advance-refused}
+use Rattle.theory.proofs.FeedRows.{feed-refused}
+use Rattle.theory.proofs.FeedCalls.{turns-end, feed-only, nothing-fed, feed-fits, feed-number}
 use Rattle.theory.proofs.ColumnRows.{columns-refused, columns-number, columns-done, trace-refused, trace-number, trace-done}
 use Rattle.law_model.proofs.Answers.{start-done, reading-done, endOf, advance-done}
 use Rattle.law_calls.proofs.Fitting.{fits-run, start-fits, advance-fits}
-use Rattle.theory.proofs.Ending.{ends, only, undone}
+use Rattle.law_calls.proofs.Ending.{ends, only, undone}
 
 flatten-done : (file buffer : Bytes) (m : Model) → accepted file ≡ ok m → length (modelBytes (flat m)) ≤ length buffer
     → flatten file buffer ≡ record { number = 0; written = length (modelBytes (flat m)); buffer = stored (modelBytes (flat m)) buffer }
@@ -139,6 +141,8 @@ demand1 = record {
   reading-number = reading-number;
   advance-refused = advance-refused;
   advance-number = advance-number;
+  feed-refused = feed-refused;
+  feed-number = feed-number;
   start-done = start-done;
   flatten-done = flatten-done;
   columns-done = columns-done;
@@ -149,7 +153,13 @@ demand1 = record {
       (endOf m run t bag trace, advance-ends run t bag trace m w (h .run-fits) (h .not-early), advance-done file run t bag trace table m e h);
   advance-only = λ file run t bag trace table m b e h r s.
       advance-done file run t bag trace table m e h ∙ ap (λ z. advanced run trace table (ok z)) (advance-only run t bag trace m (accepted-sound file m b e .sound) (h .run-fits) (h .not-early) r s);
+  feed-ends = λ file run end feed trace m bs b e h.
+      let t = turns-end file m b e run trace end feed bs h in
+      (t .0, t .1, t .2, feed-only file m b e run trace end feed bs h (t .0) (t .1) (t .2));
+  feed-only = λ file run end feed trace m bs b e h. feed-only file m b e run trace end feed bs h;
   nothing-done = nothing-done;
+  nothing-fed = λ file run end feed trace m b r e. nothing-fed file m b e run end feed trace r;
   start-fits = start-fits;
   advance-fits = advance-fits;
+  feed-fits = λ file run end feed trace m b e. feed-fits file m b e run end feed trace;
 }

@@ -67,13 +67,13 @@ pub demand2 : Demand2
 demand2 = record {
   carried-ends = λ file run t bag trace m b f h q s. carried-ends run t bag trace m (accepted-sound file m b f .sound) h q s;
   as-defined = as-defined;
-  start-saves = λ file buffer m b f z. start-saves file m (accepted-sound file m b f .sound) f buffer z;
+  start-saves = λ file buffer m b f z. start-saves file m b f buffer z;
   at-start = λ file m b f. start-stands m (accepted-sound file m b f .sound);
   at-any = SO.at-any;
   stands-for-one = SO.stands-for-one;
   rule-decides = RD.rule-decides;
-  through-calls = λ file run m b f q s calls. through-calls file m (accepted-sound file m b f .sound) f calls q run s;
-  from-start = λ file run m b f before calls z. from-start file m (accepted-sound file m b f .sound) f (runCalls (engine file) run before .1) z calls;
+  through-calls = λ file run m b f q s calls l. through-calls file m b f calls l q run s;
+  from-start = λ file run m b f before calls l z. from-start file m b f (runCalls (engine file) run before .1) z calls l;
   given-order = given-order;
   external-order = external-order;
   confluent-order = confluent-order;

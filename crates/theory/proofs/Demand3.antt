@@ -3,9 +3,9 @@
 use mathlib.Core.Path.{_≡_, refl, sym, ap, _∙_, subst}
 use Prim.Native.Nat.{ℕ}
 use mathlib.Core.List.{List, [], _∷_}
-use mathlib.Core.Bool.{Bool, true, false}
+use mathlib.Core.Bool.{Bool, true, false, cond}
 use native.Mathlib.Omega.{arith}
-use lib.Dec.{ltb}
+use lib.Dec.{ltb, eqb}
 use lib.ListN.{length, take, drop}
 use lib.Seq.{take-at}
 use Rattle.definition.specs.Bytes.{Bytes, AllBytes, Result, ok, refused, _>>=_, stored}
@@ -15,9 +15,11 @@ use Rattle.definition.specs.Pinned.Decoder.{accepted, checkModel}
 use Rattle.definition.specs.SavedRun.{Entry, runLength, atomicCount, runOf, nextDue}
 use Rattle.definition.specs.Step.{nested}
 use Rattle.definition.specs.Advance.{advanceFrom}
-use Rattle.definition.specs.Engine.{start, wrote, advanceChecks, advanced, advance, toBag, reading}
+use Rattle.definition.specs.Engine.{start, wrote, Advanced, advanceChecks, advanced, advance, toBag, reading}
 use Rattle.definition.specs.Flatten.{flat, flatten}
 use Rattle.definition.specs.FlatMachine.{flatDue}
+use Rattle.definition.specs.Feed.{FeedBag, feedCalls}
+use Rattle.definition.specs.FeedCall.{Fed, followedBy, stoppedBy, fedInTurn, ownBags, fedOr, feedChecks, advanceFeed}
 use Rattle.definition.specs.Calls.{Call, Answer, Machine, called, runCalls, engine}
 use Rattle.definition.specs.Carrying.{BetweenCalls, Answers, Through}
 use Rattle.definition.specs.Demands.{flatForm, Alike, Demand3}
@@ -31,6 +33,7 @@ use Rattle.law_calls.proofs.Kept.{Fit}
 use Rattle.theory.proofs.Agreement.{levelled, due-same}
 use Rattle.law_calls.proofs.Fitting.{fits-run}
 use Rattle.theory.proofs.Through.{through-calls}
+use Rattle.theory.proofs.ModelBytes.{model-bytes}
 use Rattle.theory.proofs.FlatCalls.{lifted, called-self, call-bytes, calls-self}
 
 -- ---- a model and its flat form
@@ -85,12 +88,33 @@ module _ (file : Bytes) (m : Model) (e : accepted file ≡ ok m) (a : Accepted m
   unfolding reading
   reading-same run position = rw (e, f, same-reading m w run position, same-run m w run, next-same run)
 
+  -- a feed is a fold of advances
+  turns-same : (cs : List FeedBag) (run trace : Bytes) → fedInTurn file run trace cs ≡ fedInTurn (modelBytes (flat m)) run trace cs
+  unfolding fedInTurn
+  turns-same [] run trace = refl
+  turns-same (c ∷ cs) run trace =
+      let a = advance file run (c .moment) (c .bag) trace [] in
+      ap (λ (on : Fed). cond (eqb (a .number) 0) (followedBy a on) (stoppedBy a)) (turns-same cs (a .run) (drop (a .used) (a .trace)))
+      ∙ ap (λ (d : Advanced). cond (eqb (d .number) 0) (followedBy d (fedInTurn (modelBytes (flat m)) (d .run) (drop (d .used) (d .trace)) cs)) (stoppedBy d))
+      (advance-same run (c .moment) (c .bag) trace [])
+
+  same-feed-checks : (run : Bytes) (end : ℕ) (feed : Bytes) → feedChecks (flat m) run end feed ≡ feedChecks m run end feed
+  unfolding feedChecks
+  same-feed-checks run end feed = rw (same-fits m w run, same-run m w run)
+
+  feed-same : (run : Bytes) (end : ℕ) (feed trace : Bytes) → advanceFeed file run end feed trace ≡ advanceFeed (modelBytes (flat m)) run end feed trace
+  unfolding advanceFeed
+  feed-same run end feed trace =
+      rw (e, f, same-feed-checks run end feed)
+      (ap (λ (turn : List FeedBag → Fed). fedOr run trace (feedChecks m run end feed >>= λ bs. ok (ownBags (length bs) (turn (feedCalls bs end))))) (λ i cs. turns-same cs run trace i))
+
   -- the engine does the same on both
   engine-same : engine file ≡ engine (modelBytes (flat m))
   unfolding engine
   engine-same = λ i. record {
     starts = λ run. start-same run i;
     advances = λ run t bag trace table. advance-same run t bag trace table i;
+    feeds = λ run end feed trace. feed-same run end feed trace i;
     reads = λ run position. reading-same run position i;
   }
 
@@ -140,13 +164,13 @@ flat-alike file m b e =
       itself = λ buffer h. flat-form (modelBytes (flat m)) buffer (flat m) acc h ∙ ap modelBytes twice;
       calls-alike = λ run calls h. (
         ap (λ k. runCalls k run calls) (engine-same file m e a),
-        calls-self (modelBytes (flat m)) (flat m) acc (flat-stays m a .sound) twice calls run h,
+        calls-self (modelBytes (flat m)) (flat m) (model-bytes (flat m)) acc (flat-stays m a .sound) twice calls run h,
       );
-      calls-defined = λ n f q run h s calls.
+      calls-defined = λ n f q run h s calls l.
           let same = engine-same file m e a in
           let v = flat-stays m a .sound in
-          let through : Through n (engine (modelBytes (flat m))) q run calls = subst (λ k. Through n k q run calls) same (through-calls file n (accepted-sound file n b f .sound) f calls q run s) in
-          (through, machine-same n _ _ (λ r c g. (called-self (modelBytes (flat m)) (flat m) acc v twice r c g, call-bytes (modelBytes (flat m)) (flat m) acc v twice r c g)) calls q run h through);
+          let through : Through n (engine (modelBytes (flat m))) q run calls = subst (λ k. Through n k q run calls) same (through-calls file n b f calls l q run s) in
+          (through, machine-same n _ _ (λ r c g. (called-self (modelBytes (flat m)) (flat m) (model-bytes (flat m)) acc v twice r c g, call-bytes (modelBytes (flat m)) (flat m) (model-bytes (flat m)) acc v twice r c g)) calls q run h through);
     }
 
 pub demand3 : Demand3

@@ -17,7 +17,7 @@ use Rattle.definition.specs.AdvanceRelation.{Steps, withInstant}
 use Rattle.definition.specs.Engine.{toBag}
 use Rattle.law_model.proofs.Answers.{endOf}
 use Rattle.law_model.proofs.RunBack.{entry-count}
-use Rattle.theory.proofs.Instants.{Settled, settled}
+use Rattle.law_calls.proofs.Instants.{Settled, settled}
 use Rattle.theory.proofs.RuleTables.{Long, long-instant}
 
 module _ (m : Model) where

@@ -3,32 +3,32 @@
 use mathlib.Core.Path.{_≡_, refl, sym, ap, _∙_}
 use mathlib.Core.Logic.{inl}
 use Prim.Native.Nat.{ℕ, suc, _≤_}
-use mathlib.Core.List.{List, [], _∷_, map}
-use mathlib.Core.Bool.{Bool, true, false, cond}
+use mathlib.Core.List.{List, [], _∷_}
+use mathlib.Core.Bool.{true}
 use native.Mathlib.Omega.{arith}
-use lib.Dec.{ltb}
 use lib.ListN.{length}
-use Rattle.definition.specs.Lists.{all, concat}
-use Rattle.definition.specs.Bytes.{Bytes, AllBytes, none, Result, ok, refused, _>>=_, stored}
+use Rattle.definition.specs.Lists.{all}
+use Rattle.definition.specs.Bytes.{Bytes, AllBytes, Result, ok, refused, _>>=_}
 use Rattle.definition.specs.Model.{Bag, Model}
 use Rattle.definition.specs.Records.{portFits}
 use Rattle.definition.specs.Pinned.Decoder.{accepted}
-use Rattle.definition.specs.SavedRun.{Entry, Run, entryBytes, runBytes, runOf, atomicCount}
+use Rattle.definition.specs.SavedRun.{Entry, runOf}
 use Rattle.definition.specs.Step.{nested}
 use Rattle.definition.specs.Advance.{Progress, Ended, advanceFrom}
-use Rattle.definition.specs.Engine.{WasRead, Wrote, startRun, start, wrote, Advanced, advanceChecks, withRules, advanced, advance, toBag, reading}
+use Rattle.definition.specs.Engine.{WasRead, start, Advanced, advanceChecks, advanced, advance, toBag, reading}
 use Rattle.definition.specs.Flatten.{flat}
 use Rattle.definition.specs.FlatMachine.{inTurn, answered, flatAdvance, flatStart, flatReading}
-use Rattle.definition.specs.Calls.{advanceAnswer, readingAnswer, Call, startCall, advanceCall, readingCall, called, runCalls, engine, flatMachine}
+use Rattle.definition.specs.Calls.{advanceAnswer, feedAnswer, readingAnswer, Call, startCall, advanceCall, feedCall, readingCall, called, runCalls, engine, flatMachine}
+use Rattle.definition.specs.FeedCall.{Fed}
 use Rattle.law_model.proofs.WellFormed.{WellFormed}
-use Rattle.law_model.proofs.Codec.{append-bytes, drop-bytes, number-bytes}
-use Rattle.law_model.proofs.RunBack.{run-written}
 use Rattle.law_flat.proofs.Checks.{run-length, advance-ok, bag-fine}
 use Rattle.law_calls.proofs.Lift.{advance-alike, ends-equal}
 use Rattle.law_calls.proofs.Kept.{Fit, BetweenSame}
 use Rattle.theory.proofs.Agreement.{levelled, due-same, agree-flat}
 use Rattle.law_calls.proofs.Fitting.{fits-run}
+use Rattle.theory.proofs.RunBuffers.{start-bytes, advance-bytes, feed-bytes}
 use Rattle.theory.proofs.FlatStages.{toStage, answer, in-turn}
+use Rattle.theory.proofs.FlatFeeds.{first-stage, feed-self}
 
 -- An advance of the nest is one of the flat step on the flat form.
 pub lifted : (m : Model) (w : WellFormed m) (o : ℕ) (rs : List Entry) (room t : ℕ) (x : Bag) → Fit m o rs → o ≤ t → all portFits x ≡ true
@@ -36,55 +36,12 @@ pub lifted : (m : Model) (w : WellFormed m) (o : ℕ) (rs : List Entry) (room t 
 lifted m w o rs room t x f l ports =
     ends-equal {Between = BetweenSame m w} {t = t} _ _ (λ o rs qs z. z .0) (advance-alike (agree-flat m w) room t x x (refl, ports) o rs rs (refl, f) l)
 
--- ---- the run buffer stays bytes
-
-stored-bytes : (a s : Bytes) → AllBytes a → AllBytes s → AllBytes (stored a s)
-unfolding stored
-stored-bytes a s h k = append-bytes h (drop-bytes (length a) k)
-
-entries-bytes : (es : List Entry) → AllBytes (concat (map entryBytes es))
-unfolding concat entryBytes
-entries-bytes [] = none
-entries-bytes (e ∷ es) = append-bytes (append-bytes (number-bytes 1 (e .phase)) (number-bytes 8 (e .last))) (entries-bytes es)
-
-run-bytes : (r : Run) → AllBytes (runBytes r)
-unfolding runBytes
-run-bytes r = append-bytes (append-bytes (number-bytes 8 (r .opening)) (number-bytes 2 (length (r .entries)))) (entries-bytes (r .entries))
-
-start-bytes : (file run : Bytes) → AllBytes run → AllBytes (start file run .buffer)
-unfolding start wrote
-start-bytes file run h = go (accepted file)
-  where
-    go : (r : Result Model) → AllBytes (wrote run (r >>= λ m. ok (runBytes (startRun m))) .buffer)
-    go (refused n) = h
-    go (ok m) = pick (ltb (length run) (length (runBytes (startRun m))))
-      where
-        pick : (b : Bool) → AllBytes (cond {A = Wrote} b (record { number = 15; written = 0; buffer = run }) (record { number = 0; written = length (runBytes (startRun m)); buffer = stored (runBytes (startRun m)) run }) .buffer)
-        pick true = h
-        pick false = stored-bytes (runBytes (startRun m)) run (run-bytes (startRun m)) h
-
-advance-bytes : (file run : Bytes) (t : ℕ) (bag trace table : Bytes) → AllBytes run → AllBytes (advance file run t bag trace table .run)
-unfolding advance advanced
-advance-bytes file run t bag trace table h =
-    go (accepted file >>= λ m. advanceChecks m run t bag >>= λ _. ok (advanceFrom (nested m) (length trace) t (toBag bag) (runOf m run .opening) (runOf m run .entries)))
-  where
-    go : (r : Result (Ended (List Entry))) → AllBytes (advanced run trace table r .run)
-    go (refused n) = h
-    go (ok a) = stored-bytes _ run (run-bytes _) h
-
-module _ (file : Bytes) (m : Model) (e : accepted file ≡ ok m) (w : WellFormed m) (self : flat m ≡ m) where
+module _ (file : Bytes) (m : Model) (l : AllBytes file) (e : accepted file ≡ ok m) (w : WellFormed m) (self : flat m ≡ m) where
   -- ---- one call
 
   module _ (run : Bytes) (t : ℕ) (bag trace table : Bytes) (b : AllBytes run) (h : advanceChecks m run t bag ≡ ok tt) where
     abbrev first : Progress (List Entry)
     first = record { opening = runOf m run .opening; state = runOf m run .entries; instants = 0; steps = 0; trace = []; rules = [] }
-
-    -- the lent buffers are the first stage
-    first-stage : toStage m w self run trace table first ≡ record { state = run; trace = trace; table = table; instants = 0; steps = 0; used = 0 }
-    unfolding toStage stored runOf withRules
-    first-stage =
-        let f = fits-run m run (advance-ok m run t bag h .run-fits) in
-        λ i. record { state = run-written (atomicCount m) (f .1) (f .2) b i; trace = trace; table = table; instants = 0; steps = 0; used = 0 }
 
     own-loops : inTurn m t (toBag bag) (suc t) (record { state = run; trace = trace; table = table; instants = 0; steps = 0; used = 0 })
         ≡ answer m w self run trace table (advanceFrom (nested m) (length trace) t (toBag bag) (runOf m run .opening) (runOf m run .entries))
@@ -93,7 +50,7 @@ module _ (file : Bytes) (m : Model) (e : accepted file ≡ ok m) (w : WellFormed
         let c = advance-ok m run t bag h in
         let ports = bag-fine bag (c .bag-fits) in
         let f = fits-run m run (c .run-fits) .0 .0 in
-        ap (inTurn m t (toBag bag) (suc t)) (sym first-stage)
+        ap (inTurn m t (toBag bag) (suc t)) (sym (first-stage m w self run trace table b (c .run-fits)))
         ∙ in-turn m w self run trace table t (c .not-late) (toBag bag) ports (suc t) first (f, c .not-early, omega arith, inl refl)
         ∙ ap (answer m w self run trace table) (sym (lifted m w (runOf m run .opening) (runOf m run .entries) (length trace) t (toBag bag) f (c .not-early) ports
         ∙ ap (λ k. advanceFrom (levelled k) (length trace) t (toBag bag) (runOf m run .opening) (runOf m run .entries)) self))
@@ -121,6 +78,8 @@ module _ (file : Bytes) (m : Model) (e : accepted file ≡ ok m) (w : WellFormed
   called-self run startCall h = unfold start flatStart in refl
   called-self run (advanceCall c) h =
       ap (λ (r : Advanced). (advanceAnswer (r .number) (r .instants) (r .steps) (r .used) (r .trace) (r .table), r .run)) (advance-self run (c .moment) (c .bag) (c .trace) (c .table) h)
+  called-self run (feedCall c) h =
+      ap (λ (r : Fed). (feedAnswer (r .number) (r .bags) (r .instants) (r .steps) (r .used) (r .trace), r .run)) (feed-self file m l e w self run (c .end) (c .feed) (c .trace) h)
   called-self run (readingCall position) h =
       ap (λ (r : WasRead). (readingAnswer (r .number) (r .phase) (r .last) (r .due), run)) (reading-self run position)
 
@@ -128,6 +87,7 @@ module _ (file : Bytes) (m : Model) (e : accepted file ≡ ok m) (w : WellFormed
   unfolding called engine
   call-bytes run startCall h = start-bytes file run h
   call-bytes run (advanceCall c) h = advance-bytes file run (c .moment) (c .bag) (c .trace) (c .table) h
+  call-bytes run (feedCall c) h = feed-bytes file run (c .end) (c .feed) (c .trace) h
   call-bytes run (readingCall position) h = h
 
   -- ---- every list of calls

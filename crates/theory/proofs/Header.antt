@@ -1,5 +1,5 @@
--- What the C header says of lengths and of a call made again: the longest model file and run, columns, and an advance after 13, 14 or 15. What the
--- first call left is read back by the second (`Fitting`), and the instants are those of `Resuming`. Assumes nothing.
+-- What the C header says of lengths and of a call made again: the longest model file and run, columns, an advance after 13, 14 or 15, and a feed
+-- after 15 (`FeedResumes`). What the first call left is read back by the second (`Fitting`), and the instants are those of `Resuming`. Assumes nothing.
 use mathlib.Core.Path.{_≡_, refl, sym, ap, ap₂, _∙_, subst}
 use mathlib.Core.Logic.{_⊎_, inl, inr}
 use Prim.Native.Nat.{ℕ, _+_, _≤_, _<_}
@@ -33,9 +33,11 @@ use Rattle.law_model.proofs.Answers.{endOf, advance-done}
 use Rattle.theory.proofs.RuleTables.{same-rules, Long, written, with-written, with-none, over-written, long-ends}
 use Rattle.theory.proofs.CallRows.{advance-refused}
 use Rattle.theory.proofs.Demand1.{advance-ends, advance-only}
-use Rattle.theory.proofs.Lengths.{model-long, run-long, table-long}
+use Rattle.theory.proofs.Lengths.{model-long, run-long, table-long, feed-long}
 use Rattle.law_refusals.proofs.Judged.{accepted-sound as sound-of}
-use Rattle.theory.proofs.Resuming.{undone-open, undone-again, overrun-again, countedEnd, one-call}
+use Rattle.law_calls.proofs.Counted.{countedEnd}
+use Rattle.theory.proofs.Resuming.{undone-open, undone-again, overrun-again, one-call}
+use Rattle.theory.proofs.FeedResumes.{feed-resumes}
 
 module _ (file run : Bytes) (t : ℕ) (bag trace table : Bytes) (m : Model) (b : AllBytes file) (e : accepted file ≡ ok m) where
   abbrev a : Advanced
@@ -262,6 +264,7 @@ header = record {
       (subst (λ (z : Bytes). length z ≤ longestModel) (sym (sound-of file m b e .1)) (model-long m (s .sound)), model-long (flat m) (flat-sound m (s .sound) (s .few-routes)));
   run-length = λ file m b e. run-long m (accepted-sound file m b e .sound);
   table-length = λ file m b e. table-long m (accepted-sound file m b e .sound);
+  feed-length = feed-long;
   columns-length = λ trace columns r.
       ap length (r .its-columns) ∙ four-longer (r .records) ∙ ap (λ (s : Bytes). length s + 4) (sym (r .is-trace .recorded .whole));
   resumes = λ file run t bag trace table next m b e q. resumes file run t bag trace table m b e (may file run t bag trace table m b e (omega arith)) q next;
@@ -270,6 +273,7 @@ header = record {
   refused-again = λ file run t bag trace table next lent n m b e u q.
       let l : 12 < n = go n u in
       refused-again file run t bag trace table m b e (may file run t bag trace table m b e (omega (arith, q))) n u q (omega arith) next lent;
+  feed-resumes = feed-resumes;
 }
   where
     go : (n : ℕ) → (n ≡ 13) ⊎ (n ≡ 14) → 12 < n

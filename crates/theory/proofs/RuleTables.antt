@@ -21,8 +21,8 @@ use Rattle.definition.specs.Engine.{tableBytes, withRules}
 use Rattle.law_base.proofs.Overlaid.{parts-length}
 use Rattle.law_model.proofs.RuleBytes.{table-size}
 use Rattle.theory.proofs.Buffers.{stored-again}
-use Rattle.theory.proofs.Instants.{whole-instant}
-use Rattle.theory.proofs.Ending.{some-step}
+use Rattle.law_calls.proofs.Instants.{whole-instant}
+use Rattle.law_calls.proofs.Ending.{some-step}
 
 -- ---- the table that a progress leaves
 

@@ -20,7 +20,7 @@ use Rattle.law_calls.proofs.Lift.{EndsAlike, advance-alike}
 use Rattle.theory.proofs.Carrying.{BetweenStands, agree-self, agree-carried}
 use Rattle.law_calls.proofs.Fitting.{FitRun, fits-run, fit-written, advance-fit}
 use Rattle.theory.proofs.RuleTables.{same-rules}
-use Rattle.theory.proofs.Ending.{ends, only}
+use Rattle.law_calls.proofs.Ending.{ends, only}
 use Rattle.law_model.proofs.Answers.{endOf, advance-done}
 
 -- the run that an advance saves

@@ -31,7 +31,7 @@ use Rattle.law_base.proofs.Everys.{every-append, every-if}
 use Rattle.law_calls.proofs.Lift.{Agree}
 use Rattle.law_calls.proofs.Kept.{Fit}
 use Rattle.law_calls.proofs.BagOrder.{agree-order}
-use Rattle.theory.proofs.Ending.{kept-on}
+use Rattle.law_calls.proofs.Ending.{kept-on}
 use Rattle.theory.proofs.Sent.{sendable, step-sends}
 
 -- ---- elements that all pass a test

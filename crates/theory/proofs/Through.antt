@@ -1,5 +1,5 @@
--- Through every list of calls the root's resultant stands for the saved run and gives each answer: one call of the engine leaves it standing
--- for what it saved, and the rest follows call by call. Assumes nothing.
+-- Through every list of calls, their feeds being bytes, the root's resultant stands for the saved run and gives each answer: one call of the
+-- engine leaves it standing for what it saved, and the rest follows call by call. Assumes nothing.
 use mathlib.Core.Path.{_≡_, refl, sym, ap, _∙_, subst}
 use mathlib.Core.Logic.{_⊎_, inl, inr}
 use Prim.Native.Nat.{ℕ, _≤_, _<_}
@@ -7,68 +7,41 @@ use mathlib.Core.List.{List, [], _∷_}
 use mathlib.Core.Bool.{Bool, true, false}
 use native.Mathlib.Omega.{arith}
 use lib.Dec.{leb, ltb}
-use lib.ListN.{length, drop}
-use lib.Seq.{take-at, drop-at}
+use lib.ListN.{length}
 use borrow.Author.Tests.{ltb-true, ltb-false, leb-true, leb-false}
-use Rattle.definition.specs.Bytes.{Bytes, ok, stored}
+use Rattle.definition.specs.Bytes.{Bytes, AllBytes, ok, stored}
 use Rattle.definition.specs.Limits.{maxMoment}
-use Rattle.definition.specs.Model.{Model, atomics}
+use Rattle.definition.specs.Model.{Model}
 use Rattle.definition.specs.Pinned.Decoder.{accepted}
 use Rattle.definition.specs.Devs.{Since, devsDue}
-use Rattle.definition.specs.SavedRun.{Run, runLength, atomicCount, runOf, runBytes, nextDue}
+use Rattle.definition.specs.SavedRun.{runLength, atomicCount, runOf, runBytes, nextDue}
 use Rattle.definition.specs.Engine.{startRun, start, bagFits, advanced, readAt}
-use Rattle.definition.specs.Calls.{AdvanceCall, Call, startCall, advanceCall, readingCall, Answer, advanceAnswer, called, engine}
+use Rattle.definition.specs.Calls.{AdvanceCall, Call, FeedOfBytes, startCall, advanceCall, feedCall, readingCall, advanceAnswer, called, engine}
 use Rattle.definition.specs.Carrying.{rootOf, StandsFor, BetweenCalls, atStart, leftBy, InTime, Answers, answers-start, refuses-time, refuses-bag, answers-advance, refuses-position, answers-reading, Saved, Through}
 use Rattle.definition.specs.Demands.{openingOf, MayAdvance}
+use Rattle.definition.specs.Sound.{Every}
 use Rattle.law_model.proofs.WellFormed.{WellFormed}
-use Rattle.law_model.proofs.RunBack.{length-run}
-use Rattle.law_nest.proofs.Pairs.{pairs-length}
-use Rattle.law_calls.proofs.Fitting.{FitRun, fits-run, fit-written, start-run}
+use Rattle.law_model.proofs.Reading.{accepted-sound}
+use Rattle.law_calls.proofs.Fitting.{fits-run, start-run}
+use Rattle.theory.proofs.WrittenRuns.{beyond, read-back, saved, Follows}
+use Rattle.theory.proofs.FeedThrough.{feed-follows}
 use Rattle.theory.proofs.RuleTables.{same-rules}
 use Rattle.theory.proofs.Carrying.{due-between}
 use Rattle.law_model.proofs.Answers.{start-short, start-done, reading-position, reading-done, endOf, advance-time, advance-bag, advance-done}
 use Rattle.theory.proofs.Standing.{start-stands}
 use Rattle.theory.proofs.Shown.{runAfter, after-fits, carried-ends, carried-alike}
 
--- ---- a run written at the front of a buffer
+module _ (file : Bytes) (m : Model) (b : AllBytes file) (f : accepted file ≡ ok m) where
+  abbrev w : WellFormed m
+  w = accepted-sound file m b f .sound
 
-module _ (m : Model) (w : WellFormed m) (r : Run) (fit : FitRun m r) (buffer : Bytes) where
-  size : length (runBytes r) ≡ runLength (atomicCount m)
-  unfolding atomicCount
-  size = length-run r ∙ ap runLength (pairs-length _ (atomics (m .components)) (r .entries) (fit .0))
-
-  -- the bytes beyond it stay
-  beyond : drop (runLength (atomicCount m)) (stored (runBytes r) buffer) ≡ drop (runLength (atomicCount m)) buffer
-  unfolding stored
-  beyond = drop-at (runBytes r) _ (runLength (atomicCount m)) size ∙ ap (λ n. drop n buffer) size
-
-  pub read-back : runOf m (stored (runBytes r) buffer) ≡ r
-  unfolding stored
-  read-back = fit-written m w r _ fit .1
-
-  -- what stands for it stands for what the buffer holds
-  saved : (q : Since (rootOf m)) → StandsFor m (r .opening) q (r .entries) → Saved m (record { opening = r .opening; since = q }) (stored (runBytes r) buffer)
-  unfolding stored
-  saved q s = record {
-    run-fits = fit-written m w r _ fit .0;
-    opening = ap (λ y. y .opening) read-back;
-    entries = subst (StandsFor m (r .opening) q) (sym (ap (λ y. y .entries) read-back)) s;
-    bytes = take-at (runBytes r) _ (runLength (atomicCount m)) size ∙ ap runBytes (sym read-back);
-  }
-
-module _ (file : Bytes) (m : Model) (w : WellFormed m) (f : accepted file ≡ ok m) where
   -- ---- one call
-
-  -- its answer and the buffer after it are the resultant's
-  abbrev Follows : BetweenCalls m → Bytes → Call → Answer → Bytes → Type 0
-  Follows q run c a after =
-      (q′ : BetweenCalls m) × Answers m q c a q′ × (drop (runLength (atomicCount m)) after ≡ drop (runLength (atomicCount m)) run) × Saved m q′ after
 
   start-saved : (buffer : Bytes) → Saved m (atStart m) (stored (runBytes (startRun m)) buffer)
   unfolding startRun
   start-saved buffer = saved m w (startRun m) (start-run m w) buffer (atStart m .since) (start-stands m w)
 
-  start-follows : (q : BetweenCalls m) (run : Bytes) → Saved m q run → Follows q run startCall (called (engine file) run startCall .0) (called (engine file) run startCall .1)
+  start-follows : (q : BetweenCalls m) (run : Bytes) → Saved m q run → Follows m q run startCall (called (engine file) run startCall .0) (called (engine file) run startCall .1)
   unfolding called engine
   start-follows q run s =
       rw (start-done file run m f (fits-run m run (s .run-fits) .1)) (atStart m, answers-start, beyond m w (startRun m) (start-run m w) run, start-saved run)
@@ -77,7 +50,7 @@ module _ (file : Bytes) (m : Model) (w : WellFormed m) (f : accepted file ≡ ok
     abbrev here : BetweenCalls m
     here = record { opening = openingOf m run; since = q }
 
-    advance-follows : (c : AdvanceCall) → Follows here run (advanceCall c) (called (engine file) run (advanceCall c) .0) (called (engine file) run (advanceCall c) .1)
+    advance-follows : (c : AdvanceCall) → Follows m here run (advanceCall c) (called (engine file) run (advanceCall c) .0) (called (engine file) run (advanceCall c) .1)
     unfolding called engine advanced
     advance-follows c = early (ltb (c .moment) (openingOf m run)) refl
       where
@@ -85,7 +58,7 @@ module _ (file : Bytes) (m : Model) (w : WellFormed m) (f : accepted file ≡ ok
         t = c .moment
 
         Goal : Type 0
-        Goal = Follows here run (advanceCall c) (called (engine file) run (advanceCall c) .0) (called (engine file) run (advanceCall c) .1)
+        Goal = Follows m here run (advanceCall c) (called (engine file) run (advanceCall c) .0) (called (engine file) run (advanceCall c) .1)
 
         at-time : (t < openingOf m run) ⊎ (maxMoment < t) → Goal
         at-time h = rw (advance-time file run t (c .bag) (c .trace) (c .table) m f (s .run-fits) h) (here, refuses-time c h, refl, s)
@@ -123,7 +96,7 @@ module _ (file : Bytes) (m : Model) (w : WellFormed m) (f : accepted file ≡ ok
         early true h = at-time (inl (ltb-true t (openingOf m run) h))
         early false h = late (ltb-false t (openingOf m run) h) (ltb maxMoment t) refl
 
-    reading-follows : (position : ℕ) → Follows here run (readingCall position) (called (engine file) run (readingCall position) .0) (called (engine file) run (readingCall position) .1)
+    reading-follows : (position : ℕ) → Follows m here run (readingCall position) (called (engine file) run (readingCall position) .0) (called (engine file) run (readingCall position) .1)
     unfolding called engine readAt
     reading-follows position = go (leb (atomicCount m) position) refl
       where
@@ -131,7 +104,7 @@ module _ (file : Bytes) (m : Model) (w : WellFormed m) (f : accepted file ≡ ok
         due = sym (due-between m w (openingOf m run) q (runOf m run .entries) (s .entries, fits-run m run (s .run-fits) .0 .0))
 
         go : (b : Bool) → leb (atomicCount m) position ≡ b
-            → Follows here run (readingCall position) (called (engine file) run (readingCall position) .0) (called (engine file) run (readingCall position) .1)
+            → Follows m here run (readingCall position) (called (engine file) run (readingCall position) .0) (called (engine file) run (readingCall position) .1)
         go true h =
             let l = leb-true (atomicCount m) position h in
             rw (reading-position file run position m f (s .run-fits) l) (here, refuses-position position l, refl, s)
@@ -139,8 +112,8 @@ module _ (file : Bytes) (m : Model) (w : WellFormed m) (f : accepted file ≡ ok
             let l = leb-false (atomicCount m) position h in
             rw (reading-done file run position m f (s .run-fits) l, due) (here, answers-reading position (runOf m run .entries) l (s .entries), refl, s)
 
-  follows : (q : BetweenCalls m) (run : Bytes) → Saved m q run → (c : Call) → Follows q run c (called (engine file) run c .0) (called (engine file) run c .1)
-  follows q run s c = subst (λ z. Follows z run c (called (engine file) run c .0) (called (engine file) run c .1)) same (go c)
+  follows : (q : BetweenCalls m) (run : Bytes) → Saved m q run → (c : Call) → FeedOfBytes c → Follows m q run c (called (engine file) run c .0) (called (engine file) run c .1)
+  follows q run s c l = subst (λ z. Follows m z run c (called (engine file) run c .0) (called (engine file) run c .1)) same (go c l)
     where
       same : _≡_ {A = BetweenCalls m} (record { opening = openingOf m run; since = q .since }) q
       same i = record { opening = s .opening i; since = q .since }
@@ -148,16 +121,17 @@ module _ (file : Bytes) (m : Model) (w : WellFormed m) (f : accepted file ≡ ok
       s′ : Saved m (record { opening = openingOf m run; since = q .since }) run
       s′ = subst (λ z. Saved m z run) (sym same) s
 
-      go : (c : Call) → Follows (record { opening = openingOf m run; since = q .since }) run c (called (engine file) run c .0) (called (engine file) run c .1)
-      go startCall = start-follows (record { opening = openingOf m run; since = q .since }) run s′
-      go (advanceCall c) = advance-follows (q .since) run s′ c
-      go (readingCall position) = reading-follows (q .since) run s′ position
+      go : (c : Call) → FeedOfBytes c → Follows m (record { opening = openingOf m run; since = q .since }) run c (called (engine file) run c .0) (called (engine file) run c .1)
+      go startCall l = start-follows (record { opening = openingOf m run; since = q .since }) run s′
+      go (advanceCall c) l = advance-follows (q .since) run s′ c
+      go (feedCall c) l = feed-follows file m b f (q .since) run s′ c l
+      go (readingCall position) l = reading-follows (q .since) run s′ position
 
   -- ---- a list of calls
 
-  pub through-calls : (calls : List Call) (q : BetweenCalls m) (run : Bytes) → Saved m q run → Through m (engine file) q run calls
-  through-calls [] q run s = s
-  through-calls (c ∷ calls) q run s = let h = follows q run s c in (s, h .0, h .1, h .2, through-calls calls (h .0) (called (engine file) run c .1) (h .3))
+  pub through-calls : (calls : List Call) → Every FeedOfBytes calls → (q : BetweenCalls m) (run : Bytes) → Saved m q run → Through m (engine file) q run calls
+  through-calls [] l q run s = s
+  through-calls (c ∷ calls) l q run s = let h = follows q run s c (l .0) in (s, h .0, h .1, h .2, through-calls calls (l .1) (h .0) (called (engine file) run c .1) (h .3))
 
   -- what a start that succeeds writes
   start-writes : (buffer : Bytes) → start file buffer .number ≡ 0 → start file buffer .buffer ≡ stored (runBytes (startRun m)) buffer
@@ -170,5 +144,5 @@ module _ (file : Bytes) (m : Model) (w : WellFormed m) (f : accepted file ≡ ok
   pub start-saves : (buffer : Bytes) → start file buffer .number ≡ 0 → runOf m (start file buffer .buffer) ≡ startRun m
   start-saves buffer z = ap (runOf m) (start-writes buffer z) ∙ read-back m w (startRun m) (start-run m w) buffer
 
-  pub from-start : (buffer : Bytes) → start file buffer .number ≡ 0 → (calls : List Call) → Through m (engine file) (atStart m) (start file buffer .buffer) calls
-  from-start buffer z calls = through-calls calls (atStart m) (start file buffer .buffer) (subst (Saved m (atStart m)) (sym (start-writes buffer z)) (start-saved buffer))
+  pub from-start : (buffer : Bytes) → start file buffer .number ≡ 0 → (calls : List Call) → Every FeedOfBytes calls → Through m (engine file) (atStart m) (start file buffer .buffer) calls
+  from-start buffer z calls l = through-calls calls l (atStart m) (start file buffer .buffer) (subst (Saved m (atStart m)) (sym (start-writes buffer z)) (start-saved buffer))

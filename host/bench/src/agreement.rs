@@ -4,6 +4,7 @@
 use crate::arguments::{self, Known};
 use crate::call::Call;
 use crate::engine::{Engine, Functions, FLAT_ROWS, NEST, PULLED};
+use crate::feed_arguments::Plan;
 use crate::lent::Lent;
 use crate::models::{chains, damage, limits, nests};
 use crate::random::Random;
@@ -79,9 +80,27 @@ fn calls_on(random: &mut Random, model: &Model) {
         }
         call = match number {
             10 => Call::Start,
+            _ if random.percent(20) => feed_call(random, &file, &known, list.run.content()),
             _ => arguments::next_call(random, &file, model, &known, list.run.content()),
         };
     }
+}
+
+/// A feed as it is planned, with a byte changed, cut off, or with another end that is refused.
+fn feed_call(random: &mut Random, file: &[u8], known: &Known, run: &[u8]) -> Call {
+    let plan = Plan::new(random, known, file, run);
+    let mut call = plan.call(random, file, run);
+    if let Call::Feed { end, feed, .. } = &mut call {
+        let at = random.index(feed.len());
+        match random.below(10) {
+            0 => feed[at] = random.pick(&[0, 1, 4, 16, 17, 255]),
+            1 => feed.truncate(at),
+            2 => feed.push(0),
+            3 => *end = random.pick(&[0, u64::MAX, (*end).saturating_sub(1)]),
+            _ => {}
+        }
+    }
+    call
 }
 
 /// Calls on a file that may be refused.
@@ -93,6 +112,8 @@ fn calls_on_file(random: &mut Random, file: &[u8]) {
     let mut list = CallList::new(file, &random.bytes(100));
     let (trace, rules) = (random.bytes(50), random.bytes(9));
     let call = Call::Advance { t: 7, bag: Vec::new(), trace, rules };
+    assert_eq!(list.call(&call), number);
+    let call = Call::Feed { end: 7, feed: vec![0, 0], trace: random.bytes(50) };
     assert_eq!(list.call(&call), number);
 }
 
@@ -151,6 +172,8 @@ fn damaged_runs() {
                 let (trace, rules) = (random.bytes(20), random.bytes(150));
                 let call = Call::Advance { t, bag: Vec::new(), trace, rules };
                 assert_eq!(list.call(&call), 10, "{}", damage.name);
+                let call = Call::Feed { end: t, feed: vec![7], trace: Vec::new() };
+                assert_eq!(list.call(&call), 10, "{}", damage.name);
             }
         }
     }
@@ -159,7 +182,8 @@ fn damaged_runs() {
 fn all_workloads() -> Vec<Workload> {
     let series = workloads::growth::all().into_iter().flat_map(|series| series.points);
     let growing = series.map(|(_, workload)| workload);
-    workloads::steps().into_iter().chain(workloads::short_calls()).chain(growing).collect()
+    let called = workloads::steps().into_iter().chain(workloads::short_calls());
+    called.chain(workloads::feeds::all()).chain(growing).collect()
 }
 
 #[test]
@@ -168,6 +192,11 @@ fn workloads_run_without_refusal() {
         assert_eq!(check_model(&workload.model), 0, "{}", workload.name);
         let mut list = CallList::new(&workload.model, &vec![0; 600]);
         list.call(&Call::Start);
+        if let Some(feed) = workload.feed.clone() {
+            let call = Call::Feed { end: workload.end(), feed, trace: vec![1; 250_000] };
+            assert_eq!(list.call(&call), 0, "{}", workload.name);
+            continue;
+        }
         for call in &workload.calls {
             let (trace, rules) = (vec![1; 250_000], vec![1; workload.rules_bytes]);
             let call = Call::Advance { t: call.t, bag: call.bag.clone(), trace, rules };
@@ -211,6 +240,25 @@ fn observed(workload: &Workload) -> Observed {
         advance::advance(model, &mut run, call.t, bag, lent, dropped, &mut observed);
     }
     observed
+}
+
+/// Each of 1,000 bags is an instant of one step, and nothing else is due. In a chain of 15 stations each cue
+/// has a step in the splitter, the hold and the buffer of each, and the last has only begun.
+#[test]
+fn feeds_are_as_long_as_they_say() {
+    for (name, steps) in [
+        ("feed, small", 1_000),
+        ("feed, maximal", 1_000),
+        ("feed, 15 stations", 999 * (1 + 15 * 3) + 2),
+    ] {
+        let workload = workload(name);
+        let mut run = vec![0; 600];
+        reference::start(&workload.model, &mut run);
+        let (end, feed) = (workload.end(), workload.feed.expect("a feed"));
+        let trace = &mut vec![0; 250_000];
+        let fed = reference::advance_feed(&workload.model, &mut run, end, &feed, trace);
+        assert_eq!((fed.number, fed.bags, fed.steps), (0, 1_000, steps), "{name}");
+    }
 }
 
 /// In each of 40 periods of 16 moments, 55 atomics get one cue, one stray when they are due, and 14

@@ -4,13 +4,14 @@
 
 use crate::shared::advance::{self, Accepted, Buffers, Simulator};
 use crate::shared::deciding::entered;
+use crate::shared::feed;
 use crate::shared::held::{due_after, Held, NEVER};
 use crate::shared::keys::{put_given, put_sent};
 use crate::shared::lights::Lights;
 use crate::shared::tables::{is_output, Tables, PORTS, PORT_NODES};
 use crate::shared::unchecked::{at, front, put};
 use reference::limits;
-use reference::Advanced;
+use reference::{Advanced, Fed};
 
 pub fn advance(
     model: &[u8],
@@ -21,6 +22,10 @@ pub fn advance(
     rules: &mut [u8],
 ) -> Advanced {
     advance::advance::<FlatRows>(model, run, t, bag, trace, rules)
+}
+
+pub fn advance_feed(model: &[u8], run: &mut [u8], end: u64, bags: &[u8], trace: &mut [u8]) -> Fed {
+    feed::advance_feed::<FlatRows>(model, run, end, bags, trace)
 }
 
 /// A row is the node where a route begins, and above that the port where it ends.

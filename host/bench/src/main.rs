@@ -1,8 +1,8 @@
 //! Measures engines with the same interface in one process: the proved library, where it is linked
 //! (feature `library`), against two optimised, unverified ones. `pulled` has the same algorithm,
-//! `flat rows` compiles routes to flat rows and is the limit. Traces are rearranged by the library against
-//! two others, which go over the bytes as often: `passes` stops at a message that falls, `unbroken` judges
-//! every bag to its end.
+//! `flat rows` compiles routes to flat rows and is the limit. A feed is measured as one call and by the calls
+//! that it stands for. Traces are rearranged by the library against two others, which go over the bytes as
+//! often: `passes` stops at a message that falls, `unbroken` judges every bag to its end.
 //!
 //! `bench/run.sh` builds and runs it. `--rounds N` takes the best of N rounds, `--only TEXT` measures
 //! only what has TEXT in its name. `--write FOLDER` measures nothing, and writes the trace of a week and
@@ -30,6 +30,10 @@ mod arguments;
 #[allow(dead_code)]
 #[path = "../../compare/src/call.rs"]
 mod call;
+#[cfg(test)]
+#[allow(dead_code)]
+#[path = "../../compare/src/feeds/arguments.rs"]
+mod feed_arguments;
 #[cfg(test)]
 #[path = "../../compare/src/lent.rs"]
 mod lent;
@@ -121,6 +125,37 @@ impl Run<'_> {
         Ok(())
     }
 
+    /// Feeds on either form of their models, each as one call; below that, what its calls take one by one,
+    /// and how many times as much that is.
+    fn feeds(&mut self) -> Result<(), String> {
+        let facts = ["form", "routes", "bags"];
+        self.report.head("Feeds", &facts, "ns a bag; ratios of speed", Some("bags/s"));
+        let (engines, arguments) = (self.engines, self.arguments);
+        for workload in workloads::feeds::all().iter().filter(|feed| arguments.want(&feed.name)) {
+            let flat = workload.flat_model();
+            for (form, model) in [("nest", &workload.model), ("flat", &flat)] {
+                if form == "nest" && *model == flat {
+                    continue;
+                }
+                let fed = measure(engines, workload, model, arguments.rounds)?;
+                let by_calls = measure(engines, &workload.by_calls(), model, arguments.rounds)?;
+                let (routes, bags) = (workload.routes().to_string(), fed.calls.to_string());
+                let (fed, by_calls) = (fed.per_call(), by_calls.per_call());
+                self.report.line(&Line {
+                    label: &workload.name,
+                    facts: &[form.into(), routes, bags],
+                    nanoseconds: &fed,
+                    rate: Some(1e9 / fed[self.report.subject]),
+                    held_to_all: *model == flat,
+                });
+                self.report.below("  by its calls", facts.len(), by_calls.iter().copied());
+                let times = by_calls.iter().zip(&fed).map(|(by_calls, fed)| by_calls / fed);
+                self.report.below("  so many times as much", facts.len(), times);
+            }
+        }
+        Ok(())
+    }
+
     fn series(&mut self, series: &Series) -> Result<(), String> {
         let mut lines = Vec::new();
         for (size, workload) in &series.points {
@@ -161,6 +196,7 @@ impl Run<'_> {
         let facts = ["form", "routes", "calls"];
         self.report.head("One call", &facts, "ns a call; ratios of speed", Some("calls/s"));
         self.table(&workloads::short_calls(), By::Call)?;
+        self.feeds()?;
         self.report.head("Growth", &["size"], "ns a step; ratios of speed", None);
         for series in workloads::growth::all() {
             if self.arguments.want(series.name) {

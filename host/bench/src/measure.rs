@@ -2,8 +2,8 @@
 //! each counts.
 
 use crate::engine::{Engine, Functions};
-use crate::workloads::{Advance, Workload};
-use reference::{limits, saved_run, Advanced, Reading};
+use crate::workloads::Workload;
+use reference::{limits, saved_run, Advanced, Fed, Reading};
 use std::hint::black_box;
 use std::time::{Duration, Instant};
 
@@ -34,7 +34,7 @@ impl Measured {
 /// The model that is run, and the run, trace and table of rules that are lent.
 struct Bench<'w> {
     model: &'w [u8],
-    calls: &'w [Advance],
+    workload: &'w Workload,
     started: Vec<u8>,
     run: Vec<u8>,
     trace: Vec<u8>,
@@ -49,8 +49,18 @@ struct Outcome {
     started: Vec<u8>,
     /// With the trace and the table of rules after each.
     advances: Vec<(Advanced, Vec<u8>, Vec<u8>)>,
+    /// With the trace after it.
+    fed: Option<(Fed, Vec<u8>)>,
     run: Vec<u8>,
     readings: Vec<Reading>,
+}
+
+impl Outcome {
+    /// The number and the steps of each call that was made.
+    fn answers(&self) -> impl Iterator<Item = (u64, u64)> + '_ {
+        let advances = self.advances.iter().map(|(answer, ..)| (answer.number, answer.steps));
+        advances.chain(self.fed.iter().map(|(fed, _)| (fed.number, fed.steps)))
+    }
 }
 
 /// Measures a workload's calls on one form of its model. It is an error where engines differ or
@@ -67,9 +77,8 @@ pub fn measure(
             return Err(format!("{}: {name} has another outcome", workload.name));
         }
     }
-    let answers = || expected.advances.iter().map(|(answer, ..)| answer);
-    if let Some(answer) = answers().find(|answer| answer.number != 0) {
-        return Err(format!("{}: refused by {}", workload.name, answer.number));
+    if let Some((number, _)) = expected.answers().find(|(number, _)| *number != 0) {
+        return Err(format!("{}: refused by {number}", workload.name));
     }
     let mut bench = Bench::new(model, workload, &expected.started);
     let passes = passes_in_a_round(|| bench.round(&engines[0].1, 1));
@@ -81,11 +90,11 @@ pub fn measure(
             best[number] = best[number].min(bench.round(&engines[number].1, passes));
         }
     }
-    let steps = answers().map(|answer| answer.steps).sum();
+    let steps = expected.answers().map(|(_, steps)| steps).sum();
     Ok(Measured { calls: workload.calls.len() as u64, steps, best })
 }
 
-/// Makes all five calls on a model, advance as listed.
+/// Makes all calls on a model, advance as listed or the feed that stands for them.
 fn outcome(engine: &Functions, model: &[u8], workload: &Workload) -> Outcome {
     let mut flat = vec![0; model.len() + 4 * limits::COUPLINGS];
     let written = engine.flatten(model, &mut flat);
@@ -96,28 +105,37 @@ fn outcome(engine: &Functions, model: &[u8], workload: &Workload) -> Outcome {
     let started = run.clone();
     let mut trace = vec![0; TRACE_BYTES];
     let mut advances = Vec::new();
-    for call in &workload.calls {
+    let fed = workload.feed.as_ref().map(|feed| {
+        let fed = engine.advance_feed(model, &mut run, workload.end(), feed, &mut trace);
+        (fed, trace[..fed.trace_bytes as usize].to_vec())
+    });
+    let calls = if fed.is_some() { &[] } else { &workload.calls[..] };
+    for call in calls {
         let mut rules = vec![0; workload.rules_bytes];
         let answer = engine.advance(model, &mut run, call.t, &call.bag, &mut trace, &mut rules);
         advances.push((answer, trace[..answer.trace_bytes as usize].to_vec(), rules));
     }
     let positions = 0..limits::COMPONENTS as u64;
     let readings = positions.map(|position| engine.read(model, &run, position)).collect();
-    Outcome { check: engine.check_model(model), flat, started, advances, run, readings }
+    Outcome { check: engine.check_model(model), flat, started, advances, fed, run, readings }
 }
 
 impl<'w> Bench<'w> {
     fn new(model: &'w [u8], workload: &'w Workload, started: &[u8]) -> Bench<'w> {
         let (started, run) = (started.to_vec(), started.to_vec());
         let (trace, rules) = (vec![0; TRACE_BYTES], vec![0; workload.rules_bytes]);
-        Bench { model, calls: &workload.calls, started, run, trace, rules }
+        Bench { model, workload, started, run, trace, rules }
     }
 
     /// One pass over the calls from the started run. Trace and rules are not cleared between calls.
     fn pass(&mut self, engine: &Functions) {
         self.run.copy_from_slice(&self.started);
-        for call in self.calls {
-            let (run, trace, rules) = (&mut self.run, &mut self.trace, &mut self.rules);
+        let (run, trace, rules) = (&mut self.run, &mut self.trace, &mut self.rules);
+        if let Some(feed) = &self.workload.feed {
+            black_box(engine.advance_feed(self.model, run, self.workload.end(), feed, trace));
+            return;
+        }
+        for call in &self.workload.calls {
             black_box(engine.advance(self.model, run, call.t, &call.bag, trace, rules));
         }
     }

@@ -7,13 +7,14 @@ mod sort;
 
 use crate::shared::advance::{self, Accepted, Buffers, Simulator};
 use crate::shared::deciding::entered;
+use crate::shared::feed;
 use crate::shared::held::{due_after, Held, NEVER};
 use crate::shared::lights::Lights;
 use crate::shared::tables::{is_output, PORTS, PORT_NODES};
 use crate::shared::unchecked::{at, front, put};
 use collect::Flow;
 use reference::limits;
-use reference::Advanced;
+use reference::{Advanced, Fed};
 
 pub fn advance(
     model: &[u8],
@@ -24,6 +25,10 @@ pub fn advance(
     rules: &mut [u8],
 ) -> Advanced {
     advance::advance::<Pulled>(model, run, t, bag, trace, rules)
+}
+
+pub fn advance_feed(model: &[u8], run: &mut [u8], end: u64, bags: &[u8], trace: &mut [u8]) -> Fed {
+    feed::advance_feed::<Pulled>(model, run, end, bags, trace)
 }
 
 /// It computes nothing in a call beyond the tables.

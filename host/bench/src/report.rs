@@ -90,10 +90,15 @@ impl Report {
 
     /// What one more of a size costs, from the first to the last line of a series.
     pub fn growth(&self, first: (u64, &[f64]), last: (u64, &[f64])) {
-        let mut text = format!("{:LABEL$}{:>FACT$}", "  one more costs", "");
-        for (before, after) in first.1.iter().zip(last.1) {
-            text += &format!("{:>COLUMN$.2}", (after - before) / (last.0 - first.0) as f64);
-        }
+        let more = (last.0 - first.0) as f64;
+        let costs = first.1.iter().zip(last.1).map(|(before, after)| (after - before) / more);
+        self.below("  one more costs", 1, costs);
+    }
+
+    /// A line without ratios and without a goal, below one with so many facts: a figure by engine.
+    pub fn below(&self, label: &str, facts: usize, figures: impl Iterator<Item = f64>) {
+        let mut text = format!("{label:LABEL$}{:1$}", "", facts * FACT);
+        figures.for_each(|figure| text += &format!("{figure:>COLUMN$.2}"));
         println!("{text}");
     }
 

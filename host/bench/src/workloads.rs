@@ -1,10 +1,11 @@
-//! What is measured: models, each with a list of advance calls from the run that start writes; and traces
-//! to rearrange.
+//! What is measured: models, each with a list of advance calls from the run that start writes, or with a feed
+//! that stands for them; and traces to rearrange.
 
 mod bursts;
 mod calls;
 mod counting;
 mod fans;
+pub mod feeds;
 pub mod growth;
 mod nests;
 mod rules;
@@ -13,23 +14,28 @@ pub mod traces;
 
 use reference::builder::Builder;
 use reference::decode::decode;
+use reference::feed::{self, FeedBag};
 use reference::flatten::flat_form;
 use reference::lit_rules;
-use reference::records::{Phase, Rule};
+use reference::records::{Message, Phase, Rule};
 use reference::routes;
 
 /// One advance call.
+#[derive(Clone)]
 pub struct Advance {
     pub t: u64,
     pub bag: Vec<u8>,
 }
 
+#[derive(Clone)]
 pub struct Workload {
     pub name: String,
     pub model: Vec<u8>,
     pub calls: Vec<Advance>,
     /// The length of the table of rules that each call lends: 0, or just enough.
     pub rules_bytes: usize,
+    /// The bytes of a feed to be run to its last bag, in place of the calls.
+    pub feed: Option<Vec<u8>>,
 }
 
 impl Workload {
@@ -39,7 +45,7 @@ impl Workload {
     }
 
     fn with_calls(name: impl Into<String>, model: &Builder, calls: Vec<Advance>) -> Workload {
-        Workload { name: name.into(), model: model.file(), calls, rules_bytes: 0 }
+        Workload { name: name.into(), model: model.file(), calls, rules_bytes: 0, feed: None }
     }
 
     /// The same calls, each with a table of rules.
@@ -48,6 +54,24 @@ impl Workload {
         self.name += ", lit";
         self.rules_bytes = lit_rules::length(atomics);
         self
+    }
+
+    /// The same calls as one feed.
+    fn fed(mut self) -> Workload {
+        let messages = |bag: &[u8]| bag.chunks_exact(Message::BYTES).map(Message::read).collect();
+        let bag = |call: &Advance| FeedBag { moment: call.t, messages: messages(&call.bag) };
+        self.feed = Some(feed::encode(&self.calls.iter().map(bag).collect::<Vec<FeedBag>>()));
+        self
+    }
+
+    /// The same calls, made one by one.
+    pub fn by_calls(&self) -> Workload {
+        Workload { feed: None, ..self.clone() }
+    }
+
+    /// The moment of the last call.
+    pub fn end(&self) -> u64 {
+        self.calls.last().expect("a workload has a call").t
     }
 
     /// The model's flat form.

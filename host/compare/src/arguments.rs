@@ -21,7 +21,7 @@ pub struct Known {
 /// About how many instants one call may have to do.
 const INSTANTS: u64 = 40;
 /// A trace that is long enough for nearly every call.
-const LONG_TRACE: usize = 4_096;
+pub const LONG_TRACE: usize = 4_096;
 
 impl Known {
     pub fn new(model: &Model) -> Known {
@@ -38,7 +38,7 @@ impl Known {
 
     /// How far a call may go from the open moment. Each instant but a bag's has an atomic that is
     /// due after an advance above 0, so that shorter spans have few instants.
-    fn span(&self, random: &mut Random) -> u64 {
+    pub fn span(&self, random: &mut Random) -> u64 {
         let instants = random.between(1, INSTANTS);
         let longest = HIGHEST_TIME;
         let in_span = |span: u64| self.shortest.iter().map(|shortest| span / shortest).sum::<u64>();
@@ -137,7 +137,8 @@ fn any_time(random: &mut Random, open: u64) -> u64 {
     }
 }
 
-fn messages(random: &mut Random, count: usize) -> Vec<u8> {
+/// So many messages on ports that exist.
+pub fn messages(random: &mut Random, count: usize) -> Vec<u8> {
     let mut bytes = Vec::new();
     for _ in 0..count {
         bytes.push(random.pick(&[0, 0, 0, 1, 1, 2, 3]));

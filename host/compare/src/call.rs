@@ -2,7 +2,7 @@
 
 use crate::engine::Engine;
 use crate::lent::Lent;
-use reference::{Advanced, Reading, Written};
+use reference::{Advanced, Fed, Reading, Written};
 use std::fmt;
 
 #[derive(Clone)]
@@ -14,6 +14,12 @@ pub enum Call {
         bag: Vec<u8>,
         trace: Vec<u8>,
         rules: Vec<u8>,
+    },
+    /// With the first bytes of the lent trace.
+    Feed {
+        end: u64,
+        feed: Vec<u8>,
+        trace: Vec<u8>,
     },
     Read {
         position: u64,
@@ -31,6 +37,7 @@ pub enum Kind {
     CheckModel,
     Start,
     Advance,
+    AdvanceFeed,
     Read,
     Flatten,
     TraceToColumns,
@@ -41,6 +48,7 @@ pub enum Kind {
 pub enum Answer {
     Written(Written),
     Advanced(Advanced),
+    Fed(Fed),
     Reading(Reading),
 }
 
@@ -55,6 +63,10 @@ impl fmt::Display for Call {
                     "advance to {t} with the bag {bag:?} and {lengths:?} bytes of trace and rules"
                 )
             }
+            Call::Feed { end, feed, trace } => {
+                let length = trace.len();
+                write!(out, "feed {feed:?} run to {end} with {length} bytes of trace")
+            }
             Call::Read { position } => write!(out, "reading of position {position}"),
         }
     }
@@ -65,6 +77,7 @@ impl Call {
         match self {
             Call::Start => Kind::Start,
             Call::Advance { .. } => Kind::Advance,
+            Call::Feed { .. } => Kind::AdvanceFeed,
             Call::Read { .. } => Kind::Read,
         }
     }
@@ -72,7 +85,7 @@ impl Call {
     /// The first bytes of the trace that the call lends.
     pub fn trace(&self) -> &[u8] {
         match self {
-            Call::Advance { trace, .. } => trace,
+            Call::Advance { trace, .. } | Call::Feed { trace, .. } => trace,
             _ => &[],
         }
     }
@@ -103,6 +116,10 @@ impl Call {
                 let (trace, rules) = (beside.trace.buffer(), beside.rules.buffer());
                 Answer::Advanced(engine.advance(model, run.buffer(), *t, bag, trace, rules))
             }
+            Call::Feed { end, feed, .. } => {
+                let trace = beside.trace.buffer();
+                Answer::Fed(engine.advance_feed(model, run.buffer(), *end, feed, trace))
+            }
             Call::Read { position } => {
                 Answer::Reading(engine.read(model, run.content(), *position))
             }
@@ -115,6 +132,7 @@ impl Answer {
         match self {
             Answer::Written(answer) => answer.number,
             Answer::Advanced(answer) => answer.number,
+            Answer::Fed(answer) => answer.number,
             Answer::Reading(answer) => answer.number,
         }
     }
@@ -124,6 +142,7 @@ impl Answer {
         match *self {
             Answer::Written(answer) => answer == Written::refused(answer.number),
             Answer::Advanced(answer) => answer == Advanced::refused(answer.number),
+            Answer::Fed(answer) => answer == Fed::refused(answer.number),
             Answer::Reading(answer) => answer == Reading::refused(answer.number),
         }
     }

@@ -3,6 +3,7 @@
 use crate::arguments::{self, Known};
 use crate::call::{Answer, Call};
 use crate::comparison::{Compared, Comparison};
+use crate::feeds;
 use crate::naive_routes;
 use crate::random::Random;
 use crate::relations::Succeeded;
@@ -35,6 +36,8 @@ pub fn calls_on_file(
     let rules = random.bytes(lit_rules::length(COMPONENTS) + lengths[3]);
     list.call(&Call::Advance { t, bag, trace, rules })?;
     list.call(&Call::Read { position: arguments::position(random, 3) })?;
+    let (end, feed) = (random.next(), feeds::any_bytes(random));
+    list.call(&Call::Feed { end, feed, trace: random.bytes(lengths[2]) })?;
     Ok(())
 }
 
@@ -60,6 +63,9 @@ pub fn well_formed(
     }
     calls_on_file(comparison, random, &file)
 }
+
+/// How many lists of a hundred have feeds at their end: a feed costs as much as several calls.
+const LISTS_WITH_FEEDS: u64 = 30;
 
 /// An accepted model: its flat form, and a list of calls on it.
 fn accepted(
@@ -109,7 +115,11 @@ fn accepted(
             _ => arguments::next_call(random, file, model, &known, list.run()),
         };
     }
-    Ok(())
+    if endless_calls > 1 || !random.percent(LISTS_WITH_FEEDS) {
+        return Ok(());
+    }
+    let facts = feeds::at_the_end(&mut list, random, model, &known)?;
+    facts.iter().try_for_each(|fact| fact.holds_in_turn(comparison))
 }
 
 /// Flattening into a buffer that is long enough or not.

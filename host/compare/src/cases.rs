@@ -8,7 +8,7 @@ use crate::models::damage::{self, Damage};
 use crate::models::{chains, limits, nests};
 use crate::random::Random;
 use crate::runs::{self, RunDamage, RUN_DAMAGES};
-use crate::{columns, notice, rules_table, special};
+use crate::{columns, feeds, notice, rules_table, special};
 #[cfg(test)]
 use crate::{counts::Counts, engine::rearrangers, worked};
 use reference::decode::decode;
@@ -21,6 +21,7 @@ pub fn names() -> Vec<&'static str> {
     names.extend(RUN_DAMAGES.iter().map(|damage| damage.name));
     names.extend(special::names());
     names.extend(columns::names());
+    names.extend(feeds::names());
     names.extend(calls_on_model::NAMES);
     names.extend(notice::NOTICED);
     names.extend(rules_table::names());
@@ -34,7 +35,7 @@ const ROUNDS_OF_DAMAGE: usize = 5;
 /// The number of cases that come in every run.
 pub fn fixed() -> usize {
     let damages = damage::all().len() + RUN_DAMAGES.len();
-    let made_for_something = special::CASES.len() + columns::CASES.len();
+    let made_for_something = special::CASES.len() + columns::CASES.len() + feeds::CASES.len();
     limits::LIMITS.len() + made_for_something + ROUNDS_OF_DAMAGE * damages
 }
 
@@ -58,7 +59,12 @@ pub fn case(comparison: &mut Comparison, random: &mut Random, number: usize) -> 
     }
     at -= columns::CASES.len();
     let damages = damage::all();
-    at %= damages.len() + RUN_DAMAGES.len();
+    let kinds_of_damage = damages.len() + RUN_DAMAGES.len();
+    if let Some(at) = at.checked_sub(ROUNDS_OF_DAMAGE * kinds_of_damage) {
+        // They stand last: so the cases before them have kept their numbers, and what chance draws for them.
+        return feeds::CASES[at](comparison, random);
+    }
+    at %= kinds_of_damage;
     match damages.get(at) {
         Some(damage) => damaged(comparison, random, damage),
         None => damaged_run(comparison, random, &RUN_DAMAGES[at - damages.len()]),
@@ -145,7 +151,8 @@ fn damaged_run(
     let (bag, trace) = (arguments::bag(random), random.bytes(20));
     let rules = arguments::rules_table(random, model.atomics().len());
     let t = random.pick(&[0, runs::open_moment(&run), u64::MAX]);
-    for call in [Call::Read { position }, Call::Advance { t, bag, trace, rules }] {
+    let feed = Call::Feed { end: t, feed: feeds::any_bytes(random), trace: random.bytes(20) };
+    for call in [Call::Read { position }, Call::Advance { t, bag, trace, rules }, feed] {
         let answer = list.call(&call)?.answer;
         if answer.number() != 10 {
             return Err(format!("{}: {answer:?} instead of 10", damage.name));

@@ -4,6 +4,7 @@ use crate::call::{Answer, Call, Kind};
 use crate::columns::joined::Joined;
 use crate::counts::Counts;
 use crate::engine::{Engine, Form, Rearranger, Subject, Yardstick};
+use crate::feeds;
 use crate::laws::{self, Buffers};
 use crate::lent::Lent;
 use crate::notice;
@@ -20,8 +21,9 @@ pub struct Comparison {
     /// By name.
     pub rearrangers: Vec<(&'static str, Box<dyn Rearranger>)>,
     pub counts: Counts,
-    /// The calls on models, and the calls that rearrange traces.
+    /// The calls on models, those that feeds were held against, and the calls that rearrange traces.
     pub calls: u64,
+    pub calls_in_turn: u64,
     pub rearranged: u64,
 }
 
@@ -45,10 +47,11 @@ pub struct Outcome {
 }
 
 impl Outcome {
-    /// The records that an advance wrote.
+    /// The records that an advance or a feed wrote.
     pub fn records(&self) -> &[u8] {
         match self.answer {
             Answer::Advanced(answer) => &self.trace[..answer.trace_bytes as usize],
+            Answer::Fed(answer) => &self.trace[..answer.trace_bytes as usize],
             _ => &[],
         }
     }
@@ -60,7 +63,7 @@ impl Comparison {
         rearrangers: Vec<(&'static str, Box<dyn Rearranger>)>,
         counts: Counts,
     ) -> Comparison {
-        Comparison { subjects, rearrangers, counts, calls: 0, rearranged: 0 }
+        Comparison { subjects, rearrangers, counts, calls: 0, calls_in_turn: 0, rearranged: 0 }
     }
 
     /// The number by which every engine refuses the file, or 0.
@@ -134,6 +137,7 @@ impl CallList<'_> {
         let answer = call.make(&self.yardstick, &self.file, &mut self.run, &mut beside);
         let (trace, rules) = (beside.trace.content(), beside.rules.content());
         let observed = self.yardstick.take_observed();
+        let calls_of_feed = self.yardstick.take_calls_of_feed();
         for (subject, run) in self.comparison.subjects.iter().zip(&mut self.runs) {
             let model = match (subject.form, &self.flat) {
                 (Form::AsGiven, _) => &self.file,
@@ -168,6 +172,7 @@ impl CallList<'_> {
         counts.transitions(&observed);
         notice::notice(counts, self.model.as_ref(), call, &answer, &run_before, &observed);
         rules_table::notice(counts, self.model.as_ref(), call, &answer, &observed.last_instant);
+        feeds::notice(counts, self.model.as_ref(), call, &answer, &run_before, &calls_of_feed);
         let outcome = Outcome { answer, trace: trace.to_vec(), rules: rules.to_vec() };
         self.comparison
             .rearrange_run(&mut self.joined, call, &outcome)

@@ -1,16 +1,17 @@
 //! What a comparison run has met, and what it must meet to pass.
 
 use crate::call::Kind;
-use crate::{columns, rules_table};
+use crate::{columns, feeds, rules_table};
 use reference::limits::ANCESTORS;
 use reference::lit_rules::LastInstant;
 use reference::observed::Observed;
 use std::collections::BTreeMap;
 
-const KINDS: [(Kind, &str); 7] = [
+const KINDS: [(Kind, &str); 8] = [
     (Kind::CheckModel, "check_model"),
     (Kind::Start, "start"),
     (Kind::Advance, "advance"),
+    (Kind::AdvanceFeed, "advance_feed"),
     (Kind::Read, "read"),
     (Kind::Flatten, "flatten"),
     (Kind::TraceToColumns, "trace_to_columns"),
@@ -18,7 +19,7 @@ const KINDS: [(Kind, &str); 7] = [
 ];
 
 /// One more than the highest number.
-const NUMBERS: usize = 19;
+const NUMBERS: usize = 20;
 
 /// Strays after some time in the phase, by the atomic's ancestors.
 const STRAYS: [&str; ANCESTORS] = [
@@ -39,6 +40,7 @@ fn possible_numbers(kind: Kind) -> Vec<usize> {
         Kind::CheckModel => &[],
         Kind::Start | Kind::Flatten => &[15],
         Kind::Advance => &[10, 11, 12, 13, 15],
+        Kind::AdvanceFeed => &[10, 11, 13, 15, 19],
         Kind::Read => &[10, 16],
         Kind::TraceToColumns => return vec![0, 15, 17],
         Kind::ColumnsToTrace => return vec![0, 15, 18],
@@ -55,7 +57,7 @@ pub struct Counts {
     pub at_random: bool,
 }
 
-/// How often a kind of transition or of trace was met. Each comes in a case made for it; those that chance
+/// How often a kind of transition, of trace or of feed was met. Each comes in a case made for it; those that chance
 /// has made count apart, so that a generator which has lost a kind is told.
 #[derive(Default)]
 struct Met {
@@ -70,6 +72,7 @@ impl Counts {
         counts.transitions(&Observed::default());
         counts.kinds(rules_table::kinds(&LastInstant::default()));
         counts.kinds(columns::kinds());
+        counts.kinds(feeds::kinds());
         counts
     }
 
@@ -98,7 +101,7 @@ impl Counts {
         self.kinds(kinds.into_iter().chain(STRAYS.into_iter().zip(observed.strays)));
     }
 
-    /// Counts how often kinds of transitions, of what they light, or of traces were met.
+    /// Counts how often kinds of transitions, of what they light, of traces, or of feeds were met.
     pub fn kinds(&mut self, kinds: impl Iterator<Item = (&'static str, u64)>) {
         for (name, count) in kinds {
             let met = self.kinds.entry(name).or_default();
@@ -121,7 +124,7 @@ impl Counts {
         for (row, (_, name)) in self.numbers.iter().zip(KINDS) {
             println!("{name:>16}{}", columns(row));
         }
-        println!("transitions, what they light, and traces, in all cases and at random:");
+        println!("transitions, what they light, traces, and feeds, in all cases and at random:");
         for (name, Met { in_all_cases, at_random }) in &self.kinds {
             println!("{in_all_cases:>12}{at_random:>12}  {name}");
         }

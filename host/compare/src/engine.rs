@@ -1,14 +1,15 @@
 //! The engines that are held against each other, all behind the same functions.
 
-use std::cell::Cell;
+use std::cell::{Cell, RefCell};
 
 use crate::column_passes;
 use reference::advance::Lent;
 pub use reference::engine::{Engine, Rearranger};
 use reference::engine::{FLAT_MACHINE, NEST};
+use reference::feed;
 use reference::nest::DeadWays;
 use reference::observed::Observed;
-use reference::{decode, routes, Advanced, Reading, Written};
+use reference::{decode, routes, Advanced, Fed, Reading, Written};
 
 /// Which bytes an engine is fed for a model.
 #[derive(Clone, Copy, Debug, PartialEq, Eq)]
@@ -57,6 +58,7 @@ const FEW_PORTS: u64 = 4_096;
 pub struct Yardstick {
     dead_ways: DeadWays,
     observed: Cell<Observed>,
+    calls_of_feed: RefCell<Vec<Advanced>>,
 }
 
 impl Yardstick {
@@ -65,12 +67,17 @@ impl Yardstick {
             Ok(model) if routes::ports_passed(&model) <= FEW_PORTS => DeadWays::Kept,
             _ => DeadWays::Dropped,
         };
-        Yardstick { dead_ways, observed: Cell::default() }
+        Yardstick { dead_ways, observed: Cell::default(), calls_of_feed: RefCell::default() }
     }
 
     /// What was met since this was last asked.
     pub fn take_observed(&self) -> Observed {
         self.observed.take()
+    }
+
+    /// What the calls of the feeds that were run since this was last asked have answered, in turn.
+    pub fn take_calls_of_feed(&self) -> Vec<Advanced> {
+        self.calls_of_feed.take()
     }
 }
 
@@ -98,6 +105,22 @@ impl Engine for Yardstick {
             reference::advance::advance(model, run, t, bag, lent, self.dead_ways, &mut observed);
         self.observed.set(observed);
         answer
+    }
+
+    fn advance_feed(
+        &self,
+        model: &[u8],
+        run: &mut [u8],
+        end: u64,
+        feed: &[u8],
+        trace: &mut [u8],
+    ) -> Fed {
+        let mut make_call = |run: &mut [u8], t: u64, bag: &[u8], trace: &mut [u8]| {
+            let answer = self.advance(model, run, t, bag, trace, &mut []);
+            self.calls_of_feed.borrow_mut().push(answer);
+            answer
+        };
+        feed::run_by(&mut make_call, model, run, end, feed, trace)
     }
 
     fn read(&self, model: &[u8], run: &[u8], position: u64) -> Reading {

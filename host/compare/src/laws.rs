@@ -2,6 +2,7 @@
 //! shows here and nowhere else.
 
 use crate::call::{Answer, Call};
+use crate::feeds;
 #[cfg(test)]
 use reference::examples::{relayed_hold, tick_among_strays};
 use reference::limits::{
@@ -24,7 +25,7 @@ pub struct Buffers<'b> {
     pub rules: &'b [u8],
 }
 
-fn holds(condition: bool, what: &str) -> Result<(), String> {
+pub fn holds(condition: bool, what: &str) -> Result<(), String> {
     condition.then_some(()).ok_or_else(|| format!("this does not hold: {what}"))
 }
 
@@ -36,7 +37,8 @@ pub fn test(
     before: &Buffers,
     after: &Buffers,
 ) -> Result<(), String> {
-    let undone_instant = matches!(answer, Answer::Advanced(a) if matches!(a.number, 13..=15));
+    let advances = matches!(answer, Answer::Advanced(_) | Answer::Fed(_));
+    let undone_instant = advances && matches!(answer.number(), 13..=15);
     if answer.number() != 0 && !undone_instant {
         holds(answer.is_otherwise_zero(), "a refusal comes with zeros")?;
         return holds(before == after, "a refusal writes no byte");
@@ -55,9 +57,11 @@ pub fn test(
         (Call::Advance { t, bag, .. }, Answer::Advanced(answer)) => {
             test_advance(*t, !bag.is_empty(), answer, before, after)?;
             test_lit_rules(model, answer.instants, &run_after, before.rules, after.rules)?;
-            let run_before = SavedRun::read_fitting(model, before.run);
-            let run_before = run_before.map_err(|_| "a run that does not fit was advanced")?;
-            test_phases_without_rules(model, answer.steps, &run_before, &run_after)
+            test_phases_without_rules(model, answer.steps, before.run, &run_after)
+        }
+        (Call::Feed { end, feed, .. }, Answer::Fed(answer)) => {
+            feeds::laws::test(*end, feed, answer, before, after)?;
+            test_phases_without_rules(model, answer.steps, before.run, &run_after)
         }
         (Call::Read { .. }, Answer::Reading(_)) => {
             holds(before.run == after.run, "reading writes nothing")
@@ -79,8 +83,6 @@ fn test_advance(
     before: &Buffers,
     after: &Buffers,
 ) -> Result<(), String> {
-    let used = answer.trace_bytes as usize;
-    holds(before.trace[used..] == after.trace[used..], "bytes past the trace's length stay")?;
     let (open_before, open_after) = (u64_at(before.run, 0), u64_at(after.run, 0));
     if answer.number == 0 {
         holds(open_after == t + 1, "on success the open moment is t + 1")?;
@@ -92,6 +94,14 @@ fn test_advance(
             "the open moment moves with the instants done",
         )?;
     }
+    test_instants(answer, before, after)
+}
+
+/// What holds of the instants done between two open moments, be it in one call or in several.
+pub fn test_instants(answer: &Advanced, before: &Buffers, after: &Buffers) -> Result<(), String> {
+    let used = answer.trace_bytes as usize;
+    holds(before.trace[used..] == after.trace[used..], "bytes past the trace's length stay")?;
+    let (open_before, open_after) = (u64_at(before.run, 0), u64_at(after.run, 0));
     if answer.instants == 0 {
         holds(answer.steps == 0 && used == 0, "without an instant there is no step and no record")?;
         let same = before.run[8..] == after.run[8..];
@@ -145,9 +155,11 @@ fn test_lit_rules(
 fn test_phases_without_rules(
     model: &Model,
     steps: u64,
-    before: &SavedRun,
+    before: &[u8],
     after: &SavedRun,
 ) -> Result<(), String> {
+    let before = SavedRun::read_fitting(model, before);
+    let before = before.map_err(|_| "a run that does not fit was advanced")?;
     let standings = before.atomics.iter().zip(&after.atomics);
     for (atomic, (before, now)) in model.atomics().into_iter().zip(standings) {
         let rules = model.rules.iter().filter(|rule| usize::from(rule.component) == atomic);

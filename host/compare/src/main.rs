@@ -4,8 +4,8 @@
 //!
 //! `compare --calls N --seed S` runs until N calls are compared; `--case K` repeats one case alone.
 //! The run fails where an answer or a byte of a lent buffer differs, where a line of the papers does
-//! not hold, and where a refusal number, a kind of transition or of trace, or a boundary was never met.
-//! Each kind must be met at random too: a run of less than 20,000 calls may have too few random models.
+//! not hold, and where a refusal number, a kind of transition, trace or feed, or a boundary was never met.
+//! Each kind must be met at random too: a run of less than 30,000 calls may have too few random models.
 
 mod arguments;
 mod call;
@@ -17,6 +17,7 @@ mod columns;
 mod comparison;
 mod counts;
 mod engine;
+mod feeds;
 mod laws;
 mod lent;
 mod models;
@@ -125,9 +126,11 @@ fn main() -> ExitCode {
         eprintln!("DIFFERENT: {fault}");
         return ExitCode::FAILURE;
     }
-    let (calls, rearranged) = (comparison.calls, comparison.rearranged);
+    let Comparison { calls, calls_in_turn, rearranged, .. } = comparison;
     let seconds = begun.elapsed().as_secs_f64();
-    println!("{calls} calls on models and {rearranged} on traces compared in {seconds:.1} s");
+    println!(
+        "{calls} calls on models, {calls_in_turn} of feeds in turn and {rearranged} on traces compared in {seconds:.1} s"
+    );
     if arguments.case.is_some() {
         return ExitCode::SUCCESS;
     }

@@ -2,6 +2,7 @@
 
 mod columns;
 mod counts;
+mod feeds;
 mod lit_rules;
 mod stays;
 
@@ -13,7 +14,7 @@ use crate::random::Random;
 use crate::{special, worked};
 use reference::flat_machine::{changed, Change};
 use reference::little_endian::{put_u64, u64_at};
-use reference::{Advanced, Reading, Written};
+use reference::{Advanced, Fed, Reading, Written};
 use std::ops::Range;
 
 #[derive(Clone, Copy, Debug, PartialEq, Eq)]
@@ -42,6 +43,7 @@ enum Fault {
     PositionOfOneByte,
     FlatteningCopies,
     AboutCounts(counts::Wrong),
+    AboutFeeds(feeds::Wrong),
     AboutLitRules(lit_rules::Wrong),
 }
 
@@ -172,6 +174,20 @@ impl Engine for Faulty {
             _ => {}
         }
         answer
+    }
+
+    fn advance_feed(
+        &self,
+        model: &[u8],
+        run: &mut [u8],
+        end: u64,
+        feed: &[u8],
+        trace: &mut [u8],
+    ) -> Fed {
+        match self.0 {
+            Fault::AboutFeeds(wrong) => wrong.advance_feed(model, run, end, feed, trace),
+            _ => reference::advance_feed(model, run, end, feed, trace),
+        }
     }
 
     fn read(&self, model: &[u8], run: &[u8], position: u64) -> Reading {

@@ -6,10 +6,11 @@
 #![cfg(feature = "linked")]
 
 use reference::engine::{Functions, Rearranging};
-use reference::{Advanced, Reading, Written};
+use reference::{Advanced, Fed, Reading, Written};
 
 /// The library as an engine.
-pub const FUNCTIONS: Functions = Functions { check_model, start, advance, read, flatten };
+pub const FUNCTIONS: Functions =
+    Functions { check_model, start, advance, advance_feed, read, flatten };
 pub const REARRANGING: Rearranging = Rearranging { trace_to_columns, columns_to_trace };
 
 #[repr(C)]
@@ -21,6 +22,15 @@ struct PdevsWritten {
 #[repr(C)]
 struct PdevsAdvanced {
     number: u64,
+    instants: u64,
+    steps: u64,
+    trace_bytes: u64,
+}
+
+#[repr(C)]
+struct PdevsFed {
+    number: u64,
+    bags: u64,
     instants: u64,
     steps: u64,
     trace_bytes: u64,
@@ -55,6 +65,17 @@ extern "C" {
         rules: *mut u8,
         rules_len: usize,
     ) -> PdevsAdvanced;
+    fn pdevs_advance_feed(
+        model: *const u8,
+        model_len: usize,
+        run: *mut u8,
+        run_len: usize,
+        end: u64,
+        feed: *const u8,
+        feed_len: usize,
+        trace: *mut u8,
+        trace_len: usize,
+    ) -> PdevsFed;
     fn pdevs_read(
         model: *const u8,
         model_len: usize,
@@ -121,6 +142,29 @@ pub fn advance(
     };
     Advanced {
         number: answer.number,
+        instants: answer.instants,
+        steps: answer.steps,
+        trace_bytes: answer.trace_bytes,
+    }
+}
+
+pub fn advance_feed(model: &[u8], run: &mut [u8], end: u64, feed: &[u8], trace: &mut [u8]) -> Fed {
+    let answer = unsafe {
+        pdevs_advance_feed(
+            model.as_ptr(),
+            model.len(),
+            run.as_mut_ptr(),
+            run.len(),
+            end,
+            feed.as_ptr(),
+            feed.len(),
+            trace.as_mut_ptr(),
+            trace.len(),
+        )
+    };
+    Fed {
+        number: answer.number,
+        bags: answer.bags,
         instants: answer.instants,
         steps: answer.steps,
         trace_bytes: answer.trace_bytes,

@@ -19,6 +19,7 @@ pub const BUFFER_TOO_SHORT: u64 = 15;
 pub const BAD_POSITION: u64 = 16;
 pub const NOT_A_TRACE: u64 = 17;
 pub const NOT_COLUMNS: u64 = 18;
+pub const BAD_FEED: u64 = 19;
 
 /// What the writers of one buffer answer: start, flattening, and rearranging a trace.
 #[derive(Clone, Copy, Debug, PartialEq, Eq)]
@@ -31,6 +32,16 @@ pub struct Written {
 #[derive(Clone, Copy, Debug, PartialEq, Eq)]
 pub struct Advanced {
     pub number: u64,
+    pub instants: u64,
+    pub steps: u64,
+    pub trace_bytes: u64,
+}
+
+/// What running a feed answers: how many bags' own calls succeeded, and the counts of all calls added up.
+#[derive(Clone, Copy, Debug, PartialEq, Eq)]
+pub struct Fed {
+    pub number: u64,
+    pub bags: u64,
     pub instants: u64,
     pub steps: u64,
     pub trace_bytes: u64,
@@ -63,6 +74,12 @@ impl Written {
 impl Advanced {
     pub fn refused(number: u64) -> Advanced {
         Advanced { number, instants: 0, steps: 0, trace_bytes: 0 }
+    }
+}
+
+impl Fed {
+    pub fn refused(number: u64) -> Fed {
+        Fed { number, bags: 0, instants: 0, steps: 0, trace_bytes: 0 }
     }
 }
 

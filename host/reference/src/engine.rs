@@ -1,6 +1,6 @@
-//! An engine as its functions, five on models and two on traces, and engines that are made of plain ones.
+//! An engine as its functions, six on models and two on traces, and engines that are made of plain ones.
 
-use crate::{flat_machine, Advanced, Reading, Written};
+use crate::{flat_machine, Advanced, Fed, Reading, Written};
 
 pub trait Engine {
     fn check_model(&self, model: &[u8]) -> u64;
@@ -14,6 +14,14 @@ pub trait Engine {
         trace: &mut [u8],
         rules: &mut [u8],
     ) -> Advanced;
+    fn advance_feed(
+        &self,
+        model: &[u8],
+        run: &mut [u8],
+        end: u64,
+        feed: &[u8],
+        trace: &mut [u8],
+    ) -> Fed;
     fn read(&self, model: &[u8], run: &[u8], position: u64) -> Reading;
     fn flatten(&self, model: &[u8], out: &mut [u8]) -> Written;
 }
@@ -25,12 +33,14 @@ pub trait Rearranger {
 }
 
 type Advancing = fn(&[u8], &mut [u8], u64, &[u8], &mut [u8], &mut [u8]) -> Advanced;
+type Feeding = fn(&[u8], &mut [u8], u64, &[u8], &mut [u8]) -> Fed;
 
 /// The functions of one engine on models.
 pub struct Functions {
     pub check_model: fn(&[u8]) -> u64,
     pub start: fn(&[u8], &mut [u8]) -> Written,
     pub advance: Advancing,
+    pub advance_feed: Feeding,
     pub read: fn(&[u8], &[u8], u64) -> Reading,
     pub flatten: fn(&[u8], &mut [u8]) -> Written,
 }
@@ -46,6 +56,7 @@ pub const NEST: Functions = Functions {
     check_model: crate::check_model,
     start: crate::start,
     advance: crate::advance,
+    advance_feed: crate::advance_feed,
     read: crate::read,
     flatten: crate::flatten,
 };
@@ -54,6 +65,7 @@ pub const NEST: Functions = Functions {
 pub const FLAT_MACHINE: Functions = Functions {
     start: flat_machine::start,
     advance: flat_machine::advance,
+    advance_feed: flat_machine::advance_feed,
     read: flat_machine::read,
     ..NEST
 };
@@ -77,6 +89,17 @@ impl Engine for Functions {
         rules: &mut [u8],
     ) -> Advanced {
         (self.advance)(model, run, t, bag, trace, rules)
+    }
+
+    fn advance_feed(
+        &self,
+        model: &[u8],
+        run: &mut [u8],
+        end: u64,
+        feed: &[u8],
+        trace: &mut [u8],
+    ) -> Fed {
+        (self.advance_feed)(model, run, end, feed, trace)
     }
 
     fn read(&self, model: &[u8], run: &[u8], position: u64) -> Reading {

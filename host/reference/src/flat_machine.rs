@@ -3,10 +3,12 @@
 //! atomic say of a phase, the byte forms, and the table's checks of a call.
 
 use crate::answers::{
-    Advanced, Reading, Written, BAD_POSITION, BUFFER_TOO_SHORT, ROOT_BAG_LIMIT, STILL_DUE, SUCCESS,
+    Advanced, Fed, Reading, Written, BAD_POSITION, BUFFER_TOO_SHORT, ROOT_BAG_LIMIT, STILL_DUE,
+    SUCCESS,
 };
 use crate::atomic::Atomic;
 use crate::checks;
+use crate::feed;
 use crate::limits::{self, NO_RULE};
 use crate::lit_rules;
 use crate::little_endian::{put_u64, u64_at};
@@ -49,6 +51,14 @@ pub fn advance(
     rules: &mut [u8],
 ) -> Advanced {
     advance_by(&mut changed, flat, run, t, bag, trace, rules)
+}
+
+/// A feed is the advance calls that it stands for.
+pub fn advance_feed(flat: &[u8], run: &mut [u8], end: u64, feed: &[u8], trace: &mut [u8]) -> Fed {
+    let mut make_call = |run: &mut [u8], t: u64, bag: &[u8], trace: &mut [u8]| {
+        advance(flat, run, t, bag, trace, &mut [])
+    };
+    feed::run_by(&mut make_call, flat, run, end, feed, trace)
 }
 
 /// Advance of a machine whose atomics change as is said here. Only tests say anything but `changed`:

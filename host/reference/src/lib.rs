@@ -3,8 +3,9 @@
 //!
 //! `check_model`, `start`, `advance`, `read` and `flatten` work on the nest: each coupled component is
 //! a coordinator that acts as the resultant of its children. `flat_machine` holds a machine of its own
-//! for flat forms. `trace_to_columns` and `columns_to_trace` rearrange traces and take no model. Every
-//! function takes whole buffers and answers the numbers of the papers' table.
+//! for flat forms. `advance_feed` makes the advance calls of a feed, on either. `trace_to_columns` and
+//! `columns_to_trace` rearrange traces and take no model. Every function takes whole buffers and answers
+//! the numbers of the papers' table.
 
 pub mod advance;
 pub mod answers;
@@ -15,6 +16,7 @@ pub mod columns;
 pub mod decode;
 pub mod engine;
 pub mod examples;
+pub mod feed;
 pub mod flat_machine;
 pub mod flatten;
 pub mod limits;
@@ -31,7 +33,7 @@ pub mod saved_run;
 pub mod trace;
 
 pub use advance::read;
-pub use answers::{Advanced, Reading, Written};
+pub use answers::{Advanced, Fed, Reading, Written};
 pub use columns::{columns_to_trace, trace_to_columns};
 pub use flatten::flatten;
 pub use saved_run::start;
@@ -56,4 +58,12 @@ pub fn advance(
 ) -> Advanced {
     let lent = Lent { trace, rules };
     advance::advance(model, run, t, bag, lent, DeadWays::Dropped, &mut Observed::default())
+}
+
+/// Runs a feed to an end moment, by its advance calls; none of them has a table of rules.
+pub fn advance_feed(model: &[u8], run: &mut [u8], end: u64, feed: &[u8], trace: &mut [u8]) -> Fed {
+    let mut make_call = |run: &mut [u8], t: u64, bag: &[u8], trace: &mut [u8]| {
+        advance(model, run, t, bag, trace, &mut [])
+    };
+    feed::run_by(&mut make_call, model, run, end, feed, trace)
 }

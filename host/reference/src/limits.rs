@@ -18,6 +18,7 @@ pub const UNBOUNDED: u32 = 4_294_967_295;
 pub const HIGHEST_TIME: u64 = 1_000_000_000_000;
 pub const HIGHEST_OPEN_MOMENT: u64 = HIGHEST_TIME + 1;
 pub const GIVEN_MESSAGES: usize = 16;
+pub const FEED_BAGS: usize = 1_000;
 pub const STEPS_OF_AN_INSTANT: u64 = 1_024;
 pub const ROOT_BAG: usize = 4_096;
 /// The most messages that reach an atomic in a step: all routes end there, and each carries all that is given.

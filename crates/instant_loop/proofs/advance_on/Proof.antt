@@ -204,7 +204,7 @@ returns-2 c =
     let a = start-of p .args in
     let l = p .loop in
     let none = no-turn (sim p) (length (now (a .trace))) (a .t .0) (toBag (now (a .bag))) (l .left) (progressOf (l .trace) (now (a .tables)) (l .state) (l .p)) (omega arith) in
-    record { same = sym none ∙ l .inv .from-here; beyond = l .inv .beyond }
+    record { same = sym none ∙ l .inv .from-here; beyond = l .inv .beyond; ready = l .inv .ready }
 
 pub advance-on-spec : {M : Type 1} → statement M
 advance-on-spec =

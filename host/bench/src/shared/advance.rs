@@ -1,5 +1,5 @@
-//! Advance on lent buffers, with any way of taking a step: the checks, instants in turn, and the run
-//! written back. Nothing is taken from the heap.
+//! Advance on lent buffers, with any way of taking a step: the checks, instants in turn up to one moment or
+//! to several, and the run written back. Nothing is taken from the heap.
 
 use super::held::Held;
 use super::lights::{Dark, Lights, Lit};
@@ -64,6 +64,13 @@ pub fn check_model(file: &[u8]) -> u64 {
     filled.err().unwrap_or(SUCCESS)
 }
 
+/// A moment to advance to, and the bag given there.
+#[derive(Clone, Copy)]
+pub struct Stop<'s> {
+    pub t: u64,
+    pub given: &'s [u8],
+}
+
 /// Advances a run to the moment t, with the bag given there, and lights what decided in the last instant.
 pub fn advance<S: Simulator>(
     file: &[u8],
@@ -92,35 +99,46 @@ pub fn advance<S: Simulator>(
         return Advanced::refused(BAD_BAG);
     }
     let accepted = Accepted { model: &model, tables: &tables };
-    let call = Call { simulator: S::new(&accepted), accepted, t, given };
+    let stops = std::iter::once(Stop { t, given });
+    run_to::<S>(accepted, open, held, stops, Lent { run, trace, rules }).0
+}
+
+/// Advances to each stop in turn, after all checks. Answers the counts, and at how many stops it arrived.
+#[inline(always)]
+pub fn run_to<'s, S: Simulator>(
+    accepted: Accepted,
+    open: u64,
+    held: Held,
+    stops: impl Iterator<Item = Stop<'s>>,
+    lent: Lent,
+) -> (Advanced, u64) {
+    let needed = lit_rules::length(accepted.tables.atomics).max(1);
+    let call = Call { simulator: S::new(&accepted), accepted };
     let state = &mut call.simulator.state(&call.accepted, held);
-    let lent = Lent { run, trace, rules };
-    if lent.rules.len() < lit_rules::length(tables.atomics).max(1) {
-        call.run_with_buffers(open, state, lent, Dark)
+    if lent.rules.len() < needed {
+        call.run_with_buffers(open, state, stops, lent, Dark)
     } else {
-        call.run_lit(open, state, lent)
+        call.run_lit(open, state, stops, lent)
     }
 }
 
-fn bag_is_legal(given: &[u8]) -> bool {
+pub fn bag_is_legal(given: &[u8]) -> bool {
     given.len().is_multiple_of(Message::BYTES)
         && given.len() <= limits::GIVEN_MESSAGES * Message::BYTES
         && given.chunks_exact(Message::BYTES).all(|message| message[0] <= limits::HIGHEST_PORT)
 }
 
 /// The buffers that a call writes.
-struct Lent<'l> {
-    run: &'l mut [u8],
-    trace: &'l mut [u8],
-    rules: &'l mut [u8],
+pub struct Lent<'l> {
+    pub run: &'l mut [u8],
+    pub trace: &'l mut [u8],
+    pub rules: &'l mut [u8],
 }
 
 /// A call that has passed the checks.
 struct Call<'c, S> {
     simulator: S,
     accepted: Accepted<'c>,
-    t: u64,
-    given: &'c [u8],
 }
 
 /// What became of an instant: a number, its steps, where its records end, and what is due next.
@@ -134,90 +152,103 @@ struct Ran {
 impl<S: Simulator> Call<'_, S> {
     /// A function of its own, so that a call without a table does not pay for it.
     #[inline(never)]
-    fn run_lit(&self, open: u64, state: &mut S::State, lent: Lent) -> Advanced {
-        self.run_with_buffers(open, state, lent, Lit::new())
-    }
-
-    #[inline(always)]
-    fn run_with_buffers<L: Lights>(
+    fn run_lit<'s>(
         &self,
         open: u64,
         state: &mut S::State,
+        stops: impl Iterator<Item = Stop<'s>>,
+        lent: Lent,
+    ) -> (Advanced, u64) {
+        self.run_with_buffers(open, state, stops, lent, Lit::new())
+    }
+
+    #[inline(always)]
+    fn run_with_buffers<'s, L: Lights>(
+        &self,
+        open: u64,
+        state: &mut S::State,
+        stops: impl Iterator<Item = Stop<'s>>,
         lent: Lent,
         lights: L,
-    ) -> Advanced {
+    ) -> (Advanced, u64) {
         if self.accepted.tables.routes > FEW_ROUTES {
-            return self.run_with_large_buffers(open, state, lent, lights);
+            return self.run_with_large_buffers(open, state, stops, lent, lights);
         }
         let mut bag = [0; FEW_ROUTES * INTO_ATOMIC];
         let mut root = [0; FEW_ROUTES * INTO_ROOT];
-        self.run(open, state, lent, Buffers { bag: &mut bag, root: &mut root, lights })
+        self.run(open, state, stops, lent, Buffers { bag: &mut bag, root: &mut root, lights })
     }
 
     /// A function of its own, so that a small call does not pay for these.
     #[inline(never)]
-    fn run_with_large_buffers<L: Lights>(
+    fn run_with_large_buffers<'s, L: Lights>(
         &self,
         open: u64,
         state: &mut S::State,
+        stops: impl Iterator<Item = Stop<'s>>,
         lent: Lent,
         lights: L,
-    ) -> Advanced {
+    ) -> (Advanced, u64) {
         let mut bag = [0; limits::ROUTES as usize * INTO_ATOMIC];
         let mut root = [0; limits::ROUTES as usize * INTO_ROOT];
-        self.run(open, state, lent, Buffers { bag: &mut bag, root: &mut root, lights })
+        self.run(open, state, stops, lent, Buffers { bag: &mut bag, root: &mut root, lights })
     }
 
-    /// Does the instants due before t, then t with the given bag, and writes the run back.
+    /// Does the instants due before each stop, then the stop with its bag, and writes the run back.
     #[inline(never)]
-    fn run<L: Lights>(
+    fn run<'s, L: Lights>(
         &self,
         open: u64,
         state: &mut S::State,
+        stops: impl Iterator<Item = Stop<'s>>,
         lent: Lent,
         mut buffers: Buffers<L>,
-    ) -> Advanced {
+    ) -> (Advanced, u64) {
         let mut scratch = [0; SCRATCH];
         let mut answer = Advanced::refused(SUCCESS);
         let mut open = open;
         let mut due = self.simulator.next_due(&self.accepted, state);
-        loop {
-            let (now, given) = if due < self.t { (due, &[][..]) } else { (self.t, self.given) };
-            if due == now || !given.is_empty() {
-                let mut after = state.clone();
-                let ran = self.instant(&mut after, due, now, given, &mut scratch, &mut buffers);
-                let rest = &mut lent.trace[answer.trace_bytes as usize..];
-                answer.number = match ran.number {
-                    SUCCESS if ran.used > rest.len() => BUFFER_TOO_SHORT,
-                    number => number,
-                };
-                if answer.number != SUCCESS {
+        let mut arrived = 0;
+        'stops: for Stop { t, given } in stops {
+            loop {
+                let (now, given) = if due < t { (due, &[][..]) } else { (t, given) };
+                if due == now || !given.is_empty() {
+                    let mut after = state.clone();
+                    let ran = self.instant(&mut after, due, now, given, &mut scratch, &mut buffers);
+                    let rest = &mut lent.trace[answer.trace_bytes as usize..];
+                    answer.number = match ran.number {
+                        SUCCESS if ran.used > rest.len() => BUFFER_TOO_SHORT,
+                        number => number,
+                    };
+                    if answer.number != SUCCESS {
+                        break 'stops;
+                    }
+                    if ran.used <= SCRATCH {
+                        rest[..ran.used].copy_from_slice(front(&scratch, ran.used));
+                    } else {
+                        self.instant(&mut state.clone(), due, now, given, rest, &mut buffers);
+                    }
+                    buffers.lights.keep();
+                    answer.instants += 1;
+                    answer.steps += ran.steps;
+                    answer.trace_bytes += ran.used as u64;
+                    *state = after;
+                    due = ran.due;
+                    open = now + 1;
+                }
+                if now == t {
+                    open = t + 1;
                     break;
                 }
-                if ran.used <= SCRATCH {
-                    rest[..ran.used].copy_from_slice(front(&scratch, ran.used));
-                } else {
-                    self.instant(&mut state.clone(), due, now, given, rest, &mut buffers);
-                }
-                buffers.lights.keep();
-                answer.instants += 1;
-                answer.steps += ran.steps;
-                answer.trace_bytes += ran.used as u64;
-                *state = after;
-                due = ran.due;
-                open = now + 1;
             }
-            if now == self.t {
-                open = self.t + 1;
-                break;
-            }
+            arrived += 1;
         }
         let atomics = self.accepted.tables.atomics;
         S::held(state).save(open, atomics, lent.run);
         if answer.instants > 0 {
             buffers.lights.write(atomics, lent.rules);
         }
-        answer
+        (answer, arrived)
     }
 
     /// All steps at one moment. Records are put where they fit, and counted in any case: one function

@@ -3,6 +3,7 @@
 
 pub mod advance;
 pub mod deciding;
+pub mod feed;
 pub mod held;
 pub mod keys;
 pub mod lights;

@@ -23,13 +23,13 @@ fn idle_calls(count: u64) -> Vec<Advance> {
 }
 
 /// Calls of one step each.
-fn bag_calls(count: u64) -> Vec<Advance> {
+pub fn bag_calls(count: u64) -> Vec<Advance> {
     (0..count).map(|t| Advance { t, bag: bag(&[(0, 7)]) }).collect()
 }
 
 /// Two atomics, as in the papers' cue source, but the first waits for long and the second also
 /// hears the root.
-fn small() -> Builder {
+pub fn small() -> Builder {
     let mut model = Builder::new();
     let source = model.atomic(0, &[phase(1_000_000, 1, &[(0, 7)]), phase(0, 0, &[(0, 8)])]);
     let phases = [phase(NEVER, 0, &[]), phase(500_000, 0, &[(0, 100)])];
@@ -49,7 +49,7 @@ const PAIRS_WITH_THREE_ROWS: usize = 226;
 
 /// Every section at its limit: 64 components on 8 levels, 512 phases, 1,024 rules, 1,024 couplings;
 /// and 1,010 routes.
-fn maximal() -> Builder {
+pub fn maximal() -> Builder {
     let mut model = Builder::new();
     let mut parent = 0;
     let mut pairs = 0;

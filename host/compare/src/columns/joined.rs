@@ -1,4 +1,5 @@
-//! The traces of successive advances, joined in turn: one trace, whatever came between them but a start.
+//! The traces of successive advances and feeds, joined in turn: one trace, whatever came between them but a
+//! start.
 
 use super::rearranging::Way;
 use crate::call::Call;
@@ -8,7 +9,8 @@ use crate::counts::Counts;
 /// Few random models go on after an endless instant: it has to come from a bag.
 pub const OVER_13: &str = "joined: over an advance that 13 stopped";
 
-/// What the advances of a list have written since the last start, and what came since the last records.
+/// What the advances and feeds of a list have written since the last start, and what came since the last
+/// records.
 #[derive(Default)]
 pub struct Joined {
     trace: Vec<u8>,
@@ -19,6 +21,7 @@ pub struct Joined {
 /// Whether these came.
 #[derive(Clone, Copy, Default)]
 struct Since {
+    after_feed: bool,
     refused: bool,
     no_record: bool,
     stopped_by_13: bool,
@@ -26,10 +29,12 @@ struct Since {
     reading: bool,
 }
 
-/// What there was between two advances that have written records, by name.
-fn kinds(since: Since, started: bool) -> impl Iterator<Item = (&'static str, u64)> {
+/// What there was between two calls that have written records, by name, and whether the second is a feed.
+fn kinds(since: Since, started: bool, is_feed: bool) -> impl Iterator<Item = (&'static str, u64)> {
     let kinds = [
-        ("joined: traces of several advances", true),
+        ("joined: traces of several advances", !since.after_feed && !is_feed),
+        ("joined: trace of a feed behind others", is_feed),
+        ("joined: traces behind that of a feed", since.after_feed),
         ("joined: in a run that no start wrote", !started),
         ("joined: over an advance that was refused", since.refused),
         ("joined: over an advance that wrote no record", since.no_record),
@@ -41,31 +46,32 @@ fn kinds(since: Since, started: bool) -> impl Iterator<Item = (&'static str, u64
 
 /// Every kind that is looked for, none of them met.
 pub fn all() -> impl Iterator<Item = (&'static str, u64)> {
-    kinds(Since::default(), true).map(|(name, _)| (name, 0))
+    kinds(Since::default(), true, false).map(|(name, _)| (name, 0))
 }
 
 impl Joined {
     /// Takes note of a call. Answers whether it has put records behind those of earlier calls.
     fn add(&mut self, counts: &mut Counts, call: &Call, outcome: &Outcome) -> bool {
         let (number, records) = (outcome.answer.number(), outcome.records());
-        let is_advance = matches!(call, Call::Advance { .. });
+        let is_feed = matches!(call, Call::Feed { .. });
+        let is_advance = is_feed || matches!(call, Call::Advance { .. });
         if matches!(call, Call::Start) && number == 0 {
             *self = Joined { started: true, ..Joined::default() };
         }
         let is_joined = !records.is_empty() && !self.trace.is_empty();
         if is_joined {
-            counts.kinds(kinds(self.since, self.started));
+            counts.kinds(kinds(self.since, self.started, is_feed));
             if self.since.stopped_by_13 {
                 counts.meet(OVER_13);
             }
         }
         if !records.is_empty() {
             self.trace.extend(records);
-            self.since = Since::default();
+            self.since = Since { after_feed: is_feed, ..Since::default() };
         }
         let since = &mut self.since;
         since.reading |= matches!(call, Call::Read { .. });
-        since.refused |= is_advance && matches!(number, 1..=12);
+        since.refused |= is_advance && matches!(number, 1..=12 | 19);
         since.no_record |= is_advance && number == 0 && records.is_empty();
         since.stopped_by_13 |= is_advance && number == 13;
         since.stopped_by_15 |= is_advance && number == 15;
@@ -74,7 +80,7 @@ impl Joined {
 }
 
 impl Comparison {
-    /// Rearranges what an advance has written, by itself and behind what the advances before it have.
+    /// Rearranges what an advance or a feed has written, by itself and behind what those before it have.
     pub fn rearrange_run(
         &mut self,
         joined: &mut Joined,
@@ -82,13 +88,13 @@ impl Comparison {
         outcome: &Outcome,
     ) -> Compared<()> {
         let is_joined = joined.add(&mut self.counts, call, outcome);
-        if matches!(call, Call::Advance { .. }) {
+        if matches!(call, Call::Advance { .. } | Call::Feed { .. }) {
             let found = self.there_and_back(Way::There, outcome.records());
-            found.map_err(|fault| format!("what an advance wrote, {fault}"))?;
+            found.map_err(|fault| format!("what a call wrote, {fault}"))?;
         }
         if is_joined {
             let found = self.there_and_back(Way::There, &joined.trace);
-            found.map_err(|fault| format!("what advances in turn wrote, {fault}"))?;
+            found.map_err(|fault| format!("what calls in turn wrote, {fault}"))?;
         }
         Ok(())
     }

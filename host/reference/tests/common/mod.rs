@@ -5,12 +5,14 @@
 use reference::advance::Lent;
 use reference::builder::Builder;
 use reference::decode::decode;
+use reference::feed;
 use reference::lit_rules;
+use reference::model::Model;
 use reference::nest::DeadWays;
 use reference::observed::Observed;
 use reference::records::Message;
 use reference::saved_run::{self, SavedRun};
-use reference::{flat_machine, routes, Advanced, Reading};
+use reference::{flat_machine, routes, Advanced, Fed, Reading};
 
 /// The byte that lent buffers are filled with beforehand.
 pub const JUNK: u8 = 0xA5;
@@ -63,8 +65,7 @@ pub fn advance_lighting(
 ) -> (Advanced, Observed) {
     let model = decode(file).expect("an accepted model");
     let flat = flat(file);
-    let few_ways = routes::ports_passed(&model) < 10_000;
-    let literal = if few_ways { DeadWays::Kept } else { DeadWays::Dropped };
+    let literal = literal(&model);
     let mut observed = Observed::default();
     let mut others = [(); 3].map(|()| (run.to_vec(), trace.to_vec(), rules.to_vec()));
     let lent = Lent { trace, rules };
@@ -85,6 +86,39 @@ pub fn advance_lighting(
         assert!(other.2 == rules, "the tables of rules differ");
     }
     (answer, observed)
+}
+
+/// Dead ways are kept as document 001 has it, where the ways are few enough.
+fn literal(model: &Model) -> DeadWays {
+    let few_ways = routes::ports_passed(model) < 10_000;
+    if few_ways {
+        DeadWays::Kept
+    } else {
+        DeadWays::Dropped
+    }
+}
+
+pub fn advance_feed(file: &[u8], run: &mut [u8], end: u64, feed: &[u8], trace: &mut [u8]) -> Fed {
+    let literal = literal(&decode(file).expect("an accepted model"));
+    let flat = flat(file);
+    let mut others = [(); 3].map(|()| (run.to_vec(), trace.to_vec()));
+    let answer = reference::advance_feed(file, run, end, feed, trace);
+    let [kept, on_flat, machine] = &mut others;
+    let mut call = |run: &mut [u8], t: u64, bag: &[u8], trace: &mut [u8]| {
+        let lent = Lent { trace, rules: &mut [] };
+        reference::advance::advance(file, run, t, bag, lent, literal, &mut Observed::default())
+    };
+    let answers = [
+        feed::run_by(&mut call, file, &mut kept.0, end, feed, &mut kept.1),
+        reference::advance_feed(&flat, &mut on_flat.0, end, feed, &mut on_flat.1),
+        flat_machine::advance_feed(&flat, &mut machine.0, end, feed, &mut machine.1),
+    ];
+    assert_eq!(answers, [answer; 3]);
+    for other in &others {
+        assert!(other.0 == run, "the run buffers differ");
+        assert!(other.1 == trace, "the traces differ");
+    }
+    answer
 }
 
 pub fn read(file: &[u8], run: &[u8], position: u64) -> Reading {

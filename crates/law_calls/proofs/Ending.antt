@@ -19,8 +19,8 @@ use Rattle.definition.specs.Advance.{Progress, Ended, ended, tried, continued, 
 use Rattle.definition.specs.AdvanceRelation.{Whole, Next, before, at-end, withInstant, Ends, jams, oversize, overruns, goes-on, succeeds, idle}
 use Rattle.law_base.proofs.Tests.{clash}
 use Rattle.law_base.proofs.Turns.{tried-jams, tried-over, tried-full, tried-stands, last-turn}
 use Rattle.law_calls.proofs.Lift.{before-t, Agree, SameInstant, instant-same}
-use Rattle.theory.proofs.Instants.{Settled, settled, whole-instant, jams-instant}
+use Rattle.law_calls.proofs.Instants.{Settled, settled, whole-instant, jams-instant}
 
 at-moment : (t : ℕ) (u : Time) → isBefore u t ≡ true → u ≡ finite (ticks u)
 unfolding isBefore ticks

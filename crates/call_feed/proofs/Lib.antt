@@ -1,0 +1,3 @@
+-- A feed's call, from its checks to its calls.
+pub mod Checks
+pub mod Whole
