@@ -12,6 +12,7 @@ ghost use Rattle.call_answers.specs.Answers.{advancedOf};
 ghost use Rattle.call_advance.specs.LetIn.{ModelOpened, checkedBy, LetIn, Roomy};
 use call_answers::Advanced;
 use call_rules::put_rules;
+use call_run::run_fits;
 use clock::Moment;
 use instant_loop::advance_from;
 use limits::BAD_BAG;
@@ -114,8 +115,7 @@ fn check_call(file: &[u8], n: Counts, run: &[u8], t: u64, bag: &[u8]) -> u64
     requires { ⌜ ok (modelOf (now file) n) ≡ accepted (now file) ⌝ }
     ensures { λ r. ⌜ checkedBy r ≡ advanceChecks (modelOf (now (file .entry)) n) (now (run .entry)) t (now (bag .entry)) ⌝ }
 {
-    let components = model_file::components_of(file, n);
-    if !run_saved::fits(components, model_file::phases_of(file, n), run) {
+    if !run_fits(file, n, run) {
         return RUN_DOES_NOT_FIT;
     }
     let opening = run_saved::opening_of(run);

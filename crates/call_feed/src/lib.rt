@@ -15,6 +15,7 @@ ghost use Rattle.feed_loop.specs.Onwards.{bagsIn};
 ghost use Rattle.call_advance.specs.LetIn.{ModelOpened, Roomy};
 ghost use Rattle.call_feed.specs.FeedLetIn.{Counted, checkedBy, FeedLetIn};
 use call_answers::Fed;
+use call_run::run_fits;
 use clock::Moment;
 use feed_bags::Bags;
 use feed_bags::Found;
@@ -144,8 +145,7 @@ fn check_feed(file: &[u8], n: Counts, run: &[u8], end: u64, feed: &[u8]) -> Feed
     requires { ⌜ ok (modelOf (now file) n) ≡ accepted (now file) ⌝ }
     ensures { λ r. ⌜ checkedBy r ≡ bagsTold (feedChecks (modelOf (now (file .entry)) n) (now (run .entry)) end (now (feed .entry))) ⌝ }
 {
-    let components = model_file::components_of(file, n);
-    if !run_saved::fits(components, model_file::phases_of(file, n), run) {
+    if !run_fits(file, n, run) {
         return FeedChecked::Refused(RUN_DOES_NOT_FIT);
     }
     let Found::Of(found) = find_bags(feed) else {

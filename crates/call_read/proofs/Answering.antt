@@ -1,41 +1,20 @@
 -- A reading, from the check of the model to the answer. Assumes nothing.
-use mathlib.Core.Path.{_≡_, refl, sym, ap, ap₂, _∙_}
-use mathlib.Core.List.{List, [], _∷_}
-use mathlib.Core.Bool.{true, false, _&&_}
+use mathlib.Core.Path.{_≡_, sym, ap, ap₂, _∙_}
+use mathlib.Core.List.{[]}
+use mathlib.Core.Bool.{true, false}
 use Prim.Native.Nat.{ℕ, _≤_, _<_}
 use native.Mathlib.Omega.{arith}
 use lib.ListN.{length, drop, getD}
 use Rattle.definition.specs.Bytes.{Bytes, ok, refused, chunks}
 use Rattle.definition.specs.Limits.{headSize, entrySize}
-use Rattle.definition.specs.Model.{Model, atomics, phaseAt}
+use Rattle.definition.specs.Model.{Model, atomics}
 use Rattle.definition.specs.Pinned.Decoder.{accepted}
-use Rattle.definition.specs.Atomic.{advanceOf}
-use Rattle.definition.specs.SavedRun.{Entry, noEntry, atomicCount, runOf, toRun, toEntry, dueOf, entryFits, entriesFit, runFits, nextDue}
+use Rattle.definition.specs.SavedRun.{Entry, noEntry, atomicCount, runOf, toRun, toEntry, runFits, nextDue}
 use Rattle.definition.specs.Engine.{dueNumber, readAt, reading}
 use Rattle.law_base.proofs.Lists.{getD-map}
 use Rattle.law_bytes.proofs.Rows.{length-rows, getD-rows}
-use Rattle.model_records.specs.Values.{componentsIn, modelIn}
-use Rattle.model_file.specs.Checked.{modelOf, componentsPart, phasesPart}
-use Rattle.model_file.specs.declared.Counts.{Counts}
-use Rattle.run_saved.specs.Runs.{bare, entryAt}
+use Rattle.run_saved.specs.Runs.{entryAt}
 use Rattle.law_model.proofs.Answers.{reading-model, reading-run, reading-position, reading-done}
-
--- ---- a run is judged by components and phases alone
-
-module _ (components phases rules couplings : Bytes) where
-  entries-alone : (o : ℕ) (cs : List ℕ) (rs : List Entry) → entriesFit (bare components phases) o cs rs ≡ entriesFit (modelIn components phases rules couplings) o cs rs
-  unfolding entriesFit entryFits dueOf advanceOf phaseAt bare modelIn
-  entries-alone o [] rs = refl
-  entries-alone o (c ∷ cs) [] = refl
-  entries-alone o (c ∷ cs) (r ∷ rs) = ap (λ b. entryFits (modelIn components phases rules couplings) o c r && b) (entries-alone o cs rs)
-
-  fits-alone : (s : Bytes) → runFits (bare components phases) s ≡ runFits (modelIn components phases rules couplings) s
-  unfolding runFits runOf atomicCount bare modelIn
-  fits-alone s = rw (entries-alone _ (atomics (componentsIn components)) _)
-
-pub fits-file : (file s : Bytes) (n : Counts) → runFits (bare (componentsPart file n) (phasesPart file n)) s ≡ runFits (modelOf file n) s
-unfolding modelOf
-fits-file file s n = fits-alone (componentsPart file n) (phasesPart file n) _ _ s
 
 -- ---- refusals
 

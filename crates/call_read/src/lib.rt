@@ -7,6 +7,7 @@ ghost use Rattle.call_answers.specs.Answers.{readOf};
 ghost use Rattle.call_read.specs.Opened.{ModelOpened, RunOpened};
 use accept_routes::RoutesCounted;
 use call_answers::Reading;
+use call_run::run_fits;
 use clock::Moment;
 use limits::BAD_POSITION;
 use limits::RUN_DOES_NOT_FIT;
@@ -51,8 +52,7 @@ fn read_accepted(
     requires { ⌜ ModelOpened (now file) n (now tables) ⌝ }
     ensures { λ r. ⌜ readOf r ≡ reading (now (file .entry)) (now (run .entry)) position ⌝ }
 {
-    let components = model_file::components_of(file, n);
-    if !run_saved::fits(components, model_file::phases_of(file, n), run) {
+    if !run_fits(file, n, run) {
         return refused(RUN_DOES_NOT_FIT);
     }
     let count = widen::u8_to_u64(table_words::atomics_in(tables));

@@ -2,16 +2,13 @@
 use mathlib.Core.Path.{_≡_, sym, ap, _∙_}
 use mathlib.Core.List.{[]}
 use Prim.Native.Nat.{ℕ, _≤_, _<_}
-use lib.ListN.{length, getD}
+use lib.ListN.{length}
 use borrow.Author.Tests.{lt-ltb, le-ltb}
 use Rattle.definition.specs.Bytes.{Bytes, ok, refused, stored}
-use Rattle.definition.specs.Limits.{maxComponents}
 use Rattle.definition.specs.Model.{atomics}
 use Rattle.definition.specs.Pinned.Decoder.{accepted}
 use Rattle.definition.specs.SavedRun.{runLength, runBytes, atomicCount}
 use Rattle.definition.specs.Engine.{wrote, startRun, start}
-use Rattle.law_bytes.proofs.Slices.{all-bytes}
-use Rattle.law_model.proofs.Reading.{accepted-sound}
 use Rattle.law_model.proofs.Answers.{start-model}
 use Rattle.law_model.proofs.Answers as Answers
 use Rattle.model_records.specs.Values.{componentsIn, modelIn}
@@ -20,12 +17,6 @@ use Rattle.model_file.specs.declared.Counts.{Counts}
 use Rattle.run_state.specs.declared.State.{State}
 use Rattle.run_state.specs.Held.{entriesOf}
 use Rattle.run_saved.specs.Runs.{bare, runIn, startEntries}
-
--- An accepted model has no more components than there may be.
-pub few-components : (file : Bytes) (n : Counts) → ((i : ℕ) → getD file i 0 < 256) → ok (modelOf file n) ≡ accepted file
-    → length (componentsIn (componentsPart file n)) ≤ maxComponents
-unfolding modelOf modelIn
-few-components file n h e = accepted-sound file (modelOf file n) (all-bytes file h) (sym e) .sound .components .few
 
 pub start-refused : (file buffer : Bytes) (n : ℕ) → refused n ≡ accepted file → record { number = n; written = 0; buffer = buffer } ≡ start file buffer
 start-refused file buffer n e = sym (start-model file buffer n (sym e))

@@ -38,38 +38,46 @@ few-more a b p l h = record { instants = omega (arith, h .instants); steps = ome
 
 -- ---- a call
 
+-- A call on the trace of the whole feed: it ends as the definition's does there, has the numbers of one call more, and its records go on behind
+-- those before.
+pub record CalledOn (tables : List ℕ) (k : Simulator State) (trace₀ trace′ : Bytes) (w′ : List ℕ) (from : Definition.Progress State) (used calls t : ℕ) (x : Bag) (e : Ended) : Type 0 where
+  pub same : endedOf trace′ tables w′ e ≡ advancing k (length trace₀) t x (suc t) from
+  pub few : Few (suc calls) (e .progress)
+  pub more : used ≤ e .progress .used
+  pub beyond : Beyond trace₀ trace′ (e .progress .used)
+
 module _ (phases tables : List ℕ) (k : Simulator State) (trace₀ trace trace′ : Bytes) (w w′ : List ℕ) (p : Progress) (e : Ended) (t : ℕ) (x : Bag) (late : t ≤ maxMoment)
     (calls : ℕ) (few : Few calls p) (beyond : Beyond trace₀ trace (p .used))
     (did : Advanced phases tables trace trace′ w′ e (advancing k (length trace) t x (suc t) (progressOf trace tables w p))) where
   abbrev from : Definition.Progress State
   from = progressOf trace tables w p
 
-  -- it ends as it would in the trace of the whole feed
-  pub call-same : endedOf trace′ tables w′ e ≡ advancing k (length trace₀) t x (suc t) from
-  call-same = did .same ∙ ap (λ n. advancing k n t x (suc t) from) (beyond .size)
+  abbrev end : Definition.Ended State
+  end = advancing k (length trace₀) t x (suc t) from
 
-  bounded : Bounded (suc t) (length trace₀) from (advancing k (length trace₀) t x (suc t) from .progress)
+  same : endedOf trace′ tables w′ e ≡ end
+  same = did .same ∙ ap (λ n. advancing k n t x (suc t) from) (beyond .size)
+
+  bounded : Bounded (suc t) (length trace₀) from (end .progress)
   unfolding progressOf
   bounded = advancing-bounded k (length trace₀) t x (suc t) from (omega (arith, length-take-le (p .used) trace (omega (arith, beyond .within, beyond .size)), beyond .within))
 
-  pub call-few : Few (suc calls) (e .progress)
+  fewer : Few (suc calls) (e .progress)
   unfolding ended progressOf
-  call-few =
-      let i : e .progress .instants ≡ advancing k (length trace₀) t x (suc t) from .progress .instants = ap (λ (z : Definition.Ended State). z .progress .instants) call-same in
-      let s : e .progress .steps ≡ advancing k (length trace₀) t x (suc t) from .progress .steps = ap (λ (z : Definition.Ended State). z .progress .steps) call-same in
+  fewer =
+      let i : e .progress .instants ≡ end .progress .instants = ap (λ (z : Definition.Ended State). z .progress .instants) same in
+      let s : e .progress .steps ≡ end .progress .steps = ap (λ (z : Definition.Ended State). z .progress .steps) same in
       record { instants = omega (arith, i, bounded .instants, few .instants, late); steps = omega (arith, s, bounded .steps, few .steps, late) }
 
-  -- the records go on behind those before
-  pub call-more : p .used ≤ e .progress .used
+  more : p .used ≤ e .progress .used
   unfolding ended progressOf
-  call-more =
+  more =
       let here = length-take-le (p .used) trace (omega (arith, beyond .within, beyond .size)) in
       let there = length-take-le (e .progress .used) trace′ (omega (arith, did .beyond .within, did .beyond .size)) in
-      let same = ap (λ (z : Definition.Ended State). length (z .progress .trace)) call-same in
-      omega (arith, bounded .longer, here, there, same)
+      omega (arith, bounded .longer, here, there, ap (λ (z : Definition.Ended State). length (z .progress .trace)) same)
 
-  pub call-beyond : Beyond trace₀ trace′ (e .progress .used)
-  call-beyond = beyond-on trace₀ trace trace′ (p .used) (e .progress .used) call-more beyond (did .beyond)
+  pub called-on : CalledOn tables k trace₀ trace′ w′ from (p .used) calls t x e
+  called-on = record { same = same; few = fewer; more = more; beyond = beyond-on trace₀ trace trace′ (p .used) (e .progress .used) more beyond (did .beyond) }
 
 -- ---- the calls that are left
 

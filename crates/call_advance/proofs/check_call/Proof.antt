@@ -1,46 +1,32 @@
 -- Each check that fails gives its number in the order of the table; what passes them all is let in (Checks).
 use borrow.Author.Needs.{needs}
-use mathlib.Core.Path.{_≡_, _∙_, ap, ap₂, sym}
+use mathlib.Core.Path.{_≡_, _∙_, ap, sym}
 use mathlib.Core.Bool.{Bool, true, false, _||_}
 use lib.Dec.{ltb}
 use borrow.Author.Tests.{not-true, not-false}
-use Rattle.definition.specs.Bytes.{Bytes}
 use Rattle.definition.specs.Limits.{maxMoment}
 use Rattle.definition.specs.Model.{Model}
 use Rattle.definition.specs.SavedRun.{runOf, toRun, runFits}
 use Rattle.model_file.specs.Checked.{modelOf}
-use Rattle.run_saved.specs.Runs.{bare}
-use Rattle.call_start.proofs.Starts.{few-components}
-use Rattle.call_read.proofs.Answering.{fits-file}
 use Rattle.call_advance.proofs.Checks.{run-unfit, bad-moment, bag-unfit, let-in}
 use Rattle.call_advance.proofs.check_call.Statement.{statement}
 use Rattle.call_advance.proofs.check_call.Tie as tie
 
-fits-requires : tie.Need-fits-requires
-fits-requires c κs =
-    let start : tie.Start = search in let parts : tie.After-components-of = search in let bytes : tie.After-shared-slice-known = search in
-    let a = start .args in
-    rw (parts .components-of .ensures) (few-components (a .file .now) (a .n) (λ i. bytes .shared-slice-known .given i .fits) (start .pre))
-
-abbrev start-of : tie.After-fits2 → tie.Start
+abbrev start-of : tie.After-run-fits → tie.Start
 start-of c = search
 
-abbrev model : tie.After-fits2 → Model
+abbrev model : tie.After-run-fits → Model
 model c = let a = start-of c .args in modelOf (a .file .now) (a .n)
 
 -- The test of the run is the definition's.
-fitting : (c : tie.After-fits2) → runFits (model c) (start-of c .args .run .now) ≡ c .fits2 .result
-fitting c =
-    let components : tie.After-components-of = search in let phases : tie.After-phases-of = search in
-    let a = start-of c .args in
-    sym (c .fits2 .ensures ∙ ap₂ (λ (x y : Bytes). runFits (bare x y) (a .run .now)) (components .components-of .ensures) (phases .phases-of .ensures)
-    ∙ fits-file (a .file .now) (a .run .now) (a .n))
+fitting : (c : tie.After-run-fits) → runFits (model c) (start-of c .args .run .now) ≡ c .run-fits .result
+fitting c = sym (c .run-fits .ensures)
 
-fits-by : (c : tie.Else1) → let f : tie.After-fits2 = search in runFits (model f) (start-of f .args .run .now) ≡ true
-fits-by c = let f : tie.After-fits2 = search in fitting f ∙ not-false (f .fits2 .result) (c .if1 .left)
+fits-by : (c : tie.Else1) → let f : tie.After-run-fits = search in runFits (model f) (start-of f .args .run .now) ≡ true
+fits-by c = let f : tie.After-run-fits = search in fitting f ∙ not-false (f .run-fits .result) (c .if1 .left)
 
 -- So is that of the time.
-abbrev fits-of : tie.After-opening-of → tie.After-fits2
+abbrev fits-of : tie.After-opening-of → tie.After-run-fits
 fits-of o = search
 
 timed : (o : tie.After-opening-of) (b : Bool) → let a = start-of (fits-of o) .args in (ltb (a .t) (o .opening-of .result .0) || ltb maxMoment (a .t)) ≡ b
@@ -50,19 +36,19 @@ timed o b e = let t = start-of (fits-of o) .args .t in ap (λ k. ltb t k || ltb 
 
 returns : tie.Need-returns
 returns c =
-    let fits : tie.After-fits2 = search in
+    let fits : tie.After-run-fits = search in
     let a = start-of fits .args in
-    run-unfit (model fits) (a .run .now) (a .t) (a .bag .now) (fitting fits ∙ not-true (fits .fits2 .result) (c .if1 .taken))
+    run-unfit (model fits) (a .run .now) (a .t) (a .bag .now) (fitting fits ∙ not-true (fits .run-fits .result) (c .if1 .taken))
 
 returns-2 : tie.Need-returns-2
 returns-2 c =
-    let fits : tie.After-fits2 = search in let else1 : tie.Else1 = search in let opening : tie.After-opening-of = search in
+    let fits : tie.After-run-fits = search in let else1 : tie.Else1 = search in let opening : tie.After-opening-of = search in
     let a = start-of fits .args in
     bad-moment (model fits) (a .run .now) (a .t) (a .bag .now) (fits-by else1) (timed opening true (c .if2 .taken))
 
 returns-3 : tie.Need-returns-3
 returns-3 c =
-    let fits : tie.After-fits2 = search in let else1 : tie.Else1 = search in let opening : tie.After-opening-of = search in
+    let fits : tie.After-run-fits = search in let else1 : tie.Else1 = search in let opening : tie.After-opening-of = search in
     let else2 : tie.Else2 = search in let bag : tie.After-bag-fits = search in
     let a = start-of fits .args in
     bag-unfit (model fits) (a .run .now) (a .t) (a .bag .now) (fits-by else1) (timed opening false (else2 .if2 .left))
@@ -70,7 +56,7 @@ returns-3 c =
 
 returns-4 : tie.Need-returns-4
 returns-4 c =
-    let fits : tie.After-fits2 = search in let else1 : tie.Else1 = search in let opening : tie.After-opening-of = search in
+    let fits : tie.After-run-fits = search in let else1 : tie.Else1 = search in let opening : tie.After-opening-of = search in
     let else2 : tie.Else2 = search in let bag : tie.After-bag-fits = search in
     let a = start-of fits .args in
     let-in (model fits) (a .run .now) (a .t) (a .bag .now) (fits-by else1) (timed opening false (else2 .if2 .left))
@@ -78,4 +64,4 @@ returns-4 c =
 
 pub check-call-spec : {M : Type 1} → statement M
 check-call-spec =
-    tie.close (tie.spec (search needs) (search needs) fits-requires returns (search needs) returns-2 (search needs) returns-3 returns-4)
+    tie.close (tie.spec (λ c κs. let start : tie.Start = search in start .pre) returns (search needs) returns-2 (search needs) returns-3 returns-4)

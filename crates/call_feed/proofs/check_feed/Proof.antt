@@ -6,54 +6,41 @@ use mathlib.Core.Bool.{Bool, true, false, _||_}
 use Prim.Native.Nat.{ℕ}
 use lib.Dec.{ltb}
 use borrow.Author.Tests.{not-true, not-false}
-use Rattle.definition.specs.Bytes.{Bytes, ok}
+use Rattle.definition.specs.Bytes.{ok}
 use Rattle.definition.specs.Limits.{maxMoment}
 use Rattle.definition.specs.Model.{Model}
 use Rattle.definition.specs.Feed.{lastMoment, firstMoment}
 use Rattle.definition.specs.Pinned.FeedReader.{feedOf}
 use Rattle.definition.specs.SavedRun.{runOf, toRun, runFits}
 use Rattle.model_file.specs.Checked.{modelOf}
-use Rattle.run_saved.specs.Runs.{bare}
 use Rattle.feed_bags.specs.declared.Bags.{Bags}
 use Rattle.feed_bags.specs.Bags.{bagsOf, bagsTold, bagsFound}
 use Rattle.feed_loop.specs.Onwards.{bagsIn}
-use Rattle.call_start.proofs.Starts.{few-components}
-use Rattle.call_read.proofs.Answering.{fits-file}
 use Rattle.call_feed.proofs.Checks.{found-read, broken, run-unfit, feed-broken, bad-moment, let-in}
 use Rattle.call_feed.proofs.check_feed.Statement.{statement}
 use Rattle.call_feed.proofs.check_feed.Tie as tie
 
-fits-requires : tie.Need-fits-requires
-fits-requires c κs =
-    let start : tie.Start = search in let parts : tie.After-components-of = search in let bytes : tie.After-shared-slice-known = search in
-    let a = start .args in
-    rw (parts .components-of .ensures) (few-components (a .file .now) (a .n) (λ i. bytes .shared-slice-known .given i .fits) (start .pre))
-
-abbrev start-of : tie.After-fits2 → tie.Start
+abbrev start-of : tie.After-run-fits → tie.Start
 start-of c = search
 
-abbrev model : tie.After-fits2 → Model
+abbrev model : tie.After-run-fits → Model
 model c = let a = start-of c .args in modelOf (a .file .now) (a .n)
 
 -- The test of the run is the definition's.
-fitting : (c : tie.After-fits2) → runFits (model c) (start-of c .args .run .now) ≡ c .fits2 .result
-fitting c =
-    let components : tie.After-components-of = search in let phases : tie.After-phases-of = search in
-    let a = start-of c .args in
-    sym (c .fits2 .ensures ∙ ap₂ (λ (x y : Bytes). runFits (bare x y) (a .run .now)) (components .components-of .ensures) (phases .phases-of .ensures)
-    ∙ fits-file (a .file .now) (a .run .now) (a .n))
+fitting : (c : tie.After-run-fits) → runFits (model c) (start-of c .args .run .now) ≡ c .run-fits .result
+fitting c = sym (c .run-fits .ensures)
 
-abbrev fits-of : tie.Else1 → tie.After-fits2
+abbrev fits-of : tie.Else1 → tie.After-run-fits
 fits-of c = search
 
 fits-by : (c : tie.Else1) → runFits (model (fits-of c)) (start-of (fits-of c) .args .run .now) ≡ true
-fits-by c = fitting (fits-of c) ∙ not-false (fits-of c .fits2 .result) (c .if1 .left)
+fits-by c = fitting (fits-of c) ∙ not-false (fits-of c .run-fits .result) (c .if1 .left)
 
 returns : tie.Need-returns
 returns c =
-    let fits : tie.After-fits2 = search in
+    let fits : tie.After-run-fits = search in
     let a = start-of fits .args in
-    run-unfit (model fits) (a .run .now) (a .end) (a .feed .now) (fitting fits ∙ not-true (fits .fits2 .result) (c .if1 .taken))
+    run-unfit (model fits) (a .run .now) (a .end) (a .feed .now) (fitting fits ∙ not-true (fits .run-fits .result) (c .if1 .taken))
 
 -- ---- the feed
 
@@ -121,4 +108,4 @@ returns-4 c =
 pub check-feed-spec : {M : Type 1} → statement M
 check-feed-spec =
     tie.close
-    (tie.spec (search needs) (search needs) fits-requires returns (search needs) (search needs) (search needs) returns-2 first-moment-requires (search needs) returns-3 returns-4)
+    (tie.spec (λ c κs. let start : tie.Start = search in start .pre) returns (search needs) (search needs) (search needs) returns-2 first-moment-requires (search needs) returns-3 returns-4)

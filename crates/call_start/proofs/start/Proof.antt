@@ -1,6 +1,7 @@
 -- A refused model gives its number (`start-refused`); an accepted one gives the run of its components (`start-accepted`).
 use borrow.Author.Needs.{needs}
-use Rattle.call_start.proofs.Starts.{few-components, start-refused, start-accepted}
+use Rattle.call_run.proofs.Fits.{few-components}
+use Rattle.call_start.proofs.Starts.{start-refused, start-accepted}
 use Rattle.run_saved.specs.Runs.{bare}
 use Rattle.model_file.specs.Checked.{checkedAs}
 use Rattle.definition.specs.Engine.{wrote, startRun}

@@ -21,10 +21,10 @@ use Rattle.law_feed.proofs.Reading.{OneRead, read-one, read-none, short, FeedRe
 use Rattle.law_feed.proofs.FeedBytes.{fits-proper}
 use Rattle.run_state.specs.declared.State.{State}
 use Rattle.instant_steps.specs.Sim.{simOf}
-use Rattle.instant_attempt.specs.Progress.{progressOf, Beyond}
-use Rattle.instant_loop.specs.Ends.{endedOf, Advanced}
+use Rattle.instant_attempt.specs.Progress.{progressOf}
+use Rattle.instant_loop.specs.Ends.{Advanced}
 use Rattle.feed_loop.specs.Onwards.{bagsIn, Few}
-use Rattle.feed_loop.proofs.Laws.{few-more, call-same, call-few, call-beyond, onward-none, call-stops, call-goes, Going}
+use Rattle.feed_loop.proofs.Laws.{few-more, CalledOn, called-on, onward-none, call-stops, call-goes, Going}
 use Rattle.feed_loop.proofs.advance_bags.Statement.{statement}
 use Rattle.feed_loop.proofs.advance_bags.Tie as tie
 
@@ -169,38 +169,21 @@ same-trace c =
     let here : tie.After-advance-on Inv-loop μ-loop = search in
     here .advance-on .kept .1 .1 .1 .1 .1 .1 .1 .1 .0 ∙ turn-of here .loop .inv .beyond .size
 
--- It ends as the definition's call does, in the trace of the whole feed.
+-- The call in the trace of the whole feed.
 abbrev ThisCall : tie.After-advance-on Inv-loop μ-loop → Type 0
 ThisCall c =
     let p = turn-of c in
     let a = start-of p .args in
-    endedOf (written c) (now (a .tables)) (changed c) (c .advance-on .result)
-    ≡ advancing (sim p) (length (now (a .trace))) (bag-here p .moment) (toBag (bag-here p .bag)) (suc (bag-here p .moment)) (progressOf (p .loop .trace) (now (a .tables)) (p .loop .state) (p .loop .p))
+    CalledOn (now (a .tables)) (sim p) (now (a .trace)) (written c) (changed c) (progressOf (p .loop .trace) (now (a .tables)) (p .loop .state) (p .loop .p)) (p .loop .p .used) (p .loop .bags)
+    (bag-here p .moment) (toBag (bag-here p .bag)) (c .advance-on .result)
 
-module _ (c : tie.After-advance-on Inv-loop μ-loop) where
-  abbrev here : tie.At-loop Inv-loop μ-loop
-  here = turn-of c
-
-  abbrev args : tie.Start Inv-loop μ-loop
-  args = start-of here
-
-  late : bag-here here .moment ≤ maxMoment
-  late = in-time (inside-of (own-of c))
-
-  this-call : ThisCall c
-  this-call =
-      call-same (now (args .args .phases)) (now (args .args .tables)) (sim here) (now (args .args .trace)) (here .loop .trace) (written c) (here .loop .state) (changed c) (here .loop .p)
-      (c .advance-on .result) (bag-here here .moment) (toBag (bag-here here .bag)) late (here .loop .bags) (here .loop .inv .few) (here .loop .inv .beyond) (did c)
-
-  few-now : Few (suc (here .loop .bags)) (c .advance-on .result .progress)
-  few-now =
-      call-few (now (args .args .phases)) (now (args .args .tables)) (sim here) (now (args .args .trace)) (here .loop .trace) (written c) (here .loop .state) (changed c) (here .loop .p)
-      (c .advance-on .result) (bag-here here .moment) (toBag (bag-here here .bag)) late (here .loop .bags) (here .loop .inv .few) (here .loop .inv .beyond) (did c)
-
-  beyond-now : Beyond (now (args .args .trace)) (written c) (c .advance-on .result .progress .used)
-  beyond-now =
-      call-beyond (now (args .args .phases)) (now (args .args .tables)) (sim here) (now (args .args .trace)) (here .loop .trace) (written c) (here .loop .state) (changed c) (here .loop .p)
-      (c .advance-on .result) (bag-here here .moment) (toBag (bag-here here .bag)) late (here .loop .bags) (here .loop .inv .few) (here .loop .inv .beyond) (did c)
+this-call : (c : tie.After-advance-on Inv-loop μ-loop) → ThisCall c
+this-call c =
+    let p = turn-of c in
+    let a = start-of p .args in
+    let l = p .loop in
+    called-on (now (a .phases)) (now (a .tables)) (sim p) (now (a .trace)) (l .trace) (written c) (l .state) (changed c) (l .p) (c .advance-on .result) (bag-here p .moment)
+    (toBag (bag-here p .bag)) (in-time (inside-of (own-of c))) (l .bags) (l .inv .few) (l .inv .beyond) (did c)
 
 returns : tie.Need-returns Inv-loop μ-loop
 returns c =
@@ -214,12 +197,12 @@ returns c =
     record {
       went = record {
         same = call-stops (sim p) (length (now (a .trace))) (written call) (now (a .tables)) (changed call) (call .advance-on .result) (bag-here p) (r .others) (l .bags)
-            (progressOf (l .trace) (now (a .tables)) (l .state) (l .p)) (whole p) (this-call call)
+            (progressOf (l .trace) (now (a .tables)) (l .state) (l .p)) (whole p) (this-call call .same)
             (ap (λ bs. bagsOnward (sim p) (length (now (a .trace))) bs (l .bags) (progressOf (l .trace) (now (a .tables)) (l .state) (l .p))) (r .same) ∙ l .inv .from-here) (test .if1 .taken);
-        beyond = beyond-now call;
+        beyond = this-call call .beyond;
       };
       ready = did call .ready;
-      few = few-more (suc (l .bags)) (a .count) (call .advance-on .result .progress) (omega (arith, l .inv .done, inside .loop-test .taken)) (few-now call);
+      few = few-more (suc (l .bags)) (a .count) (call .advance-on .result .progress) (omega (arith, l .inv .done, inside .loop-test .taken)) (this-call call .few);
     }
 
 -- The next bag.
@@ -273,12 +256,12 @@ loop-again c =
       others = r .others;
       read = ap (bagsFrom (l .left - 1) (suc (bag-here p .moment))) (sym behind) ∙ r .behind;
       lent = call .advance-on .kept .1 .1 .1 .1 .1 .1 .1 .0 ∙ l .inv .lent;
-      few = subst (λ n. Few n (call .advance-on .result .progress)) next (few-now call);
-      beyond = beyond-now call;
+      few = subst (λ n. Few n (call .advance-on .result .progress)) next (this-call call .few);
+      beyond = this-call call .beyond;
       ready = did call .ready;
       from-here = subst (λ n. bagsOnward (sim p) (length (now (a .trace))) (r .others) n (progressOf (written call) (now (a .tables)) (changed call) (call .advance-on .result .progress)) ≡ whole p) next
           (call-goes (sim p) (length (now (a .trace))) (written call) (now (a .tables)) (changed call) (call .advance-on .result) (bag-here p) (r .others) (l .bags)
-          (progressOf (l .trace) (now (a .tables)) (l .state) (l .p)) (whole p) (this-call call)
+          (progressOf (l .trace) (now (a .tables)) (l .state) (l .p)) (whole p) (this-call call .same)
           (ap (λ bs. bagsOnward (sim p) (length (now (a .trace))) bs (l .bags) (progressOf (l .trace) (now (a .tables)) (l .state) (l .p))) (r .same) ∙ l .inv .from-here) (test .if1 .left));
     }
 

@@ -14,7 +14,7 @@ use Rattle.definition.specs.Advance as Definition
 use Rattle.run_state.specs.declared.State.{State}
 use Rattle.instant_steps.specs.Sim.{simOf}
 use Rattle.instant_attempt.specs.Progress.{progressOf}
-use Rattle.feed_loop.proofs.Laws.{call-more, end-stays, end-goes}
+use Rattle.feed_loop.proofs.Laws.{called-on, end-stays, end-goes}
 use Rattle.feed_loop.proofs.advance_to_end.Statement.{statement}
 use Rattle.feed_loop.proofs.advance_to_end.Tie as tie
 
@@ -60,8 +60,8 @@ returns-2 c =
             ∙ end-goes (now (a .phases)) (now (a .rules)) (now (a .tables)) (length (now (a .work))) (a .end .0) (a .past) trace (now (a .state)) (a .own) (test .if1 .left);
         beyond = call .advance-on .ensures .beyond;
       };
-      more = call-more (now (a .phases)) (now (a .tables)) k trace trace _ (now (a .state)) _ (a .own .ended .progress) (call .advance-on .result) (a .end .0) (toBag []) (q .moment) maxBags
-          (q .few) (record { within = q .used; size = refl; same = refl }) (call .advance-on .ensures);
+      more = called-on (now (a .phases)) (now (a .tables)) k trace trace _ (now (a .state)) _ (a .own .ended .progress) (call .advance-on .result) (a .end .0) (toBag []) (q .moment) maxBags
+          (q .few) (record { within = q .used; size = refl; same = refl }) (call .advance-on .ensures) .more;
     }
 
 pub advance-to-end-spec : {M : Type 1} → statement M
