@@ -64,27 +64,6 @@ sums-stop : (a : Advanced) → eqb (a .number) 0 ≡ false → Sums (answerOf a 
 unfolding stoppedBy count sum lastNumber counted
 sums-stop a e = record { number = refl; bags = rw e; instants = omega arith; steps = omega arith; used = omega arith; run-left = refl }
 
-pub in-sum : (file : Bytes) (cs : List FeedBag) (run trace : Bytes) → Sums (ran file run (madeCalls (engine file) run trace cs)) (fedInTurn file run trace cs)
-unfolding fedInTurn nothingFed madeCalls runCalls called engine lastNumber count sum
-in-sum file [] run trace = record { number = refl; bags = refl; instants = refl; steps = refl; used = refl; run-left = refl }
-in-sum file (c ∷ cs) run trace = go (eqb (a .number) 0) refl (in-sum file cs (a .run) (drop (a .used) (a .trace)))
-  where
-    a : Advanced
-    a = advance file run (c .moment) (c .bag) trace []
-
-    here : AdvanceCall
-    here = record { moment = c .moment; bag = c .bag; trace = trace; table = [] }
-
-    made : List AdvanceCall
-    made = madeCalls (engine file) (a .run) (drop (a .used) (a .trace)) cs
-
-    on : Fed
-    on = fedInTurn file (a .run) (drop (a .used) (a .trace)) cs
-
-    go : (b : Bool) → eqb (a .number) 0 ≡ b → Sums (ran file (a .run) made) on → Sums (ran file run (here ∷ cond b made [])) (cond b (followedBy a on) (stoppedBy a))
-    go true e h = sums-then a (ran file (a .run) made) on e h
-    go false e h = sums-stop a e
-
 -- ---- the trace
 
 -- an advance writes at the front of the lent trace, as long as it says
@@ -134,10 +113,16 @@ module _ (a : Advanced) (trace front : Bytes) (e : a .used ≡ length front) (g 
     trace-left = g ∙ ap (λ b. stored b trace) (sym own ∙ sym (append-nil (take (a .used) (a .trace))));
   }
 
-pub in-trace : (file : Bytes) (cs : List FeedBag) (run trace : Bytes) → WroteOn (joined file run (madeCalls (engine file) run trace cs)) trace (fedInTurn file run trace cs)
-unfolding fedInTurn nothingFed madeCalls joinedTraces engine stored
-in-trace file [] run trace = record { length-is = refl; trace-left = refl }
-in-trace file (c ∷ cs) run trace = go (eqb (a .number) 0) (in-trace file cs (a .run) (drop (a .used) (a .trace)))
+-- ---- both
+
+-- The calls of a feed in turn, and what they add up to.
+in-turn : (file : Bytes) (cs : List FeedBag) (run trace : Bytes)
+    → Sums (ran file run (madeCalls (engine file) run trace cs)) (fedInTurn file run trace cs)
+    × WroteOn (joined file run (madeCalls (engine file) run trace cs)) trace (fedInTurn file run trace cs)
+unfolding fedInTurn nothingFed madeCalls runCalls called joinedTraces engine lastNumber count sum stored
+in-turn file [] run trace =
+    (record { number = refl; bags = refl; instants = refl; steps = refl; used = refl; run-left = refl }, record { length-is = refl; trace-left = refl })
+in-turn file (c ∷ cs) run trace = go (eqb (a .number) 0) refl (in-turn file cs (a .run) (drop (a .used) (a .trace)))
   where
     a : Advanced
     a = advance file run (c .moment) (c .bag) trace []
@@ -151,20 +136,22 @@ in-trace file (c ∷ cs) run trace = go (eqb (a .number) 0) (in-trace file cs (a
     on : Fed
     on = fedInTurn file (a .run) (drop (a .used) (a .trace)) cs
 
-    go : (b : Bool) → WroteOn (joined file (a .run) made) (drop (a .used) (a .trace)) on
-        → WroteOn (joined file run (here ∷ cond b made [])) trace (cond b (followedBy a on) (stoppedBy a))
-    go true h = let f = writes file run (c .moment) (c .bag) trace [] in wrote-then a trace (f .0) (f .1) (f .2) (joined file (a .run) made) on h
-    go false h = let f = writes file run (c .moment) (c .bag) trace [] in wrote-stop a trace (f .0) (f .1) (f .2)
-
--- ---- both
+    go : (b : Bool) → eqb (a .number) 0 ≡ b → Sums (ran file (a .run) made) on × WroteOn (joined file (a .run) made) (drop (a .used) (a .trace)) on
+        → Sums (ran file run (here ∷ cond b made [])) (cond b (followedBy a on) (stoppedBy a))
+        × WroteOn (joined file run (here ∷ cond b made [])) trace (cond b (followedBy a on) (stoppedBy a))
+    go true e h =
+        let f = writes file run (c .moment) (c .bag) trace [] in
+        (sums-then a (ran file (a .run) made) on e (h .0), wrote-then a trace (f .0) (f .1) (f .2) (joined file (a .run) made) on (h .1))
+    go false e h = let f = writes file run (c .moment) (c .bag) trace [] in (sums-stop a e, wrote-stop a trace (f .0) (f .1) (f .2))
 
 pub in-calls : (file run trace : Bytes) (bs : List FeedBag) (end : ℕ)
     → (let made = madeCalls (engine file) run trace (feedCalls bs end) in
     AsCalls (length bs) trace (ran file run made .0) (ran file run made .1) (joined file run made) (ownBags (length bs) (fedInTurn file run trace (feedCalls bs end))))
 unfolding ownBags
 in-calls file run trace bs end =
-    let f = in-sum file (feedCalls bs end) run trace in
-    let g = in-trace file (feedCalls bs end) run trace in
+    let both = in-turn file (feedCalls bs end) run trace in
+    let f = both .0 in
+    let g = both .1 in
     record {
       number = f .number;
       bags-done = ap (λ n. min n (length bs)) (f .bags);
