@@ -7,7 +7,7 @@ use lib.ListN.{length, replicate}
 use Rattle.definition.specs.Lists.{concat}
 use Rattle.definition.specs.Bytes.{Bytes}
 use Rattle.definition.specs.Limits.{neverField, maxAtomicBag}
-use Rattle.definition.specs.Model.{Bag, Model, noComponent, tree}
+use Rattle.definition.specs.Model.{Bag, Model, inclusive, noComponent, tree}
 use Rattle.definition.specs.File.{modelBytes}
 use Rattle.definition.specs.Devs.{Decided, devsStep}
 use Rattle.definition.specs.Step.{load}
@@ -27,6 +27,7 @@ hearing least = record {
   phases = silent neverField 0 ∷ silent neverField 1 ∷ [];
   rules = onValue 2 0 7 least 1 ∷ [];
   couplings = replicate 32 (link 0 0 1 0) ++ replicate 32 (link 1 0 2 0);
+  ranges = inclusive;
 }
 
 unfoldable pub sixteen : Bytes

@@ -37,14 +37,14 @@ unfolding
     Decoder.toRule Records.ruleBytes Decoder.ruleFields Decoder.ruleFits Decoder.toCoupling Records.couplingBytes Decoder.related
     Decoder.couplingFields Decoder.notFalling Decoder.couplingFits
     Decoder.sectionCount Decoder.section File.sectionBytes Decoder.componentCountRefusal Decoder.phaseCountRefusal Decoder.limitRefusal
-    File.phaseTotal Decoder.componentSection Decoder.phaseSection Decoder.ruleSection Decoder.couplingSection Decoder.endOfFile
-    Decoder.decode File.modelBytes
+    File.phaseTotal Decoder.componentSection Decoder.phaseSection Decoder.ruleSection Decoder.couplingSection Decoder.isFifth
+    Decoder.fifthSection Decoder.elapsedFits Decoder.endOfFile Decoder.furtherSections Decoder.decode File.rangesBytes File.modelBytes
     Routes.portsTo Routes.joined Routes.joinedAll Routes.rootEnds Routes.routes Decoder.accepted Decoder.checkModel Routes.endsIn
     Routes.waysFrom
     Devs.earlier Devs.remaining Devs.later Devs.sameTime Devs.ticks Devs.translateOne Devs.translate Devs.sigma Devs.leastSigma
     Devs.outputsTo Devs.anew Devs.changed Devs.changedAll Devs.resultantOut Devs.resultantInt Devs.resultantExt Devs.resultantCon Devs.transition
     Devs.devsStep Devs.devsDue
-    Atomic.meets Atomic.withinElapsed Atomic.holds Atomic.deciding Atomic.toldAs Atomic.unspent Atomic.followed Atomic.advanceOf Atomic.nextPhase
+    Atomic.meets Atomic.upToEnd Atomic.withinElapsed Atomic.holds Atomic.deciding Atomic.toldAs Atomic.unspent Atomic.followed Atomic.advanceOf Atomic.nextPhase
     Atomic.ruleFor Atomic.timeAdvance Atomic.internal Atomic.external Atomic.confluent
     SavedRun.noEntry SavedRun.atomicCount SavedRun.runLength SavedRun.toEntry SavedRun.toRun SavedRun.runOf SavedRun.entryBytes
     SavedRun.runBytes SavedRun.dueOf SavedRun.lookUp SavedRun.entryOf SavedRun.nextDue SavedRun.notBefore SavedRun.entryFits

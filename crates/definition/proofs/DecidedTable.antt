@@ -6,7 +6,7 @@ use mathlib.Core.List.{List, [], _∷_, _++_, map}
 use lib.ListN.{replicate}
 use Rattle.definition.specs.Bytes.{Bytes}
 use Rattle.definition.specs.Limits.{neverField}
-use Rattle.definition.specs.Model.{Model, noComponent}
+use Rattle.definition.specs.Model.{Model, inclusive, noComponent}
 use Rattle.definition.specs.File.{modelBytes}
 use Rattle.definition.specs.Flatten.{flat}
 use Rattle.definition.specs.Calls.{Call, startCall, advanceCall, Answer, startAnswer, advanceAnswer, Machine, runCalls, engine, flatMachine}
@@ -27,6 +27,7 @@ telling = record {
   rules = onValue 3 0 6 1 1 ∷ onValue 3 0 7 1 1 ∷ onValue 4 0 7 1 1 ∷ onValue 3 1 9 1 2 ∷ [];
   couplings =
       link 1 0 3 0 ∷ link 1 0 4 0 ∷ link 1 1 3 0 ∷ link 2 0 1 0 ∷ link 2 1 1 1 ∷ link 2 2 0 0 ∷ link 2 2 1 1 ∷ [];
+  ranges = inclusive;
 }
 
 unfoldable pub lent : ℕ → Bytes → Bytes → Bytes → Call

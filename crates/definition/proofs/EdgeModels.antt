@@ -5,7 +5,7 @@ use Prim.Native.Nat.{ℕ, suc}
 use mathlib.Core.List.{[], _∷_, _++_, map}
 use Rattle.definition.specs.Lists.{upFrom}
 use Rattle.definition.specs.Limits.{neverField}
-use Rattle.definition.specs.Model.{Rule, Model, noComponent}
+use Rattle.definition.specs.Model.{Rule, Model, inclusive, noComponent}
 use Rattle.definition.proofs.Models.{message, coupledIn, atomicIn, silent, saying, onValue, link}
 
 -- as `onValue`, at an elapsed time from low to high
@@ -21,6 +21,7 @@ colliding order = record {
   phases = saying 10 0 (message 0 7) ∷ silent 10 1 ∷ silent neverField 2 ∷ silent neverField 0 ∷ silent neverField 3 ∷ [];
   rules = onValueAt 2 0 7 10 10 2 ∷ onValueAt 2 1 7 0 0 3 ∷ [];
   couplings = link 1 0 2 0 ∷ [];
+  ranges = inclusive;
 }
 
 -- One atomic that rests until a 7 comes; it then stays 5 ticks. The rule's elapsed range begins at 5 and has the high end given.
@@ -30,6 +31,7 @@ waiting high = record {
   phases = silent neverField 0 ∷ saying 5 0 (message 0 9) ∷ [];
   rules = onValueAt 1 0 7 5 high 1 ∷ [];
   couplings = link 0 0 1 0 ∷ link 1 0 0 0 ∷ [];
+  ranges = inclusive;
 }
 
 -- The atomic that never rests, heard at the root.
@@ -39,6 +41,7 @@ restlessHeard = record {
   phases = saying 0 0 (message 0 1) ∷ [];
   rules = [];
   couplings = link 1 0 0 0 ∷ [];
+  ranges = inclusive;
 }
 
 -- Atomic 1 goes round 32 phases of advance 0 and tells atomic 2 of each round; after 31 rounds atomic 2 stops it, and it runs down 31 more
@@ -51,6 +54,7 @@ counting initial = record {
       ++ map (λ i. silent neverField i) (upFrom 0 31) ++ (saying 0 32 (message 0 9) ∷ silent neverField 32 ∷ []);
   rules = onValue 1 1 9 1 32 ∷ onValue 1 63 5 1 0 ∷ map (λ i. onValue 2 i 1 1 (suc i)) (upFrom 0 31);
   couplings = link 0 0 1 0 ∷ link 1 0 2 0 ∷ link 2 0 1 0 ∷ [];
+  ranges = inclusive;
 }
 
 -- The atomic 3, three levels down in 1 and 2: a 7 begins a hold of 5 ticks, after which it says 9 at the root; a 6 begins it anew, a 4 after 4
@@ -63,4 +67,5 @@ holding order every = record {
   rules = onValue 3 0 7 1 1 ∷ onValue 3 1 6 1 1 ∷ onValueAt 3 1 4 4 5 2 ∷ onValueAt 3 0 3 4294967294 neverField 2 ∷ [];
   couplings =
       link 0 0 1 0 ∷ link 1 0 0 0 ∷ link 1 0 2 0 ∷ link 2 0 1 0 ∷ link 2 0 3 0 ∷ link 3 0 2 0 ∷ link 4 0 2 0 ∷ [];
+  ranges = inclusive;
 }

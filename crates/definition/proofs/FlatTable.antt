@@ -6,7 +6,7 @@ use mathlib.Core.List.{[], _∷_, _++_}
 use lib.ListN.{replicate}
 use Rattle.definition.specs.Bytes.{Bytes, ok}
 use Rattle.definition.specs.Limits.{neverField}
-use Rattle.definition.specs.Model.{Model, noMessage, noComponent}
+use Rattle.definition.specs.Model.{Model, inclusive, noMessage, noComponent}
 use Rattle.definition.specs.File.{modelBytes}
 use Rattle.definition.specs.Pinned.Decoder.{decode}
 use Rattle.definition.specs.Engine.{start}
@@ -93,6 +93,7 @@ nestModel = record {
   couplings =
       link 0 0 2 0 ∷ link 0 0 6 1 ∷ link 0 1 1 0 ∷ link 1 0 0 0 ∷ link 2 0 0 2 ∷ link 2 0 3 1 ∷ link 2 0 4 2 ∷ link 2 0 6 0 ∷ link 3 1 4 0
       ∷ link 3 1 4 1 ∷ link 3 3 2 0 ∷ link 4 0 5 0 ∷ link 4 1 2 0 ∷ link 4 1 5 0 ∷ link 5 2 4 1 ∷ link 6 3 2 0 ∷ [];
+  ranges = inclusive;
 }
 
 -- ---- the rows
@@ -130,6 +131,6 @@ unfolding flattened
 flat-short = refl
 
 -- a file that is refused, and a buffer that is too short as well
-pub flat-refused : flatten (nestFile ++ z 1) [] ≡ record { number = 2; written = 0; buffer = [] }
+pub flat-refused : flatten (nestFile ++ z 1) [] ≡ record { number = 20; written = 0; buffer = [] }
 unfolding flattened
 flat-refused = refl

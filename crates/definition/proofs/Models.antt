@@ -2,7 +2,7 @@
 use Prim.Native.Nat.{ℕ}
 use mathlib.Core.List.{List, [], _∷_, _++_}
 use Rattle.definition.specs.Limits.{neverField}
-use Rattle.definition.specs.Model.{Message, Component, Phase, Rule, Coupling, Model, noMessage, noComponent}
+use Rattle.definition.specs.Model.{Message, Component, Phase, Rule, Coupling, Model, inclusive, noMessage, noComponent}
 
 -- ---- records, written shortly
 
@@ -44,11 +44,12 @@ cueSource order first = record {
       ∷ silent neverField 0 ∷ saying 5 0 (message 0 100) ∷ saying 10 0 (message 1 8) ∷ [];
   rules = onValue 2 0 7 1 1 ∷ onValue 2 1 8 1 2 ∷ [];
   couplings = first ++ (link 2 0 0 0 ∷ link 2 1 0 1 ∷ []);
+  ranges = inclusive;
 }
 
 -- one atomic of one phase, advance 0, next itself
 unfoldable pub restless : Model
-restless = record { components = noComponent ∷ atomicIn 0 1 0 ∷ []; phases = silent 0 0 ∷ []; rules = []; couplings = [] }
+restless = record { components = noComponent ∷ atomicIn 0 1 0 ∷ []; phases = silent 0 0 ∷ []; rules = []; couplings = []; ranges = inclusive }
 
 -- Three levels: the root holds the coupled 1 and the atomic 5; 1 holds the atomic 2 and the coupled 3; 3 holds the atomic 4 (order 1).
 -- Couplings 2.0 to 3.0 and 5.0 to 1.0 are doubled. Phases with advance 0 of 2 and 4 give instants of two steps. In its rows 2 and 4 meet
@@ -66,4 +67,5 @@ nest = record {
   couplings =
       link 0 0 1 0 ∷ link 0 1 5 0 ∷ link 1 0 0 0 ∷ link 1 0 2 0 ∷ link 1 0 3 0 ∷ link 1 0 5 0 ∷ link 1 1 0 1 ∷ link 2 0 1 0 ∷ link 2 0 3 0 ∷ link 2 0 3 0
       ∷ link 2 1 1 1 ∷ link 3 0 1 0 ∷ link 3 0 2 0 ∷ link 3 0 4 0 ∷ link 3 1 1 1 ∷ link 4 0 3 0 ∷ link 4 1 3 1 ∷ link 5 0 1 0 ∷ link 5 0 1 0 ∷ [];
+  ranges = inclusive;
 }

@@ -31,8 +31,8 @@ counts =
     ∷ (lone ++ z 2, 1) ∷ (lone ++ z 3, 1) ∷ (lone ++ z 2 ++ b2 0 4, 1) ∷ (lone ++ z 2 ++ b2 1 4, 3)
     -- couplings: the same
     ∷ (lone ++ z 4, 1) ∷ (lone ++ z 5, 1) ∷ (lone ++ z 4 ++ b2 0 4, 1) ∷ (lone ++ z 4 ++ b2 1 4, 3)
-    -- the lone root, and one byte more
-    ∷ (lone ++ z 6, 0) ∷ (lone ++ z 7, 2) ∷ []
+    -- the lone root, and one byte more, which is no fifth section
+    ∷ (lone ++ z 6, 0) ∷ (lone ++ z 7, 20) ∷ []
 
 -- ---- components: the file ends after them
 
@@ -162,14 +162,15 @@ multiplied n more =
 
 unfoldable pub manyRoutes : List File
 manyRoutes =
-    -- 1,024; 1,025; both with one byte more (2 before 9)
-    (multiplied 20 [], 0) ∷ (multiplied 21 (b4 6 0 0 0), 9) ∷ (multiplied 21 (b4 6 0 0 0 ++ z 1), 2)
+    -- 1,024; 1,025; with one byte more (20 before 9); with a fifth section (9 last), and a byte after it (2 before 9)
+    (multiplied 20 [], 0) ∷ (multiplied 21 (b4 6 0 0 0), 9) ∷ (multiplied 21 (b4 6 0 0 0 ++ z 1), 20)
+    ∷ (multiplied 21 (b4 6 0 0 0 ++ b3 1 0 2), 9) ∷ (multiplied 21 (b4 6 0 0 0 ++ b4 1 0 2 0), 2)
     -- one more way that leads nowhere: to input port 1 of the coupled 1, from where none goes on
     ∷ (multiplied 21 (b4 6 0 1 1), 0) ∷ []
 
 -- ---- the longest file and the longest run
 
-pub longest-model : longestModel ≡ (2 + 64 * 5) + (2 + 512 * 18) + (2 + 1024 * 18) + (2 + 1024 * 4)
+pub longest-model : longestModel ≡ (2 + 64 * 5) + (2 + 512 * 18) + (2 + 1024 * 18) + (2 + 1024 * 4) + (2 + 1)
 longest-model = refl
 
 pub longest-run : longestRun ≡ 8 + 2 + 63 * 9

@@ -1,14 +1,14 @@
--- The atomic model of document 01, "One step": phases, rules and the two orders, as requests (i) and (ii) of document 02 mend it; and the
--- model of every component of a nest. Assumes nothing.
+-- The atomic model of document 01, "One step": phases, rules and the two orders, as requests (i), (ii) and (vi) of document 02 mend it; and
+-- the model of every component of a nest. Assumes nothing.
 use Prim.Native.Nat.{ℕ, suc, _+_}
 use mathlib.Core.List.{List, [], _∷_}
 use mathlib.Core.Option.{Option, none, some}
 use mathlib.Core.Bool.{Bool, _&&_, _||_, cond}
-use lib.Dec.{leb, eqb}
+use lib.Dec.{leb, ltb, eqb}
 use lib.ListN.{length, getD}
 use Rattle.definition.specs.Lists.{count}
 use Rattle.definition.specs.Limits.{neverField, noPosition}
-use Rattle.definition.specs.Model.{Message, Bag, Rule, Model, noRule, componentAt, phaseAt, outputs, Tree, Forest, leaf, node, stop, more, nameOf}
+use Rattle.definition.specs.Model.{Message, Bag, Rule, RangeReading, inclusive, halfOpen, Model, noRule, componentAt, phaseAt, outputs, Tree, Forest, leaf, node, stop, more, nameOf}
 use Rattle.definition.specs.Devs.{Time, finite, never, remaining, ticks, After, Devs, Part, resultant}
 
 -- ---- the deciding rule
@@ -17,14 +17,19 @@ use Rattle.definition.specs.Devs.{Time, finite, never, remaining, ticks,
 unfoldable pub meets : Rule → Message → Bool
 meets k x = eqb (x .port) (k .port) && leb (k .low) (x .value) && leb (x .value) (k .high)
 
--- "High elapsed 4,294,967,295 means no upper end."
-unfoldable pub withinElapsed : Rule → ℕ → Bool
-withinElapsed k e = leb (k .lowElapsed) e && (leb e (k .highElapsed) || eqb (k .highElapsed) neverField)
+-- Up to the high end, or, with a fifth section, short of it: "that high end is excluded".
+unfoldable pub upToEnd : RangeReading → ℕ → ℕ → Bool
+upToEnd inclusive e high = leb e high
+upToEnd halfOpen e high = ltb e high
+
+-- "High elapsed 4,294,967,295 means no upper end", and under either reading it "still means no end".
+unfoldable pub withinElapsed : RangeReading → Rule → ℕ → Bool
+withinElapsed r k e = leb (k .lowElapsed) e && (upToEnd r e (k .highElapsed) || eqb (k .highElapsed) neverField)
 
 -- "Conditions: component, phase, elapsed time within the range, and at least the least count of messages": component c in phase p,
--- e after its last moment, with bag x.
-unfoldable pub holds : ℕ → ℕ → ℕ → Bag → Rule → Bool
-holds c p e x k = eqb (k .component) c && eqb (k .phase) p && withinElapsed k e && leb (k .least) (count (meets k) x)
+-- e after its last moment, with bag x; r is the model's reading of ranges.
+unfoldable pub holds : RangeReading → ℕ → ℕ → ℕ → Bag → Rule → Bool
+holds r c p e x k = eqb (k .component) c && eqb (k .phase) p && withinElapsed r k e && leb (k .least) (count (meets k) x)
 
 -- "the first rule in file order whose conditions all hold decides": its position, where the rules given stand from `at` on.
 unfoldable pub deciding : (Rule → Bool) → ℕ → List Rule → Option ℕ
@@ -66,7 +71,7 @@ module _ (m : Model) (c : ℕ) where
 
   -- The position of the rule that decides in phase p, so long since the last moment.
   unfoldable pub ruleFor : ℕ → ℕ → Bag → Option ℕ
-  ruleFor p since x = deciding (holds c p since x) 0 (m .rules)
+  ruleFor p since x = deciding (holds (m .ranges) c p since x) 0 (m .rules)
 
   -- ta: what is left of the phase's advance
   unfoldable pub timeAdvance : InPhase → Time

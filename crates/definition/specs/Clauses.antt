@@ -1,4 +1,4 @@
--- A saved run that fits, a given bag that fits, and the rule that decides, as clauses of document 01 and with no test of the engine's.
+-- A saved run that fits, a given bag that fits, and the rule that decides, as clauses of documents 01 and 02 and with no test of the engine's.
 -- Demands 1 and 2 pin the engine's tests to them. Assumes nothing.
 use mathlib.Core.Path.{_≡_}
 use mathlib.Core.Logic.{_⊎_}
@@ -9,7 +9,7 @@ use lib.ListN.{length, getD}
 use Rattle.definition.specs.Lists.{concat}
 use Rattle.definition.specs.Bytes.{Bytes, numberAt}
 use Rattle.definition.specs.Limits.{portCount, neverField, maxMoment, maxGiven}
-use Rattle.definition.specs.Model.{Message, Bag, Rule, Model, noRule, componentAt, atomics}
+use Rattle.definition.specs.Model.{Message, Bag, Rule, RangeReading, inclusive, halfOpen, Model, noRule, componentAt, atomics}
 use Rattle.definition.specs.Records.{messageLayout, messageBytes}
 use Rattle.definition.specs.Sound.{Held, Every}
 use Rattle.definition.specs.Devs.{finite}
@@ -56,17 +56,25 @@ pub data Among {A : Type 0} : List A → List A → Type 0 where
 abbrev pub Meets : Rule → Message → Type 0
 Meets k x = (x .port ≡ k .port) × (k .low ≤ x .value) × (x .value ≤ k .high)
 
+-- Before the high end or at it; with a fifth section "that high end is excluded".
+abbrev pub UpToEnd : RangeReading → ℕ → ℕ → Type 0
+UpToEnd inclusive e high = e ≤ high
+UpToEnd halfOpen e high = e < high
+
+pub record WithinElapsed (r : RangeReading) (k : Rule) (e : ℕ) : Type 0 where
+  pub from : k .lowElapsed ≤ e
+  -- "4,294,967,295 still means no end"
+  pub to : UpToEnd r e (k .highElapsed) ⊎ (k .highElapsed ≡ neverField)
+
 -- "Conditions: component, phase, elapsed time within the range, and at least the least count of messages"
-pub record Holds (c p e : ℕ) (x : Bag) (k : Rule) : Type 0 where
+pub record Holds (r : RangeReading) (c p e : ℕ) (x : Bag) (k : Rule) : Type 0 where
   pub component : k .component ≡ c
   pub phase : k .phase ≡ p
-  pub from : k .lowElapsed ≤ e
-  -- "High elapsed 4,294,967,295 means no upper end."
-  pub to : (e ≤ k .highElapsed) ⊎ (k .highElapsed ≡ neverField)
+  pub elapsed : WithinElapsed r k e
   pub messages : (ys : Bag) × Among ys x × (length ys ≡ k .least) × Every (Meets k) ys
 
 -- "the first rule in file order whose conditions all hold decides": its position, or none "where no rule holds".
-pub data Decides (ks : List Rule) (c p e : ℕ) (x : Bag) : Option ℕ → Type 0 where
-  first : (i : ℕ) → i < length ks → Holds c p e x (getD ks i noRule) → ((j : ℕ) → j < i → Holds c p e x (getD ks j noRule) → ⊥)
-      → Decides ks c p e x (some i)
-  none-holds : ((j : ℕ) → j < length ks → Holds c p e x (getD ks j noRule) → ⊥) → Decides ks c p e x none
+pub data Decides (r : RangeReading) (ks : List Rule) (c p e : ℕ) (x : Bag) : Option ℕ → Type 0 where
+  first : (i : ℕ) → i < length ks → Holds r c p e x (getD ks i noRule) → ((j : ℕ) → j < i → Holds r c p e x (getD ks j noRule) → ⊥)
+      → Decides r ks c p e x (some i)
+  none-holds : ((j : ℕ) → j < length ks → Holds r c p e x (getD ks j noRule) → ⊥) → Decides r ks c p e x none

@@ -31,8 +31,8 @@ pub data Told : Option ℕ → ℕ → Type 0 where
 
 -- The rule of the external part of a confluent transition, in its order.
 pub data DecidesConfluent (m : Model) (c p : ℕ) (x : Bag) (o : Option ℕ) : Type 0 where
-  internal-first : componentAt (m .components) c .order ≡ 0 → Decides (m .rules) c (nextPhase m c p) 0 x o → DecidesConfluent m c p x o
-  external-first : componentAt (m .components) c .order ≡ 1 → Decides (m .rules) c p (ticks (advanceOf m c p)) x o → DecidesConfluent m c p x o
+  internal-first : componentAt (m .components) c .order ≡ 0 → Decides (m .ranges) (m .rules) c (nextPhase m c p) 0 x o → DecidesConfluent m c p x o
+  external-first : componentAt (m .components) c .order ≡ 1 → Decides (m .ranges) (m .rules) c p (ticks (advanceOf m c p)) x o → DecidesConfluent m c p x o
 
 -- The i-th atomic in file order had no external part in a step.
 abbrev pub NoPart : ℕ → Output → Type 0

@@ -154,7 +154,7 @@ pub record Demand1 : Type 0 where
   -- A model outside the layouts is refused by its listed number: the number of a file is that of the table, and no other.
   pub model-judged : (file : Bytes) → AllBytes file → Judged file (checkModel file)
   pub model-only : (file : Bytes) (n : ℕ) → Judged file n → checkModel file ≡ n
-  pub model-numbers : (file : Bytes) (n : ℕ) → Judged file n → n ≤ 9
+  pub model-numbers : (file : Bytes) (n : ℕ) → Judged file n → (n ≤ 9) ⊎ (n ≡ 20)
   -- Everything else is accepted: each model within the layouts by its bytes, and nothing else; so a model has one file.
   pub sound-accepted : (m : Model) → Sound m → accepted (modelBytes m) ≡ ok m
   pub accepted-sound : (file : Bytes) (m : Model) → AllBytes file → accepted file ≡ ok m → Sound m × (file ≡ modelBytes m)
@@ -267,7 +267,7 @@ pub record Demand2 : Type 0 where
       → Every FeedOfBytes calls → start file (runCalls (engine file) run before .1) .number ≡ 0
       → Through m (engine file) (atStart m) (start file (runCalls (engine file) run before .1) .buffer) calls
   -- The search by which an atomic's external part is decided finds the first rule whose conditions all hold.
-  pub rule-decides : (m : Model) (c p e : ℕ) (x : Bag) → Decides (m .rules) c p e x (ruleFor m c p e x)
+  pub rule-decides : (m : Model) (c p e : ℕ) (x : Bag) → Decides (m .ranges) (m .rules) c p e x (ruleFor m c p e x)
   -- The order of messages in a bag changes nothing: of a given bag, and of a bag that reaches any component of a nest.
   pub given-order : (file run : Bytes) (t : ℕ) (b c trace table : Bytes) → AllBytes file → length b ≡ length c → Same (toBag b) (toBag c)
       → advance file run t b trace table ≡ advance file run t c trace table

@@ -1,5 +1,5 @@
 -- Flattening: "a model of the root and the atomics in file order, phases and rules kept in order with components renumbered, and each
--- route as a coupling, the rows sorted." Assumes nothing.
+-- route as a coupling, the rows sorted"; and "flattening copies the section" of ranges. Assumes nothing.
 use Prim.Native.Nat.{ℕ, suc}
 use mathlib.Core.List.{List, [], _∷_, map}
 use mathlib.Core.Bool.{cond}
@@ -52,9 +52,10 @@ flat m =
       phases = m .phases;
       rules = map (flatRule cs) (m .rules);
       couplings = sortBy couplingLe (map (flatRoute cs) (routes m));
+      ranges = m .ranges;
     }
 
--- The call: 1 to 9, then 15, else the flat model's bytes at the front of the buffer.
+-- The call: the model's number, then 15, else the flat model's bytes at the front of the buffer.
 unfoldable pub flatten : Bytes → Bytes → Wrote
 flatten file buffer = wrote buffer (do
   m ← accepted file

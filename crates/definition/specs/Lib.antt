@@ -31,3 +31,4 @@ pub mod DecidedRules
 pub mod TracesByColumn
 pub mod AtomicBags
 pub mod Feeds
+pub mod HalfOpenRanges

@@ -41,6 +41,10 @@ maxAdvance = 1000000000
 abbrev pub neverField : ℕ
 neverField = 4294967295
 
+-- "count 1, then the byte 2": the byte of a fifth section
+abbrev pub halfOpenByte : ℕ
+halfOpenByte = 2
+
 -- ---- widths of counts and records
 abbrev pub countSize : ℕ
 countSize = 2
@@ -56,6 +60,10 @@ ruleSize = 18
 
 abbrev pub couplingSize : ℕ
 couplingSize = 4
+
+-- The fifth section as a whole: its count and one byte.
+abbrev pub fifthSize : ℕ
+fifthSize = 3
 
 abbrev pub messageSize : ℕ
 messageSize = 3
@@ -117,9 +125,9 @@ abbrev pub maxRecords : ℕ
 maxRecords = 4294967295
 
 -- ---- lengths that suffice for every model and every feed
--- The longest model file: four counts, 64 components, 512 phases, 1,024 rules, 1,024 couplings.
+-- The longest model file: four counts, 64 components, 512 phases, 1,024 rules, 1,024 couplings, and a fifth section.
 abbrev pub longestModel : ℕ
-longestModel = 32072
+longestModel = 32075
 
 -- The longest saved run: that of 63 atomics.
 abbrev pub longestRun : ℕ

@@ -53,11 +53,18 @@ pub record Coupling : Type 0 where
   pub target : ℕ
   pub targetPort : ℕ
 
+-- How the elapsed ranges of a model's rules are read: "Four-section files keep the inclusive reading"; with a fifth section the "high end is
+-- excluded".
+pub data RangeReading : Type 0 where
+  inclusive : RangeReading
+  halfOpen : RangeReading
+
 pub record Model : Type 0 where
   pub components : List Component
   pub phases : List Phase
   pub rules : List Rule
   pub couplings : List Coupling
+  pub ranges : RangeReading
 
 -- ---- what stands where no record does: zeros
 

@@ -1,4 +1,4 @@
--- What an accepted model is: each line of document 01 on the model file as a clause over its records, and each section's form.
+-- What an accepted model is: each line of documents 01 and 02 on the model file as a clause over its records, and each section's form.
 -- Nothing here reads a file. Assumes nothing.
 use mathlib.Core.Path.{_≡_}
 use mathlib.Core.Logic.{_⊎_}
@@ -7,7 +7,7 @@ use mathlib.Core.List.{List, [], _∷_}
 use lib.ListN.{length, getD}
 use Rattle.definition.specs.Bytes.{Layout}
 use Rattle.definition.specs.Limits.{maxComponents, maxAncestors, maxOwnPhases, maxPhases, maxOutputs, maxRules, maxCouplings, maxRoutes, portCount, maxAdvance, neverField, componentSize, phaseSize, ruleSize, couplingSize}
-use Rattle.definition.specs.Model.{Message, Component, Phase, Rule, Coupling, Model, noMessage, noPhase, noRule, noCoupling, componentAt, phasesBefore, slots, couplingRow}
+use Rattle.definition.specs.Model.{Message, Component, Phase, Rule, Coupling, RangeReading, inclusive, halfOpen, Model, noMessage, noPhase, noRule, noCoupling, componentAt, phasesBefore, slots, couplingRow}
 use Rattle.definition.specs.Records.{componentLayout, phaseLayout, ruleLayout, couplingLayout}
 use Rattle.definition.specs.File.{phaseTotal}
 use Rattle.definition.specs.Routes.{routes}
@@ -84,6 +84,11 @@ pub record RuleKeeps (cs : List Component) (k : Rule) : Type 0 where
   -- "Low is at most high in both ranges."
   pub values : k .low ≤ k .high
   pub elapsed : k .lowElapsed ≤ k .highElapsed
+
+-- With a fifth section "low elapsed must be below high elapsed".
+abbrev pub ElapsedKeeps : RangeReading → Rule → Type 0
+ElapsedKeeps inclusive k = Unit {0}
+ElapsedKeeps halfOpen k = k .lowElapsed < k .highElapsed
 
 -- ---- couplings
 
@@ -178,5 +183,6 @@ pub record Sound (m : Model) : Type 0 where
   pub phases : Lines (phaseForm (m .components)) (m .phases)
   pub rules : Lines (ruleForm (m .components)) (m .rules)
   pub couplings : Lines (couplingForm (m .components)) (m .couplings)
+  pub ranges : Every (ElapsedKeeps (m .ranges)) (m .rules)
   -- "at most 1,024 in all"
   pub routes-few : length (routes m) ≤ maxRoutes

@@ -26,7 +26,7 @@ module _ (m : Model) (c now : ℕ) where
 
   -- What decides for an entry and a bag: the rule at a position, or none.
   abbrev pub DecidesFor : Entry → Bag → Option ℕ → Type 0
-  DecidesFor r x o = Decides (m .rules) c (r .phase) (now - r .last) x o
+  DecidesFor r x o = Decides (m .ranges) (m .rules) c (r .phase) (now - r .last) x o
 
 pub record StrayCue : Type 0 where
   -- "where no rule holds, the external transition keeps both phase and last moment."

@@ -10,7 +10,7 @@ use borrow.Author.Tests.{eqb-true, eq-eqb}
 use Rattle.definition.specs.Lists.{count, Same, sortBy}
 use Rattle.law_base.proofs.Tests.{and-left, and-right}
 use Rattle.law_base.proofs.Sorting.{sort-perm, message-order}
-use Rattle.definition.specs.Model.{Message, Bag, Rule, messageLe}
+use Rattle.definition.specs.Model.{Message, Bag, Rule, RangeReading, messageLe}
 use Rattle.definition.specs.Atomic.{meets, withinElapsed, holds, deciding}
 
 pub count-append : {A : Type 0} (p : A → Bool) (x y : List A) → count p (x ++ y) ≡ count p x + count p y
@@ -27,22 +27,22 @@ pub same-length : {A : Type 0} (x y : List A) → Same x y → length x ≡ leng
 same-length x y s = sym (count-all x) ∙ s (λ a. true) ∙ count-all y
 
 -- the deciding rule does not depend on the order of the bag
-pub holds-same : (c p e : ℕ) (x y : Bag) (k : Rule) → Same x y → holds c p e x k ≡ holds c p e y k
+pub holds-same : (r : RangeReading) (c p e : ℕ) (x y : Bag) (k : Rule) → Same x y → holds r c p e x k ≡ holds r c p e y k
 unfolding holds
-holds-same c p e x y k s = rw (s (meets k))
+holds-same r c p e x y k s = rw (s (meets k))
 
 -- a rule that holds for a component names it
-pub holds-component : (c p e : ℕ) (x : Bag) (k : Rule) → holds c p e x k ≡ true → k .component ≡ c
+pub holds-component : (r : RangeReading) (c p e : ℕ) (x : Bag) (k : Rule) → holds r c p e x k ≡ true → k .component ≡ c
 unfolding holds
-holds-component c p e x k f =
+holds-component r c p e x k f =
     let a = eqb (k .component) c in
     let b = a && eqb (k .phase) p in
-    eqb-true (k .component) c (and-left a _ (and-left b _ (and-left (b && withinElapsed k e) _ f)))
+    eqb-true (k .component) c (and-left a _ (and-left b _ (and-left (b && withinElapsed r k e) _ f)))
 
-pub deciding-same : (c p e at : ℕ) (x y : Bag) (ks : List Rule) → Same x y → deciding (holds c p e x) at ks ≡ deciding (holds c p e y) at ks
+pub deciding-same : (r : RangeReading) (c p e at : ℕ) (x y : Bag) (ks : List Rule) → Same x y → deciding (holds r c p e x) at ks ≡ deciding (holds r c p e y) at ks
 unfolding deciding
-deciding-same c p e at x y [] s = refl
-deciding-same c p e at x y (k ∷ ks) s = rw (holds-same c p e x y k s, deciding-same c p e (suc at) x y ks s)
+deciding-same r c p e at x y [] s = refl
+deciding-same r c p e at x y (k ∷ ks) s = rw (holds-same r c p e x y k s, deciding-same r c p e (suc at) x y ks s)
 
 -- ---- the same bag is the same list in another order
 

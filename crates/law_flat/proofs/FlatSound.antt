@@ -11,10 +11,10 @@ use lib.ListN.{length, getD, length-map}
 use borrow.Author.Tests.{lt-ltb, eqb-false, ne-eqb}
 use Rattle.definition.specs.Lists.{all, rises}
 use Rattle.definition.specs.Limits.{maxCouplings, maxRoutes, maxPhases, maxRules}
-use Rattle.definition.specs.Model.{Component, Coupling, Rule, Model, isAtomic, atomics, isChild, isSibling, couplingLe, noRule, noCoupling}
+use Rattle.definition.specs.Model.{Component, Coupling, Rule, RangeReading, inclusive, halfOpen, Model, isAtomic, atomics, isChild, isSibling, couplingLe, noRule, noCoupling}
 use Rattle.definition.specs.Records.{phaseBytes, ruleBytes, couplingBytes}
 use Rattle.definition.specs.Routes.{routes}
-use Rattle.definition.specs.Pinned.Decoder.{ruleFits, couplingFits, toPhase, phaseFits, toRule, ruleFields, toCoupling, couplingFields, related, notFalling}
+use Rattle.definition.specs.Pinned.Decoder.{ruleFits, couplingFits, toPhase, phaseFits, toRule, ruleFields, toCoupling, couplingFields, related, notFalling, elapsedFits}
 use Rattle.definition.specs.Flatten.{placeIn, renumbered, flatComponents, flatRule, flatRoute, flat}
 use Rattle.definition.specs.Bytes.{numberAt, littleEndian, bytesOf, laidOut}
 use Rattle.law_base.proofs.Sorting.{rises-sort, coupling-order}
@@ -88,6 +88,12 @@ module _ (m : Model) (w : WellFormed m) where
       go true e false f = absurd (clash (rw (e, f) at h) refl)
       go true e true f =
           rw (lt-ltb _ _ (new-low m w (k .component) (listed-atomic (m .components) (k .component) f)), flat-kind m w (k .component) f, flat-phases m w (k .component) f) (rw (e, f) at h)
+
+  -- renumbering keeps a rule's elapsed range
+  elapsed-kept : (r : RangeReading) (k : Rule) → elapsedFits r k ≡ true → elapsedFits r (flatRule (m .components) k) ≡ true
+  unfolding elapsedFits flatRule
+  elapsed-kept inclusive k h = h
+  elapsed-kept halfOpen k h = h
 
   rules-checked : Checked maxRules toRule ruleBytes (ruleFits (flatComponents (m .components))) (map (flatRule (m .components)) (m .rules))
   unfolding ruleFits
@@ -176,4 +182,5 @@ module _ (m : Model) (w : WellFormed m) where
     phases = phases-checked;
     rules = rules-checked;
     couplings = couplings-checked few;
+    ranges = all-map (elapsedFits (m .ranges)) (flatRule cs) (m .rules) ∙ all-if (elapsedFits (m .ranges)) (λ k. elapsedFits (m .ranges) (flatRule cs k)) (m .rules) (elapsed-kept (m .ranges)) (w .ranges);
   }

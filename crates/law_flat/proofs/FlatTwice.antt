@@ -120,4 +120,4 @@ module _ (m : Model) (a : Accepted m) where
   flat-twice =
       let rules : map (flatRule (flatComponents (m .components))) (map (flatRule (m .components)) (m .rules)) ≡ map (flatRule (m .components)) (m .rules)
       = map-map _ _ (m .rules) ∙ ap (λ (f : Rule → Rule). map f (m .rules)) (fun-ext again-rule) in
-      λ i. record { components = again-components i; phases = m .phases; rules = rules i; couplings = again-couplings i }
+      λ i. record { components = again-components i; phases = m .phases; rules = rules i; couplings = again-couplings i; ranges = m .ranges }

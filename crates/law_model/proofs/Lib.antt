@@ -5,6 +5,7 @@ pub mod Rows
 pub mod Spellings
 pub mod WellFormed
 pub mod Sections
+pub mod Further
 pub mod Reading
 pub mod Writing
 pub mod Refusals

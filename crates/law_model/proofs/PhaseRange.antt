@@ -105,15 +105,15 @@ module _ (m : Model) (w : WellFormed m) (c : ℕ) where
 
   -- the rules `ks` behind others
   led-own : (p e : ℕ) (x : Bag) (before ks : List Rule) → all (ruleFields (m .components)) ks ≡ true → Own p
-      → Own (ledTo (before ++ ks) p (deciding (holds c p e x) (length before) ks))
+      → Own (ledTo (before ++ ks) p (deciding (holds (m .ranges) c p e x) (length before) ks))
   unfolding deciding ledTo all
   led-own p e x before [] h o = o
-  led-own p e x before (k ∷ ks) h o = go (holds c p e x k) refl (led-own p e x (before ++ (k ∷ [])) ks (and-right (ruleFields (m .components) k) _ h) o)
+  led-own p e x before (k ∷ ks) h o = go (holds (m .ranges) c p e x k) refl (led-own p e x (before ++ (k ∷ [])) ks (and-right (ruleFields (m .components) k) _ h) o)
     where
-      go : (b : Bool) → holds c p e x k ≡ b
-          → Own (ledTo ((before ++ (k ∷ [])) ++ ks) p (deciding (holds c p e x) (length (before ++ (k ∷ []))) ks))
-          → Own (ledTo (before ++ (k ∷ ks)) p (cond (holds c p e x k) (some (length before)) (deciding (holds c p e x) (suc (length before)) ks)))
-      go true f ih = rw f (subst (λ (r : Rule). Own (r .next)) (sym (getD-append-seam before k ks noRule)) (rule-own k (and-left (ruleFields (m .components) k) _ h) (holds-component c p e x k f)))
+      go : (b : Bool) → holds (m .ranges) c p e x k ≡ b
+          → Own (ledTo ((before ++ (k ∷ [])) ++ ks) p (deciding (holds (m .ranges) c p e x) (length (before ++ (k ∷ []))) ks))
+          → Own (ledTo (before ++ (k ∷ ks)) p (cond (holds (m .ranges) c p e x k) (some (length before)) (deciding (holds (m .ranges) c p e x) (suc (length before)) ks)))
+      go true f ih = rw f (subst (λ (r : Rule). Own (r .next)) (sym (getD-append-seam before k ks noRule)) (rule-own k (and-left (ruleFields (m .components) k) _ h) (holds-component (m .ranges) c p e x k f)))
       go false f ih =
           let n : length (before ++ (k ∷ [])) ≡ suc (length before) = length-append before (k ∷ []) ∙ omega arith in
           rw (f, ← n, ← append-snoc before k ks) ih

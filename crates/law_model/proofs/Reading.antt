@@ -13,11 +13,12 @@ use Rattle.definition.specs.Model.{Model}
 use Rattle.definition.specs.Records.{componentBytes, phaseBytes, ruleBytes, couplingBytes}
 use Rattle.definition.specs.File.{phaseTotal}
 use Rattle.definition.specs.Routes.{routes}
-use Rattle.definition.specs.Pinned.Decoder.{toComponent, componentFits, toPhase, phaseFits, toRule, ruleFits, toCoupling, couplingFits, componentCountRefusal, phaseCountRefusal, limitRefusal, componentSection, phaseSection, ruleSection, couplingSection, endOfFile, decode, accepted}
+use Rattle.definition.specs.Pinned.Decoder.{toComponent, componentFits, toPhase, phaseFits, toRule, ruleFits, toCoupling, couplingFits, componentCountRefusal, phaseCountRefusal, limitRefusal, componentSection, phaseSection, ruleSection, couplingSection, furtherSections, decode, accepted}
 use Rattle.law_model.proofs.Layouts.{record-kept}
 use Rattle.law_model.proofs.Spellings.{component-spelled, phase-spelled, rule-spelled, coupling-spelled}
 use Rattle.law_model.proofs.WellFormed.{WellFormed, Accepted}
 use Rattle.law_model.proofs.Sections.{section-given}
+use Rattle.law_model.proofs.Further.{further-given}
 use Rattle.law_base.proofs.Results.{ok-same, bind-ok, refuse-ok}
 
 -- ---- a record read of bytes is kept by its bytes
@@ -73,20 +74,20 @@ phases-right total n e = go (ltb maxPhases n) refl (eqb n total) refl
 -- ---- the file
 
 decode-sound : (s : Bytes) (m : Model) → AllBytes s → decode s ≡ ok m → WellFormed m
-unfolding decode componentSection phaseSection ruleSection couplingSection endOfFile
+unfolding decode componentSection phaseSection ruleSection couplingSection
 decode-sound s m h e =
     let A = bind-ok (componentSection s) _ m e in
     let cs = A .0 .records in
     let total = phaseTotal cs in
     let B = bind-ok (phaseSection cs (A .0 .rest)) _ m (A .2) in
     let C = bind-ok (ruleSection cs (B .0 .rest)) _ m (B .2) in
-    let D = bind-ok (couplingSection cs (C .0 .rest)) (λ d. endOfFile (d .rest) >>= λ _. ok (record { components = cs; phases = B .0 .records; rules = C .0 .records; couplings = d .records })) m (C .2) in
-    let E = refuse-ok (ltb 0 (length (D .0 .rest))) 2 _ m (D .2) in
+    let D = bind-ok (couplingSection cs (C .0 .rest)) (λ d. furtherSections (C .0 .records) (d .rest) >>= λ r. ok (record { components = cs; phases = B .0 .records; rules = C .0 .records; couplings = d .records; ranges = r })) m (C .2) in
+    let E = bind-ok (furtherSections (C .0 .records) (D .0 .rest)) _ m (D .2) in
     let a = section-given componentSize componentCountRefusal toComponent componentBytes componentFits 4 maxComponents s (A .0) h components-within component-kept (A .1) in
     let b = section-given phaseSize (phaseCountRefusal total) toPhase phaseBytes (phaseFits cs) 6 maxPhases (A .0 .rest) (B .0) (a .rest-bytes) (λ n r. phases-right total n r .0) phase-kept (B .1) in
     let c = section-given ruleSize (limitRefusal maxRules) toRule ruleBytes (ruleFits cs) 7 maxRules (B .0 .rest) (C .0) (b .rest-bytes) (most-within maxRules) rule-kept (C .1) in
     let d = section-given couplingSize (limitRefusal maxCouplings) toCoupling couplingBytes (couplingFits cs) 8 maxCouplings (C .0 .rest) (D .0) (c .rest-bytes) (most-within maxCouplings) coupling-kept (D .1) in
-    subst WellFormed (ok-same _ m (E .1))
+    subst WellFormed (ok-same _ m (E .2))
     (record {
       some-component = components-some (length cs) (a .right);
       components = a .checked;
@@ -94,6 +95,7 @@ decode-sound s m h e =
       phases = b .checked;
       rules = c .checked;
       couplings = d .checked;
+      ranges = further-given (C .0 .records) (D .0 .rest) (E .0) (E .1);
     })
 
 pub accepted-sound : (file : Bytes) (m : Model) → AllBytes file → accepted file ≡ ok m → Accepted m

@@ -1,7 +1,7 @@
 -- No refusal of a model file has the number 0, so that the number alone tells whether a file was accepted. Assumes nothing.
 use mathlib.Core.Path.{_≡_, refl}
 use Prim.Native.Nat.{ℕ, _+_, _*_, _<_}
-use mathlib.Core.List.{List, map}
+use mathlib.Core.List.{List, [], _∷_, map}
 use mathlib.Core.Bool.{Bool, true, false, not}
 use native.Mathlib.Omega.{arith}
 use lib.Dec.{ltb}
@@ -10,9 +10,10 @@ use borrow.Author.Tests.{ltb-true}
 use Rattle.definition.specs.Lists.{all, upFrom}
 use Rattle.definition.specs.Bytes.{Bytes, Result, ok, refused, _>>=_, refuseIf, numberAt, chunks}
 use Rattle.definition.specs.Limits.{countSize, maxRules, maxCouplings, maxRoutes, componentSize, phaseSize, ruleSize, couplingSize}
+use Rattle.definition.specs.Model.{Rule}
 use Rattle.definition.specs.File.{phaseTotal}
 use Rattle.definition.specs.Routes.{routes}
-use Rattle.definition.specs.Pinned.Decoder.{toComponent, componentFits, toPhase, phaseFits, toRule, ruleFits, toCoupling, couplingFits, sectionCount, section, componentCountRefusal, phaseCountRefusal, limitRefusal, componentSection, phaseSection, ruleSection, couplingSection, endOfFile, decode, accepted}
+use Rattle.definition.specs.Pinned.Decoder.{toComponent, componentFits, toPhase, phaseFits, toRule, ruleFits, toCoupling, couplingFits, sectionCount, section, componentCountRefusal, phaseCountRefusal, limitRefusal, componentSection, phaseSection, ruleSection, couplingSection, isFifth, fifthSection, elapsedFits, endOfFile, furtherSections, decode, accepted}
 
 abbrev pub Positive : {A : Type 0} → Result A → Type 0
 Positive (ok a) = Unit {0}
@@ -38,15 +39,26 @@ section-positive size wrong to fits bad h s = positive-bind (sectionCount size w
         (positive-if (ltb 0 (wrong n)) (wrong n) _ (λ e. ltb-true 0 (wrong n) e)
         (positive-if (ltb (length s) (countSize + n * size)) 1 _ (λ e. omega arith) tt)))
 
+fifth-positive : (s : Bytes) → Positive (fifthSection s)
+unfolding fifthSection
+fifth-positive [] = tt
+fifth-positive (b ∷ s) = positive-if (not (isFifth (b ∷ s))) 20 _ (λ e. omega arith) tt
+
+further-positive : (rs : List Rule) (s : Bytes) → Positive (furtherSections rs s)
+unfolding furtherSections endOfFile
+further-positive rs s =
+    positive-bind (fifthSection s) _ (fifth-positive s)
+    (λ e. positive-if (not (all (elapsedFits (e .ranges)) rs)) 7 _ (λ t. omega arith) (positive-if (ltb 0 (length (e .rest))) 2 _ (λ t. omega arith) tt))
+
 decode-positive : (s : Bytes) → Positive (decode s)
-unfolding decode componentSection phaseSection ruleSection couplingSection endOfFile
+unfolding decode componentSection phaseSection ruleSection couplingSection
 decode-positive s =
     positive-bind (componentSection s) _ (section-positive componentSize componentCountRefusal toComponent componentFits 4 (omega arith) s)
     (λ a. let cs = a .records in
     positive-bind (phaseSection cs (a .rest)) _ (section-positive phaseSize (phaseCountRefusal (phaseTotal cs)) toPhase (phaseFits cs) 6 (omega arith) (a .rest))
     (λ b. positive-bind (ruleSection cs (b .rest)) _ (section-positive ruleSize (limitRefusal maxRules) toRule (ruleFits cs) 7 (omega arith) (b .rest))
     (λ c. positive-bind (couplingSection cs (c .rest)) _ (section-positive couplingSize (limitRefusal maxCouplings) toCoupling (couplingFits cs) 8 (omega arith) (c .rest))
-    (λ d. positive-if (ltb 0 (length (d .rest))) 2 _ (λ e. omega arith) tt))))
+    (λ d. positive-bind (furtherSections (c .records) (d .rest)) _ (further-positive (c .records) (d .rest)) (λ r. tt)))))
 
 pub accepted-positive : (s : Bytes) → Positive (accepted s)
 unfolding accepted

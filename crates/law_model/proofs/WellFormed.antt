@@ -14,7 +14,7 @@ use Rattle.definition.specs.Model.{Component, Model, noRule, noCoupling, Coupli
 use Rattle.definition.specs.Records.{componentBytes, phaseBytes, ruleBytes, couplingBytes}
 use Rattle.definition.specs.File.{phaseTotal}
 use Rattle.definition.specs.Routes.{routes}
-use Rattle.definition.specs.Pinned.Decoder.{toComponent, componentFits, toPhase, phaseFits, toRule, ruleFields, ruleFits, toCoupling, couplingFields, couplingFits, related}
+use Rattle.definition.specs.Pinned.Decoder.{toComponent, componentFits, toPhase, phaseFits, toRule, ruleFields, ruleFits, toCoupling, couplingFields, couplingFits, elapsedFits, related}
 use Rattle.law_base.proofs.Tests.{and-left, and-right}
 use Rattle.law_base.proofs.Lists.{all-places}
 
@@ -31,6 +31,7 @@ pub record WellFormed (m : Model) : Type 0 where
   pub phases : Checked maxPhases toPhase phaseBytes (phaseFits (m .components)) (m .phases)
   pub rules : Checked maxRules toRule ruleBytes (ruleFits (m .components)) (m .rules)
   pub couplings : Checked maxCouplings toCoupling couplingBytes (couplingFits (m .components)) (m .couplings)
+  pub ranges : all (elapsedFits (m .ranges)) (m .rules) ≡ true
 
 -- What acceptance gives: soundness, and few routes.
 pub record Accepted (m : Model) : Type 0 where

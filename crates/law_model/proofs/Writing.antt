@@ -2,7 +2,7 @@
 -- Assumes nothing.
 use mathlib.Core.Path.{_≡_, refl}
 use Prim.Native.Nat.{ℕ, _+_, _*_, _≤_, _<_}
-use mathlib.Core.List.{List, [], _++_, map, append-assoc, append-nil}
+use mathlib.Core.List.{List, _++_, map, append-assoc}
 use native.Mathlib.Omega.{arith}
 use lib.ListN.{length, length-append}
 use borrow.Author.Tests.{le-ltb, eq-eqb, ne-eqb}
@@ -11,11 +11,12 @@ use Rattle.definition.specs.Bytes.{Bytes, ok, bytesOf, laidOut}
 use Rattle.definition.specs.Limits.{maxComponents, maxPhases, maxRules, maxCouplings, countSize, componentSize, phaseSize, ruleSize, couplingSize}
 use Rattle.definition.specs.Model.{Component, Phase, Rule, Coupling, Model, slots}
 use Rattle.definition.specs.Records.{componentBytes, phaseBytes, ruleBytes, couplingBytes}
-use Rattle.definition.specs.File.{phaseTotal, sectionBytes, modelBytes}
-use Rattle.definition.specs.Pinned.Decoder.{toComponent, componentFits, toPhase, phaseFits, toRule, ruleFits, toCoupling, couplingFits, componentCountRefusal, phaseCountRefusal, limitRefusal, componentSection, phaseSection, ruleSection, couplingSection, endOfFile, decode}
+use Rattle.definition.specs.File.{phaseTotal, sectionBytes, rangesBytes, modelBytes}
+use Rattle.definition.specs.Pinned.Decoder.{toComponent, componentFits, toPhase, phaseFits, toRule, ruleFits, toCoupling, couplingFits, componentCountRefusal, phaseCountRefusal, limitRefusal, componentSection, phaseSection, ruleSection, couplingSection, decode}
 use Rattle.law_model.proofs.Codec.{length-bytes, rows-length}
 use Rattle.law_model.proofs.WellFormed.{WellFormed}
 use Rattle.law_model.proofs.Sections.{section-back}
+use Rattle.law_model.proofs.Further.{further-back}
 
 -- ---- sizes
 
@@ -84,10 +85,10 @@ module _ (m : Model) (w : WellFormed m) (rest : Bytes) where
       (m .couplings) rest (most-right maxCouplings (length (m .couplings)) (w .couplings .few)) (w .couplings)
 
 pub decode-back : (m : Model) → WellFormed m → decode (modelBytes m) ≡ ok m
-unfolding decode modelBytes endOfFile
+unfolding decode modelBytes
 decode-back m w =
-    let d = sectionBytes couplingBytes (m .couplings) ++ [] in
+    let d = sectionBytes couplingBytes (m .couplings) ++ rangesBytes (m .ranges) in
     let c = sectionBytes ruleBytes (m .rules) ++ d in
     let b = sectionBytes phaseBytes (m .phases) ++ c in
-    let shape : modelBytes m ≡ sectionBytes componentBytes (m .components) ++ b = simp (append-assoc, append-nil) in
-    rw (shape, components-back m w b, phases-back m w c, rules-back m w d, couplings-back m w [])
+    let shape : modelBytes m ≡ sectionBytes componentBytes (m .components) ++ b = simp append-assoc in
+    rw (shape, components-back m w b, phases-back m w c, rules-back m w d, couplings-back m w (rangesBytes (m .ranges)), further-back (m .rules) (m .ranges) (w .ranges))

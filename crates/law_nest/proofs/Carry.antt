@@ -74,7 +74,7 @@ sends m at now s = cond (due m at now (leaf s)) (outs m at now s) []
 -- What the routes carry of what is sent and of what is given, for any phases in the place of the model's own.
 module _ (m : Model) (w : WellFormed m) (ps : List Phase) (a : ℕ) (weigh : Message → ℕ) where
   abbrev phased : Model
-  phased = record { components = m .components; phases = ps; rules = m .rules; couplings = m .couplings }
+  phased = record { components = m .components; phases = ps; rules = m .rules; couplings = m .couplings; ranges = m .ranges }
 
   pub ways-carry : (at : ℕ → Entry) (now : ℕ) → ((s : ℕ) → isAtomic (m .components) s ≡ true → all portFits (outs phased at now s) ≡ true)
       → waysSum phased at now a weigh rootEnds (root m) ≡ sumOf (λ s. sumOf (carry m a weigh s) (sends phased at now s)) (atomics (m .components))

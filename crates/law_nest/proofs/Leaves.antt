@@ -28,7 +28,7 @@ use Rattle.law_nest.proofs.AnySplit.{On, OnAll}
 
 rule-same : (m : Model) (c : ℕ) (x y : Bag) → Same x y → (p e : ℕ) → ruleFor m c p e x ≡ ruleFor m c p e y
 unfolding ruleFor
-rule-same m c x y s p e = deciding-same c p e 0 x y (m .rules) s
+rule-same m c x y s p e = deciding-same (m .ranges) c p e 0 x y (m .rules) s
 
 part-same : (m : Model) (c : ℕ) (x y : Bag) → Same x y → (p e : ℕ) → externalPart m c p e x ≡ externalPart m c p e y
 unfolding externalPart

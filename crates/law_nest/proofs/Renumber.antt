@@ -156,7 +156,7 @@ module _ (m : Model) (w : WellFormed m) (c : ℕ) (e : isAtomic (m .components) 
   flat-phase p = ap (λ n. getD (m .phases) (n + p) noPhase) (flat-before (m .components) (w .components .fit) (w .some-component) c e)
 
   flat-deciding : (p t : ℕ) (x : Bag) (at : ℕ) (ks : List Rule)
-      → deciding (holds (renumbered (m .components) c) p t x) at (map (flatRule (m .components)) ks) ≡ deciding (holds c p t x) at ks
+      → deciding (holds (m .ranges) (renumbered (m .components) c) p t x) at (map (flatRule (m .components)) ks) ≡ deciding (holds (m .ranges) c p t x) at ks
   unfolding deciding holds withinElapsed meets flatRule
   flat-deciding p t x at [] = refl
   flat-deciding p t x at (k ∷ ks) =

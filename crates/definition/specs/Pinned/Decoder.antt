@@ -1,14 +1,14 @@
 -- The model file read: a decoder that computes, in the order of the table of refusals. What it answers is pinned by demand 1: its number is
 -- that of the relation `Judged`, and it accepts the sound models by their bytes and nothing else. Assumes nothing.
 use Prim.Native.Nat.{ℕ, zero, suc, _+_, _*_}
-use mathlib.Core.List.{List, map}
+use mathlib.Core.List.{List, [], _∷_, map}
 use mathlib.Core.Bool.{Bool, true, false, _&&_, _||_, not, cond}
 use lib.Dec.{leb, ltb, eqb}
 use lib.ListN.{length, drop, getD, replicate}
 use Rattle.definition.specs.Lists.{concat, all, upFrom, rises}
 use Rattle.definition.specs.Bytes.{Bytes, Result, ok, _>>=_, refuseIf, numberOf, numberAt, chunks}
-use Rattle.definition.specs.Limits.{maxComponents, maxAncestors, maxOwnPhases, maxPhases, maxOutputs, maxRules, maxCouplings, maxRoutes, portCount, maxAdvance, neverField, countSize, componentSize, phaseSize, ruleSize, couplingSize}
-use Rattle.definition.specs.Model.{Component, Phase, Rule, Coupling, Model, noPhase, noRule, noCoupling, componentAt, isAtomic, isChild, isSibling, slots, outputs, messageLe, couplingLe}
+use Rattle.definition.specs.Limits.{maxComponents, maxAncestors, maxOwnPhases, maxPhases, maxOutputs, maxRules, maxCouplings, maxRoutes, portCount, maxAdvance, neverField, halfOpenByte, countSize, componentSize, phaseSize, ruleSize, couplingSize, fifthSize}
+use Rattle.definition.specs.Model.{Component, Phase, Rule, Coupling, RangeReading, inclusive, halfOpen, Model, noPhase, noRule, noCoupling, componentAt, isAtomic, isChild, isSibling, slots, outputs, messageLe, couplingLe}
 use Rattle.definition.specs.Records.{messageAt, portFits}
 use Rattle.definition.specs.File.{phaseTotal}
 use Rattle.definition.specs.Routes.{routes}
@@ -170,7 +170,7 @@ phaseCountRefusal total n = orElse (ltb maxPhases n) 3 (orElse (not (eqb n total
 unfoldable pub limitRefusal : ℕ → ℕ → ℕ
 limitRefusal limit n = orElse (ltb limit n) 3 0
 
--- ---- the four sections and the end of the file
+-- ---- the four sections
 
 unfoldable pub componentSection : Bytes → Result (Section Component)
 componentSection s = section componentSize componentCountRefusal toComponent componentFits 4 s
@@ -184,9 +184,40 @@ ruleSection cs s = section ruleSize (limitRefusal maxRules) toRule (ruleFits cs)
 unfoldable pub couplingSection : List Component → Bytes → Result (Section Coupling)
 couplingSection cs s = section couplingSize (limitRefusal maxCouplings) toCoupling (couplingFits cs) 8 s
 
+-- ---- what follows them, and the end of the file
+
+-- How ranges are read, and the rest of the file.
+pub record RangesTold : Type 0 where
+  pub ranges : RangeReading
+  pub rest : Bytes
+
+-- "a fifth section: count 1, then the byte 2", at the front of the bytes
+unfoldable pub isFifth : Bytes → Bool
+isFifth s = leb fifthSize (length s) && eqb (numberAt countSize 0 s) 1 && eqb (numberAt 1 countSize s) halfOpenByte
+
+-- "20, and not 1 or 3, when bytes follow the couplings and are not such a section"
+unfoldable pub fifthSection : Bytes → Result RangesTold
+fifthSection [] = ok (record { ranges = inclusive; rest = [] })
+fifthSection (b ∷ s) = do
+  _ ← refuseIf (not (isFifth (b ∷ s))) 20
+  ok (record { ranges = halfOpen; rest = drop fifthSize (b ∷ s) })
+
+-- "In such a model low elapsed must be below high elapsed"
+unfoldable pub elapsedFits : RangeReading → Rule → Bool
+elapsedFits inclusive k = true
+elapsedFits halfOpen k = ltb (k .lowElapsed) (k .highElapsed)
+
 -- "2 bytes left over"
 unfoldable pub endOfFile : Bytes → Result (Unit {0})
 endOfFile s = refuseIf (ltb 0 (length s)) 2
+
+-- "Equal elapsed ends are refused by 7 once the fifth section has been read"; "2 remains for bytes after it."
+unfoldable pub furtherSections : List Rule → Bytes → Result RangeReading
+furtherSections rs s = do
+  e ← fifthSection s
+  _ ← refuseIf (not (all (elapsedFits (e .ranges)) rs)) 7
+  _ ← endOfFile (e .rest)
+  ok (e .ranges)
 
 -- "Each section is read from where the one before it ended."
 unfoldable pub decode : Bytes → Result Model
@@ -195,12 +226,12 @@ decode s = do
   b ← phaseSection (a .records) (a .rest)
   c ← ruleSection (a .records) (b .rest)
   d ← couplingSection (a .records) (c .rest)
-  _ ← endOfFile (d .rest)
-  ok (record { components = a .records; phases = b .records; rules = c .records; couplings = d .records })
+  r ← furtherSections (c .records) (d .rest)
+  ok (record { components = a .records; phases = b .records; rules = c .records; couplings = d .records; ranges = r })
 
 -- ---- acceptance
 
--- "A model is accepted when no number of the table down to routes .. applies to its bytes": 1 to 8 and 2, then 9.
+-- "A model is accepted when no number of the table down to routes .. applies to its bytes": 1 to 8, 20, 7 and 2, then 9.
 unfoldable pub accepted : Bytes → Result Model
 accepted file = do
   m ← decode file

@@ -1,0 +1,63 @@
+-- What follows the couplings: the bytes of a fifth section are read to the reading that they stand for, and what was read is spelled by them.
+-- Assumes nothing.
+use mathlib.Core.Path.{_≡_, refl, subst}
+use Prim.Native.Nat.{ℕ, _+_, _*_}
+use mathlib.Core.List.{List, [], _∷_, _++_}
+use mathlib.Core.Bool.{Bool, true, false, _&&_, not}
+use native.Mathlib.Omega.{arith}
+use lib.Dec.{leb, ltb, eqb}
+use lib.ListN.{length, drop}
+use borrow.Author.Tests.{ltb-true, eqb-true, le-leb}
+use Rattle.definition.specs.Lists.{all, concat}
+use Rattle.definition.specs.Bytes.{Bytes, AllBytes, more, ok, numberAt, littleEndian, bytesOf}
+use Rattle.definition.specs.Limits.{halfOpenByte, countSize, fifthSize}
+use Rattle.definition.specs.Model.{Rule, RangeReading, inclusive, halfOpen}
+use Rattle.definition.specs.File.{sectionBytes, rangesBytes}
+use Rattle.definition.specs.Pinned.Decoder.{isFifth, fifthSection, elapsedFits, endOfFile, furtherSections}
+use Rattle.law_base.proofs.Results.{bind-ok, refuse-ok, ok-same}
+use Rattle.law_base.proofs.Tests.{clash, and-left, and-right}
+
+not-failed : (b : Bool) → not b ≡ false → b ≡ true
+not-failed true e = refl
+not-failed false e = absurd (clash refl e)
+
+-- ---- the section by itself
+
+pub fifth-read : (rest : Bytes) → fifthSection (rangesBytes halfOpen ++ rest) ≡ ok (record { ranges = halfOpen; rest = rest })
+unfolding fifthSection isFifth rangesBytes sectionBytes bytesOf numberAt littleEndian concat
+fifth-read rest = rw (le-leb fifthSize (length (1 ∷ 0 ∷ 2 ∷ rest)) (omega arith))
+
+fifth-back : (r : RangeReading) → fifthSection (rangesBytes r) ≡ ok (record { ranges = r; rest = [] })
+unfolding fifthSection rangesBytes sectionBytes bytesOf concat
+fifth-back inclusive = refl
+fifth-back halfOpen = fifth-read []
+
+-- "count 1, then the byte 2": bytes that say so are no others.
+pub fifth-spelled : (s : Bytes) → AllBytes s → isFifth s ≡ true → s ≡ rangesBytes halfOpen ++ drop fifthSize s
+unfolding isFifth rangesBytes sectionBytes bytesOf numberAt littleEndian concat
+fifth-spelled [] h e = absurd (clash e refl)
+fifth-spelled (a ∷ []) h e = absurd (clash e refl)
+fifth-spelled (a ∷ b ∷ []) h e = absurd (clash e refl)
+fifth-spelled (a ∷ b ∷ c ∷ s) (more p (more q (more r h))) e =
+    let s = a ∷ b ∷ c ∷ s in
+    let counted = and-left (leb fifthSize (length s) && eqb (numberAt countSize 0 s) 1) _ e in
+    let first : a + 256 * (b + 256 * 0) ≡ 1 = eqb-true _ 1 (and-right (leb fifthSize (length s)) _ counted) in
+    let third : c + 256 * 0 ≡ halfOpenByte = eqb-true _ halfOpenByte (and-right (leb fifthSize (length s) && eqb (numberAt countSize 0 s) 1) _ e) in
+    let x : a ≡ 1 = omega (arith, ltb-true a 256 p, ltb-true b 256 q) in
+    let y : b ≡ 0 = omega (arith, ltb-true a 256 p, ltb-true b 256 q) in
+    let z : c ≡ 2 = omega arith in
+    rw (x, y, z)
+
+-- ---- with the test of equal ends, and the end of the file
+
+pub further-back : (rs : List Rule) (r : RangeReading) → all (elapsedFits r) rs ≡ true → furtherSections rs (rangesBytes r) ≡ ok r
+unfolding furtherSections endOfFile
+further-back rs r e = rw (fifth-back r, e)
+
+pub further-given : (rs : List Rule) (s : Bytes) (r : RangeReading) → furtherSections rs s ≡ ok r → all (elapsedFits r) rs ≡ true
+unfolding furtherSections endOfFile
+further-given rs s r e =
+    let a = bind-ok (fifthSection s) _ r e in
+    let b = refuse-ok (not (all (elapsedFits (a .0 .ranges)) rs)) 7 _ r (a .2) in
+    let c = refuse-ok (ltb 0 (length (a .0 .rest))) 2 _ r (b .1) in
+    subst (λ (q : RangeReading). all (elapsedFits q) rs ≡ true) (ok-same (a .0 .ranges) r (c .1)) (not-failed (all (elapsedFits (a .0 .ranges)) rs) (b .0))
