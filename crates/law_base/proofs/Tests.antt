@@ -1,7 +1,7 @@
 -- What a test that passed or failed says of its parts, and tests that agree: what every law over Booleans uses. Assumes nothing.
 use mathlib.Core.Path.{_≡_, refl, sym, _∙_}
 use Prim.Native.Nat.{ℕ}
-use mathlib.Core.Bool.{Bool, true, false, _&&_, _||_, false≢true}
+use mathlib.Core.Bool.{Bool, true, false, _&&_, _||_, not, false≢true}
 use lib.Dec.{eqb}
 use borrow.Author.Tests.{eqb-true, eqb-false, eq-eqb, ne-eqb}
 
@@ -12,6 +12,15 @@ clash e f = false≢true (sym f ∙ e)
 pub refuted : (b : Bool) → (b ≡ true → ⊥) → b ≡ false
 refuted true h = absurd (h refl)
 refuted false h = refl
+
+-- what the opposite of a test says
+pub not-passed : (b : Bool) → not b ≡ true → b ≡ false
+not-passed true h = absurd (clash h refl)
+not-passed false h = refl
+
+pub not-failed : (b : Bool) → not b ≡ false → b ≡ true
+not-failed true h = refl
+not-failed false h = absurd (clash refl h)
 
 pub and-left : (a b : Bool) → a && b ≡ true → a ≡ true
 and-left true b h = refl

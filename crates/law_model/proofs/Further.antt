@@ -3,7 +3,7 @@
 use mathlib.Core.Path.{_≡_, refl, subst}
 use Prim.Native.Nat.{ℕ, _+_, _*_}
 use mathlib.Core.List.{List, [], _∷_, _++_}
-use mathlib.Core.Bool.{Bool, true, false, _&&_, not}
+use mathlib.Core.Bool.{true, _&&_, not}
 use native.Mathlib.Omega.{arith}
 use lib.Dec.{leb, ltb, eqb}
 use lib.ListN.{length, drop}
@@ -15,11 +15,7 @@ use Rattle.definition.specs.Model.{Rule, RangeReading, inclusive, halfOpen}
 use Rattle.definition.specs.File.{sectionBytes, rangesBytes}
 use Rattle.definition.specs.Pinned.Decoder.{isFifth, fifthSection, elapsedFits, endOfFile, furtherSections}
 use Rattle.law_base.proofs.Results.{bind-ok, refuse-ok, ok-same}
-use Rattle.law_base.proofs.Tests.{clash, and-left, and-right}
-
-not-failed : (b : Bool) → not b ≡ false → b ≡ true
-not-failed true e = refl
-not-failed false e = absurd (clash refl e)
+use Rattle.law_base.proofs.Tests.{clash, not-failed, and-left, and-right}
 
 -- ---- the section by itself
 

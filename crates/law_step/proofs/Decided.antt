@@ -18,6 +18,7 @@ use Rattle.law_base.proofs.Bags.{holds-component}
 use Rattle.law_model.proofs.WellFormed.{WellFormed}
 use Rattle.run_state.specs.declared.State.{State}
 use Rattle.spec_step.specs.TableStep.{firstFrom, decidingIn, leads, phaseOr, ruleIn, phaseIn, decidedIn, confluentIn, confluentRule}
+use Rattle.spec_step.specs.Tables.{rulesFromAt, rulesToAt}
 use Rattle.spec_step.specs.Tabled.{Tabled}
 use Rattle.law_step.proofs.Positions.{phase-is}
 
@@ -93,9 +94,10 @@ module _ (m : Model) (w : WellFormed m) (st : State) (t : List ℕ) (h : Tabled 
   pub rule-is : (p e : ℕ) (x : Bag) → ruleIn t (m .rules) c p e x ≡ ruleFor m c p e x
   unfolding ruleIn ruleFor decidingIn
   rule-is p e x =
-      sym (deciding-first (holds c p e x) 0 (m .rules) (m .rules) (λ j. (let q : j ≡ 0 + j = omega arith in ap (λ i. getD (m .rules) i noRule) q))
-      ∙ window (λ i. holds c p e x (getD (m .rules) i noRule)) (length (m .rules)) _ _ (h .rules-in c l)
-      (λ j s f. let n = holds-component c p e x (getD (m .rules) j noRule) f in (h .rules-from c j l s n, h .rules-to c j l s n)))
+      sym (deciding-first (holds (m .ranges) c p e x) 0 (m .rules) (m .rules) (λ j. (let q : j ≡ 0 + j = omega arith in ap (λ i. getD (m .rules) i noRule) q))
+      ∙ window (λ i. holds (m .ranges) c p e x (getD (m .rules) i noRule)) (length (m .rules)) _ _ (h .rules-in c l)
+      (λ j s f. let n = holds-component (m .ranges) c p e x (getD (m .rules) j noRule) f in (h .rules-from c j l s n, h .rules-to c j l s n))
+      ∙ ap (λ r. decidingIn r (m .rules) (getD t (rulesFromAt + c) 0) (getD t (rulesToAt + c) 0) c p e x) (sym (h .ranges)))
 
   decided-is : (p e : ℕ) (x : Bag) → decidedIn t (m .rules) c p e x ≡ externalPart m c p e x
   unfolding decidedIn externalPart

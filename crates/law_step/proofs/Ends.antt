@@ -80,7 +80,7 @@ module _ (m : Model) (w : WellFormed m) where
 
 module _ (m : Model) (w : WellFormed m) (ps : List Phase) where
   abbrev pub phased : Model
-  phased = record { components = m .components; phases = ps; rules = m .rules; couplings = m .couplings }
+  phased = record { components = m .components; phases = ps; rules = m .rules; couplings = m .couplings; ranges = m .ranges }
 
   module _ (at : ℕ → Entry) (now : ℕ) (ready : (c : ℕ) → c < length (m .components) → Ready phased at now (sub (m .components) c))
       (sent : (q c : ℕ) → all isValue (valuesOn q (outDue phased at now (leaf c))) ≡ true) where

@@ -24,6 +24,9 @@ pub const MAX_ADVANCE: u32 = 1000000000;
 
 pub const NEVER_FIELD: u32 = 4294967295;
 
+// The byte of a fifth section.
+pub const HALF_OPEN_BYTE: u8 = 2;
+
 // ---- widths of counts and records
 pub const COUNT_SIZE: usize = 2;
 
@@ -34,6 +37,8 @@ pub const PHASE_SIZE: usize = 18;
 pub const RULE_SIZE: usize = 18;
 
 pub const COUPLING_SIZE: usize = 4;
+
+pub const FIFTH_SIZE: usize = 3;
 
 // ---- tables by port: a component has four inputs and four outputs, its input port p is node 8 c + p, its output port p node 8 c + 4 + p
 pub const PORT_NODES: usize = 8;
@@ -142,3 +147,5 @@ pub const NOT_A_TRACE: u64 = 17;
 pub const NOT_COLUMNS: u64 = 18;
 
 pub const BAD_FEED: u64 = 19;
+
+pub const BAD_FIFTH_SECTION: u16 = 20;

@@ -1,14 +1,15 @@
 -- Decoding cut at each section: what is still to be read, given the records read so far. Assumes nothing.
 use mathlib.Core.Path.{_≡_, refl, sym, ap, subst, _∙_}
 use mathlib.Core.List.{List}
+use mathlib.Core.Bool.{Bool}
 use Prim.Native.Nat.{ℕ, _≤_, _<_}
 use native.Mathlib.Omega.{arith}
 use lib.ListN.{length}
-use borrow.Author.Tests.{le-ltb}
 use Rattle.definition.specs.Bytes.{Bytes, Result, ok, refused, _>>=_}
 use Rattle.definition.specs.Limits.{maxComponents, componentSize, phaseSize, ruleSize, couplingSize}
 use Rattle.definition.specs.Model.{Component, Phase, Rule, Coupling, Model}
-use Rattle.definition.specs.Pinned.Decoder.{toComponent, componentFits, Section, componentCountRefusal, componentSection, phaseSection, ruleSection, couplingSection, endOfFile, decode}
+use Rattle.definition.specs.Pinned.Decoder.{toComponent, componentFits, Section, componentCountRefusal, componentSection, phaseSection, ruleSection, couplingSection, furtherSections, decode}
+use Rattle.law_base.specs.Ranges.{rangesOf}
 use Rattle.law_bytes.specs.Parts.{recordsIn, partOf, restAfter}
 use Rattle.law_bytes.proofs.Sections.{section-gives}
 use Rattle.law_bytes.proofs.Refusals.{then-ok, then-refused}
@@ -17,11 +18,14 @@ use Rattle.model_sections.specs.Answers.{sectionRead, sectionNumber, AllKnown, 
 use Rattle.model_sections.specs.declared.SectionRead as S
 use Rattle.model_sections.proofs.Bounds.{component-count}
 use Rattle.model_sections.specs.declared.SectionRead.the-variants as SV
+use Rattle.model_further.specs.Told.{furtherRead, furtherNumber}
+use Rattle.model_further.specs.declared.FurtherRead as F
+use Rattle.model_further.specs.declared.FurtherRead.the-variants as FV
 use Rattle.model_file.specs.declared.Counts as N
 use Rattle.model_file.specs.Checked.{modelOf, componentsPart, phasesPart, rulesPart, couplingsPart, afterComponents, afterPhases, afterRules}
 
 unfoldable pub fromEnd : List Component → List Phase → List Rule → List Coupling → Bytes → Result Model
-fromEnd cs ps rs ks s = endOfFile s >>= λ _. ok (record { components = cs; phases = ps; rules = rs; couplings = ks })
+fromEnd cs ps rs ks s = furtherSections rs s >>= λ r. ok (record { components = cs; phases = ps; rules = rs; couplings = ks; ranges = r })
 
 unfoldable pub fromCouplings : List Component → List Phase → List Rule → Bytes → Result Model
 fromCouplings cs ps rs s = couplingSection cs s >>= λ d. fromEnd cs ps rs (d .records) (d .rest)
@@ -59,11 +63,22 @@ module _ {A B : Type 0} (size : ℕ) (to : Bytes → A) (s : Bytes) (f : Section
   pub section-off : read ≡ SV.Refused n → {m : ℕ} → m ≡ sectionNumber read → refused m ≡ all
   section-off h g = sym (before ∙ then-refused f e (ap (sectionRead size to s) h) ∙ ap refused (sym (g ∙ ap sectionNumber h)))
 
--- With nothing left over, the records are those of the file's four parts.
-pub model-is : (file : Bytes) (n : N.Counts) (end : Bytes) {part phases rules couplings : Bytes} → part ≡ partOf componentSize (n .components) file
+-- What follows the couplings is read to a reading, or refused.
+module _ (cs : List Component) (ps : List Phase) (rs : List Rule) (ks : List Coupling) (end : Bytes) {read : F.FurtherRead} (e : furtherRead read ≡ furtherSections rs end) where
+  pub further-on : (b : Bool) → read ≡ FV.HalfOpen b
+      → fromEnd cs ps rs ks end ≡ ok (record { components = cs; phases = ps; rules = rs; couplings = ks; ranges = rangesOf b })
+  unfolding fromEnd
+  further-on b h = then-ok _ e (ap furtherRead h)
+
+  pub further-off : (n : ℕ) → read ≡ FV.Refused n → {m : ℕ} → m ≡ furtherNumber read → refused m ≡ fromEnd cs ps rs ks end
+  unfolding fromEnd
+  further-off n h g = sym (then-refused _ e (ap furtherRead h) ∙ ap refused (sym (g ∙ ap furtherNumber h)))
+
+-- The records are those of the file's four parts.
+pub model-is : (file : Bytes) (n : N.Counts) {part phases rules couplings : Bytes} → part ≡ partOf componentSize (n .components) file
     → phases ≡ restAfter componentSize (n .components) file → rules ≡ restAfter phaseSize (n .phases) phases
-    → couplings ≡ restAfter ruleSize (n .rules) rules → length end ≤ 0
-    → fromEnd (componentsIn part) (phasesIn (partOf phaseSize (n .phases) phases)) (rulesIn (partOf ruleSize (n .rules) rules))
-    (couplingsIn (partOf couplingSize (n .couplings) couplings)) end ≡ ok (modelOf file n)
-unfolding fromEnd endOfFile modelOf modelIn componentsPart phasesPart rulesPart couplingsPart afterComponents afterPhases afterRules
-model-is file n end e f g h l = rw (le-ltb _ _ l, e, h, g, f)
+    → couplings ≡ restAfter ruleSize (n .rules) rules
+    → _≡_ {A = Model} (record { components = componentsIn part; phases = phasesIn (partOf phaseSize (n .phases) phases); rules = rulesIn (partOf ruleSize (n .rules) rules);
+    couplings = couplingsIn (partOf couplingSize (n .couplings) couplings); ranges = rangesOf (n .«half_open») }) (modelOf file n)
+unfolding modelOf modelIn componentsPart phasesPart rulesPart couplingsPart afterComponents afterPhases afterRules
+model-is file n e f g h = rw (e, h, g, f)

@@ -1,8 +1,10 @@
--- What the answer of a model's check stands for: the model of the file's four parts, or the number of the refusal. Assumes nothing.
+-- What the answer of a model's check stands for: the model of the file's four parts with its reading of ranges, or the number of the refusal.
+-- Assumes nothing.
 use Prim.Native.Nat.{ℕ}
 use Rattle.definition.specs.Bytes.{Bytes, Result, ok, refused}
 use Rattle.definition.specs.Limits.{componentSize, phaseSize, ruleSize, couplingSize}
 use Rattle.definition.specs.Model.{Model}
+use Rattle.law_base.specs.Ranges.{rangesOf}
 use Rattle.law_bytes.specs.Parts.{partOf, restAfter}
 use Rattle.model_records.specs.Values.{modelIn}
 use Rattle.model_file.specs.declared.Counts as N
@@ -35,7 +37,7 @@ unfoldable pub couplingsPart : Bytes → N.Counts → Bytes
 couplingsPart file n = partOf couplingSize (n .couplings) (afterRules file n)
 
 unfoldable pub modelOf : Bytes → N.Counts → Model
-modelOf file n = modelIn (componentsPart file n) (phasesPart file n) (rulesPart file n) (couplingsPart file n)
+modelOf file n = modelIn (componentsPart file n) (phasesPart file n) (rulesPart file n) (couplingsPart file n) (rangesOf (n .«half_open»))
 
 abbrev pub checkedAs : Bytes → C.Checked → Result Model
 checkedAs file (CV.Accepted n) = ok (modelOf file n)

@@ -1,24 +1,25 @@
-// Reading a model file down to its end, and the parts of an accepted file that later calls read: four slices, one for each section,
-// that hold exactly the records.
+// Reading a model file down to its end, and the parts of an accepted file that later calls read: four slices, one for each of the first four
+// sections, that hold exactly the records.
 ghost use mathlib.Core.Path.{_≡_};
 ghost use Rattle.definition.specs.Pinned.Decoder.{decode};
 ghost use Rattle.model_file.specs.Checked.{componentsPart, phasesPart, rulesPart, couplingsPart, afterComponents, afterPhases, afterRules, checkedAs, checkedNumber};
 use limits::COMPONENT_SIZE;
 use limits::COUPLING_SIZE;
 use limits::MAX_COMPONENTS;
-use limits::MODEL_LEFT_OVER;
 use limits::PHASE_SIZE;
 use limits::RULE_SIZE;
+use model_further::FurtherRead;
 use model_sections::SectionRead;
 use model_sections::section_part;
 use model_sections::section_rest;
 
-// How many records each section has.
+// How many records each of the four sections has, and whether a fifth excludes the high ends of elapsed ranges.
 pub struct Counts {
     pub components: u16,
     pub phases: u16,
     pub rules: u16,
     pub couplings: u16,
+    pub half_open: bool,
 }
 
 pub enum Checked {
@@ -37,7 +38,7 @@ impl Checked {
     }
 }
 
-// The sections in a row, and nothing after them: numbers 1 to 8 and 2.
+// The sections in a row, and nothing after them: numbers 1 to 8, then 20, 7 and 2.
 pub fn decode_model(file: &[u8]) -> Checked
     ensures { λ r. ⌜ checkedAs (now (file .entry)) r ≡ decode (now (file .entry)) ⌝ }
 {
@@ -63,15 +64,18 @@ pub fn decode_model(file: &[u8]) -> Checked
     let SectionRead::Are(couplings) = fourth else {
         return Checked::Refused(fourth.refusal());
     };
-    let end = section_rest(after_rules, couplings, COUPLING_SIZE);
-    if 0 < end.len() {
-        return Checked::Refused(MODEL_LEFT_OVER);
-    }
+    let after_couplings = section_rest(after_rules, couplings, COUPLING_SIZE);
+    let rule_records = section_part(after_phases, rules, RULE_SIZE);
+    let last = model_further::read_further(rule_records, after_couplings);
+    let FurtherRead::HalfOpen(half_open) = last else {
+        return Checked::Refused(last.refusal());
+    };
     Checked::Accepted(Counts {
         components,
         phases,
         rules,
         couplings,
+        half_open,
     })
 }
 

@@ -3,7 +3,7 @@
 use mathlib.Core.List.{List}
 use Rattle.definition.specs.Bytes.{Bytes}
 use Rattle.definition.specs.Limits.{componentSize, phaseSize, ruleSize, couplingSize}
-use Rattle.definition.specs.Model.{Component, Message, Phase, Rule, Coupling, Model}
+use Rattle.definition.specs.Model.{Component, Message, Phase, Rule, Coupling, RangeReading, Model}
 use Rattle.definition.specs.Pinned.Decoder.{toComponent, toPhase, toRule, toCoupling}
 use Rattle.law_bytes.specs.Parts.{recordsIn}
 use Rattle.model_records.specs.declared.Component as C
@@ -61,11 +61,12 @@ rulesIn s = recordsIn ruleSize toRule s
 unfoldable pub couplingsIn : Bytes → List Coupling
 couplingsIn s = recordsIn couplingSize toCoupling s
 
--- The model of four such slices.
-unfoldable pub modelIn : Bytes → Bytes → Bytes → Bytes → Model
-modelIn components phases rules couplings = record {
+-- The model of four such slices and a reading of its elapsed ranges.
+unfoldable pub modelIn : Bytes → Bytes → Bytes → Bytes → RangeReading → Model
+modelIn components phases rules couplings ranges = record {
   components = componentsIn components;
   phases = phasesIn phases;
   rules = rulesIn rules;
   couplings = couplingsIn couplings;
+  ranges = ranges;
 }

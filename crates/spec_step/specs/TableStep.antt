@@ -8,7 +8,7 @@ use lib.ListN.{getD, set, take, replicate}
 use lib.Dec.{eqb}
 use Rattle.definition.specs.Lists.{isEmpty}
 use Rattle.definition.specs.Limits.{maxComponents, maxAncestors, portCount, neverField}
-use Rattle.definition.specs.Model.{Bag, Phase, Rule, noPhase, noRule, outputs}
+use Rattle.definition.specs.Model.{Bag, Phase, Rule, RangeReading, noPhase, noRule, outputs}
 use Rattle.definition.specs.Devs.{Time, finite, never, earlier, sameTime}
 use Rattle.definition.specs.Atomic.{toldAs, holds}
 use Rattle.definition.specs.Step.{Stepped, Simulator}
@@ -20,7 +20,7 @@ use Rattle.law_base.specs.Keys.{messageOf}
 use Rattle.spec_step.specs.Put.{valuesOn, keysOf}
 use Rattle.law_routes.specs.Nodes.{inputNode, outputNode}
 use Rattle.spec_step.specs.Tables.{nodeComponent, nodePort, isOutput, isRootNode, numbersAt, positionsAt, ordersAt, phasesAt}
-use Rattle.spec_step.specs.Tables.{parentsAt, rulesFromAt, rulesToAt, liveAt, countAt, chainRows, childRows, atomicAt, atomicNode}
+use Rattle.spec_step.specs.Tables.{parentsAt, rulesFromAt, rulesToAt, liveAt, countAt, rangesIn, chainRows, childRows, atomicAt, atomicNode}
 
 -- Some element passes the test.
 unfoldable pub anyOf : {A : Type 0} → (A → Bool) → List A → Bool
@@ -32,9 +32,9 @@ unfoldable pub firstFrom : (ℕ → Bool) → ℕ → ℕ → Option ℕ
 firstFrom test zero i = none
 firstFrom test (suc m) i = let rest = firstFrom test m (i + 1) in cond (test i) (some i) rest
 
--- The deciding rule among the rules from `first` up to `end`.
-unfoldable pub decidingIn : List Rule → ℕ → ℕ → ℕ → ℕ → ℕ → Bag → Option ℕ
-decidingIn rs first end c p e x = firstFrom (λ i. holds c p e x (getD rs i noRule)) (end - first) first
+-- The deciding rule among the rules from `first` up to `end`; r is the reading of their elapsed ranges.
+unfoldable pub decidingIn : RangeReading → List Rule → ℕ → ℕ → ℕ → ℕ → ℕ → Bag → Option ℕ
+decidingIn r rs first end c p e x = firstFrom (λ i. holds r c p e x (getD rs i noRule)) (end - first) first
 
 -- The phase that the rule at a position leads to.
 unfoldable pub leads : List Rule → Option ℕ → Option ℕ
@@ -118,7 +118,7 @@ module _ (t : List ℕ) where
   -- The first rule of rs that holds for component c in phase p, e after its last moment, with bag x, among those from the first that
   -- names c to the last.
   unfoldable pub ruleIn : List Rule → ℕ → ℕ → ℕ → Bag → Option ℕ
-  ruleIn rs c p e x = decidingIn rs (getD t (rulesFromAt + c) 0) (getD t (rulesToAt + c) 0) c p e x
+  ruleIn rs c p e x = decidingIn (rangesIn t) rs (getD t (rulesFromAt + c) 0) (getD t (rulesToAt + c) 0) c p e x
 
   -- The phase after the external part of a confluent transition.
   unfoldable pub decidedIn : List Rule → ℕ → ℕ → ℕ → Bag → ℕ

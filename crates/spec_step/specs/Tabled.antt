@@ -11,7 +11,7 @@ use Rattle.definition.specs.Limits.{portCount}
 use Rattle.definition.specs.Model.{Model, noRule, componentAt, isAtomic, atomics, phasesBefore, children}
 use Rattle.definition.specs.Flatten.{placeIn}
 use Rattle.law_routes.specs.Nodes.{portNodes, inputNode, sourceNumber, targetNumber}
-use Rattle.spec_step.specs.Tables.{isOutput, numbersAt, positionsAt, kindsAt, ordersAt, phasesAt, parentsAt, rulesFromAt, rulesToAt, liveAt, countAt, atomicsIn, chainRows, childRows, atomicNode}
+use Rattle.spec_step.specs.Tables.{isOutput, numbersAt, positionsAt, kindsAt, ordersAt, phasesAt, parentsAt, rulesFromAt, rulesToAt, liveAt, countAt, atomicsIn, rangesIn, chainRows, childRows, atomicNode}
 use Rattle.spec_step.specs.TableStep.{anyOf}
 
 -- Node x is live: some source may lead there.
@@ -25,6 +25,7 @@ mayLead t y = cond (isOutput y) (atomicNode t y || isLive t y) (isLive t y)
 pub record Tabled (m : Model) (t : List ℕ) : Type 0 where
   pub count : getD t countAt 0 ≡ length (m .components)
   pub atomic-count : atomicsIn t ≡ length (atomics (m .components))
+  pub ranges : rangesIn t ≡ m .ranges
   -- by position
   pub numbers : (i : ℕ) → i < length (atomics (m .components)) → getD t (numbersAt + i) 0 ≡ getD (atomics (m .components)) i 0
   -- by component

@@ -6,6 +6,8 @@ use mathlib.Core.Bool.{Bool, not, cond}
 use lib.ListN.{getD}
 use lib.Dec.{eqb, ltb}
 use Rattle.definition.specs.Limits.{maxComponents, maxCouplings, portCount}
+use Rattle.definition.specs.Model.{RangeReading}
+use Rattle.law_base.specs.Ranges.{rangesOf}
 pub use Rattle.law_routes.specs.Nodes.{portNodes}
 unfoldable pub use Rattle.law_routes.specs.Nodes.{inputNode, outputNode, sourceNumber, targetNumber}
 
@@ -81,11 +83,18 @@ countAt = sourceAt + (maxCouplings + 1)
 abbrev pub atomicsAt : ℕ
 atomicsAt = countAt + 1
 
+-- one number: whether the high ends of elapsed ranges are excluded, 0 for no
+abbrev pub rangesAt : ℕ
+rangesAt = atomicsAt + 1
+
 abbrev pub tableSize : ℕ
-tableSize = atomicsAt + 1
+tableSize = rangesAt + 1
 
 abbrev pub atomicsIn : List ℕ → ℕ
 atomicsIn t = getD t atomicsAt 0
+
+abbrev pub rangesIn : List ℕ → RangeReading
+rangesIn t = rangesOf (not (eqb (getD t rangesAt 0) 0))
 
 -- ---- chains of links
 

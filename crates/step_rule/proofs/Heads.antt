@@ -11,7 +11,7 @@ use borrow.Author.Tests.{eqb-true, eqb-false, eq-eqb, ne-eqb, ltb-true, ltb-fals
 use Rattle.definition.specs.Bytes.{Bytes}
 use Rattle.definition.specs.Lists.{count}
 use Rattle.definition.specs.Limits.{ruleSize}
-use Rattle.definition.specs.Model.{Bag, Rule, noRule}
+use Rattle.definition.specs.Model.{Bag, Rule, RangeReading, noRule}
 use Rattle.definition.specs.Atomic.{withinElapsed, meets, holds}
 use Rattle.definition.specs.Pinned.Decoder.{toRule}
 use Rattle.law_bytes.proofs.Rows.{number-one, number-row}
@@ -39,7 +39,7 @@ module _ (b q c p : ℕ) (u : b < 256) (v : q < 256) where
       go true h = byte-heads (ltb-true c 256 h)
       go false h = rw (ne-eqb b c (λ k. omega (arith, ltb-false c 256 h, k))) (ne-eqb (b + 256 * q) 65536 (λ k. omega (arith, k)))
 
-module _ (s : Bytes) (c p e : ℕ) (x : Bag) where
+module _ (s : Bytes) (r : RangeReading) (c p e : ℕ) (x : Bag) where
   component-byte : (i : ℕ) → i < length s / ruleSize → getD (rulesIn s) i noRule .component ≡ getD s (ruleSize * i) 0
   unfolding rulesIn toRule
   component-byte i h =
@@ -51,19 +51,19 @@ module _ (s : Bytes) (c p e : ℕ) (x : Bag) where
   phase-byte i h =
       ap (λ k. k .phase) (record-in ruleSize toRule s i noRule h) ∙ number-row 1 1 ruleSize i s (omega arith) ∙ number-one (ruleSize * i + 1) s
 
-  not-named : (k : Rule) → (k .component ≡ c → k .phase ≡ p → ⊥) → holds c p e x k ≡ false
+  not-named : (k : Rule) → (k .component ≡ c → k .phase ≡ p → ⊥) → holds r c p e x k ≡ false
   unfolding holds
   not-named k g = go (eqb (k .component) c) refl (eqb (k .phase) p) refl
     where
       go : (u : Bool) → eqb (k .component) c ≡ u → (v : Bool) → eqb (k .phase) p ≡ v
-          → (u && v && withinElapsed k e && leb (k .least) (count (meets k) x)) ≡ false
+          → (u && v && withinElapsed r k e && leb (k .least) (count (meets k) x)) ≡ false
       go true m true n = absurd (g (eqb-true (k .component) c m) (eqb-true (k .phase) p n))
       go true m false n = refl
       go false m v n = refl
 
   -- a rule with another head does not hold
   pub other-head : (i : ℕ) → i < length s / ruleSize → getD s (ruleSize * i) 0 < 256
-      → (getD s (ruleSize * i) 0 + 256 * getD s (ruleSize * i + 1) 0 ≡ headOf c p → ⊥) → holds c p e x (getD (rulesIn s) i noRule) ≡ false
+      → (getD s (ruleSize * i) 0 + 256 * getD s (ruleSize * i + 1) 0 ≡ headOf c p → ⊥) → holds r c p e x (getD (rulesIn s) i noRule) ≡ false
   unfolding headOf
   other-head i h b g =
       not-named (getD (rulesIn s) i noRule) (λ u v.
@@ -76,6 +76,6 @@ module _ (s : Bytes) (c p e : ℕ) (x : Bag) where
   rule-past i h = record-out ruleSize toRule s i noRule h
 
   -- past the last record the first rule holds or none does
-  pub none-past : (i end : ℕ) → length s / ruleSize ≤ i → holds c p e x (getD (rulesIn s) i noRule) ≡ false → none ≡ decidingIn (rulesIn s) i end c p e x
+  pub none-past : (i end : ℕ) → length s / ruleSize ≤ i → holds r c p e x (getD (rulesIn s) i noRule) ≡ false → none ≡ decidingIn r (rulesIn s) i end c p e x
   unfolding decidingIn
-  none-past i end h q = sym (first-none _ (end - i) i (λ j a b. ap (holds c p e x) (rule-past j (omega arith) ∙ sym (rule-past i h)) ∙ q))
+  none-past i end h q = sym (first-none _ (end - i) i (λ j a b. ap (holds r c p e x) (rule-past j (omega arith) ∙ sym (rule-past i h)) ∙ q))

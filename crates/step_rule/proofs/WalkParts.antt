@@ -35,13 +35,14 @@ use denote.Triple.Clauses.{ensured, lasts}
 use Rattle.definition.specs.Limits.{maxAtomicBag}
 use Rattle.definition.specs.Atomic.{holds}
 use Rattle.law_base.specs.Keys.{messageOf}
+use Rattle.law_base.specs.Ranges.{rangesOf}
 use Rattle.model_records.specs.Values.{ruleOf}
 use Rattle.model_records.specs.declared.Rule.{Rule}
 use Rattle.model_records.proofs.Rule as R
 use Rattle.model_records.proofs.Rule.Laws as R′
-use Rattle.clock.specs.declared.Stay.{Stay}
-use Rattle.clock.proofs.Stay as S
-use Rattle.clock.proofs.Stay.Laws as S′
+use Rattle.step_rule.specs.declared.Elapsed.{Elapsed}
+use Rattle.step_rule.proofs.Elapsed as S
+use Rattle.step_rule.proofs.Elapsed.Laws as S′
 use Rattle.step_rule.proofs.rule_holds as rule-holds
 
 -- what follows the first statement
@@ -96,7 +97,7 @@ module _ {M : Type 1} (𝓤 : URA M) (H : Heap 𝓤) (A : Atoms 𝓤) (mem : Mem
   RuleHolds = tripleOf 𝓤 H A rule-holds.signature (rule-holds.spec 𝓤 H A mem run)
 
 module _ {M : Type 1} (𝓤 : URA M) (H : Heap 𝓤) (A : Atoms 𝓤) (W : Given 𝓤 H A) (mem : Memory → SProp 𝓤) (run : Routine → Fun 𝓤)
-    (κ : Lft) (q : Share) (c p : ℕ) (e : Stay) (bag : RefT (List ℕ)) where
+    (κ : Lft) (q : Share) (c p : ℕ) (e : Elapsed) (bag : RefT (List ℕ)) where
   abbrev pub given-to : Rule → Args rule-holds.signature (κ, tt)
   given-to k = (k, (c, (p, (e, (bag, tt)))))
 
@@ -107,7 +108,7 @@ module _ {M : Type 1} (𝓤 : URA M) (H : Heap 𝓤) (A : Atoms 𝓤) (W : Given
   to k = (((κ, tt), (q, tt), tt, given-to k, passed k), tt)
 
   abbrev pub truth : Rule → Bool
-  truth k = holds c p (e .0) (map messageOf (now bag)) (ruleOf k)
+  truth k = holds (rangesOf (e .«half_open»)) c p (e .time .0) (map messageOf (now bag)) (ruleOf k)
 
   -- the numbers are owned for nothing; the bag is had twice, once for the callee
   pub asked : (k : Rule) → Is R.the-row k (R′.lowered k ∷ []) → c < 2 ^ 16 → p < 2 ^ 8 → Is S.the-row e (S′.lowered e ∷ []) → length (now bag) ≤ maxAtomicBag

@@ -9,6 +9,7 @@ ghost use Rattle.definition.specs.Lists.{count};
 ghost use Rattle.definition.specs.Atomic.{withinElapsed, meets, holds};
 ghost use Rattle.model_records.specs.Values.{ruleOf, rulesIn};
 ghost use Rattle.law_base.specs.Keys.{messageOf};
+ghost use Rattle.law_base.specs.Ranges.{rangesOf};
 ghost use Rattle.spec_step.specs.TableStep.{decidingIn};
 ghost use Rattle.step_rule.specs.Search.{foundOf, headOf, between};
 use clock::Stay;
@@ -23,6 +24,12 @@ use widen::u32_to_u64;
 pub enum Found {
     At(u16),
     Nothing,
+}
+
+// How long an atomic has been in its phase, and whether its model excludes the high ends of elapsed ranges.
+pub struct Elapsed {
+    pub time: Stay,
+    pub half_open: bool,
 }
 
 // How many keys of the bag lie between two. A bag of an atomic has at most 16,384 messages, so 16 bits are enough for a count of them. How far a
@@ -54,12 +61,18 @@ fn count_meeting(rule: Rule, bag: &[u32]) -> u16
     count_between(bag, port + rule.low as u32, port + rule.high as u32)
 }
 
-fn within_elapsed(rule: Rule, elapsed: Stay) -> bool
-    ensures { λ r. ⌜ r ≡ withinElapsed (ruleOf rule) (elapsed .0) ⌝ }
+fn within_elapsed(rule: Rule, elapsed: Elapsed) -> bool
+    ensures { λ r. ⌜ r ≡ withinElapsed (rangesOf (elapsed .«half_open»)) (ruleOf rule) (elapsed .time .0) ⌝ }
 {
     let low = u32_to_u64(rule.low_elapsed);
     let high = u32_to_u64(rule.high_elapsed);
-    (low <= elapsed.0) & ((elapsed.0 <= high) | (rule.high_elapsed == NEVER_FIELD))
+    let time = elapsed.time.0;
+    let before_end = if elapsed.half_open {
+        time < high
+    } else {
+        time <= high
+    };
+    (low <= time) & (before_end | (rule.high_elapsed == NEVER_FIELD))
 }
 
 // No two bytes make this number.
@@ -77,9 +90,9 @@ fn head_of(component: u16, phase: u8) -> u32
 }
 
 // The bag is looked at only where the other conditions hold. Component and phase are compared as heads: one test for two.
-fn rule_holds(rule: Rule, component: u16, phase: u8, elapsed: Stay, bag: &[u32]) -> bool
+fn rule_holds(rule: Rule, component: u16, phase: u8, elapsed: Elapsed, bag: &[u32]) -> bool
     requires { ⌜ length (now bag) ≤ maxAtomicBag ⌝ }
-    ensures { λ r. ⌜ r ≡ holds component phase (elapsed .0) (map messageOf (now (bag .entry))) (ruleOf rule) ⌝ }
+    ensures { λ r. ⌜ r ≡ holds (rangesOf (elapsed .«half_open»)) component phase (elapsed .time .0) (map messageOf (now (bag .entry))) (ruleOf rule) ⌝ }
 {
     let own = head_of(rule.component as u16, rule.phase);
     if (own == head_of(component, phase)) & within_elapsed(rule, elapsed) {
@@ -98,11 +111,11 @@ fn deciding_in(
     end: u16,
     component: u16,
     phase: u8,
-    elapsed: Stay,
+    elapsed: Elapsed,
     bag: &[u32],
 ) -> Found
     requires { ⌜ (end ≤ length (now rules)) × (length (now bag) ≤ maxAtomicBag) ⌝ }
-    ensures { λ r. ⌜ foundOf r ≡ decidingIn (map ruleOf (now (rules .entry))) first end component phase (elapsed .0) (map messageOf (now (bag .entry))) ⌝ }
+    ensures { λ r. ⌜ foundOf r ≡ decidingIn (rangesOf (elapsed .«half_open»)) (map ruleOf (now (rules .entry))) first end component phase (elapsed .time .0) (map messageOf (now (bag .entry))) ⌝ }
 {
     let mut i = first;
     loop {
@@ -117,9 +130,9 @@ fn deciding_in(
 }
 
 // The same in an array, which it lends: an array by value asks no proof by hand of its callers, where a lent slice of structs does.
-fn deciding_of(rules: [Rule; 1], component: u16, phase: u8, elapsed: Stay, bag: &[u32]) -> Found
+fn deciding_of(rules: [Rule; 1], component: u16, phase: u8, elapsed: Elapsed, bag: &[u32]) -> Found
     requires { ⌜ length (now bag) ≤ maxAtomicBag ⌝ }
-    ensures { λ r. ⌜ foundOf r ≡ decidingIn (map ruleOf rules) 0 1 component phase (elapsed .0) (map messageOf (now (bag .entry))) ⌝ }
+    ensures { λ r. ⌜ foundOf r ≡ decidingIn (rangesOf (elapsed .«half_open»)) (map ruleOf rules) 0 1 component phase (elapsed .time .0) (map messageOf (now (bag .entry))) ⌝ }
 {
     deciding_in(&rules, 0, 1, component, phase, elapsed, bag)
 }
@@ -142,11 +155,11 @@ fn decided_at(
     head: u32,
     component: u16,
     phase: u8,
-    elapsed: Stay,
+    elapsed: Elapsed,
     bag: &[u32],
 ) -> Found
     requires { ⌜ (i < length (now rules) / ruleSize) × (at ≡ ruleSize * i) × (head ≡ headOf component phase) × (length (now bag) ≤ maxAtomicBag) ⌝ }
-    ensures { λ r. ⌜ foundOf r ≡ decidingIn (rulesIn (now (rules .entry))) i (i + 1) component phase (elapsed .0) (map messageOf (now (bag .entry))) ⌝ }
+    ensures { λ r. ⌜ foundOf r ≡ decidingIn (rangesOf (elapsed .«half_open»)) (rulesIn (now (rules .entry))) i (i + 1) component phase (elapsed .time .0) (map messageOf (now (bag .entry))) ⌝ }
 {
     if head_at(rules, at) != head {
         return Found::Nothing;
@@ -179,11 +192,11 @@ fn decided_past(
     end: u16,
     component: u16,
     phase: u8,
-    elapsed: Stay,
+    elapsed: Elapsed,
     bag: &[u32],
 ) -> Found
     requires { ⌜ (min (length (now rules) / ruleSize) end ≤ i) × (length (now bag) ≤ maxAtomicBag) ⌝ }
-    ensures { λ r. ⌜ foundOf r ≡ decidingIn (rulesIn (now (rules .entry))) i end component phase (elapsed .0) (map messageOf (now (bag .entry))) ⌝ }
+    ensures { λ r. ⌜ foundOf r ≡ decidingIn (rangesOf (elapsed .«half_open»)) (rulesIn (now (rules .entry))) i end component phase (elapsed .time .0) (map messageOf (now (bag .entry))) ⌝ }
 {
     if end <= i {
         return Found::Nothing;
@@ -202,11 +215,11 @@ pub fn deciding(
     end: u16,
     component: u16,
     phase: u8,
-    elapsed: Stay,
+    elapsed: Elapsed,
     bag: &[u32],
 ) -> Found
     requires { ⌜ length (now bag) ≤ maxAtomicBag ⌝ }
-    ensures { λ r. ⌜ foundOf r ≡ decidingIn (rulesIn (now (rules .entry))) first end component phase (elapsed .0) (map messageOf (now (bag .entry))) ⌝ }
+    ensures { λ r. ⌜ foundOf r ≡ decidingIn (rangesOf (elapsed .«half_open»)) (rulesIn (now (rules .entry))) first end component phase (elapsed .time .0) (map messageOf (now (bag .entry))) ⌝ }
 {
     let stop = stop_before(rules, end);
     let head = head_of(component, phase);

@@ -2,17 +2,17 @@
 -- section-on); a refusal ends both with the same number (section-off). What the components' section has learnt is what the others ask for
 -- (known). The records are those of the four parts. Assumes nothing.
 use borrow.Author.Needs.{needs}
-use mathlib.Core.Path.{_≡_, sym, _∙_}
+use mathlib.Core.Path.{_≡_, sym, ap, _∙_}
 use mathlib.Core.List.{List}
 use denote.Ref.{now}
-use borrow.Author.Tests.{lt-ltb}
-use Rattle.definition.specs.Bytes.{Bytes}
+use Rattle.definition.specs.Bytes.{Bytes, ok}
 use Rattle.definition.specs.Model.{Component, Phase, Rule, Coupling}
-use Rattle.definition.specs.Pinned.Decoder.{decode, endOfFile, toComponent, toPhase, toRule, toCoupling}
+use Rattle.definition.specs.Pinned.Decoder.{decode, furtherSections, toComponent, toPhase, toRule, toCoupling}
 use Rattle.law_bytes.specs.Parts.{partOf}
 use Rattle.model_records.specs.Values.{componentsIn, phasesIn, rulesIn, couplingsIn}
 use Rattle.model_sections.specs.Answers.{AllKnown}
-use Rattle.model_file.proofs.Chain.{fromPhases, fromRules, fromCouplings, fromEnd, decode-from, known, section-on, section-off, model-is}
+use Rattle.model_further.specs.Told.{furtherRead}
+use Rattle.model_file.proofs.Chain.{fromPhases, fromRules, fromCouplings, fromEnd, decode-from, known, section-on, section-off, further-on, further-off, model-is}
 use Rattle.model_file.proofs.decode_model.Statement.{statement}
 use Rattle.model_file.proofs.decode_model.Tie as tie
 
@@ -71,6 +71,15 @@ read-4 d =
     let read : tie.After-read-couplings = search in let fourth : tie.After-fourth = search in
     section-on 4 toCoupling _ _ (read .read-couplings .ensures) (read-3 (third-of d)) (fourth .fourth .given .1) (d .section-rest4 .ensures)
 
+-- What follows the couplings is read with the rules that were read before.
+abbrev fourth-of : tie.After-read-further → tie.After-section-rest4
+fourth-of c = search
+
+read-last : (c : tie.After-read-further) → furtherRead (c .read-further .result) ≡ furtherSections (rules-of (third-of (fourth-of c))) (now (fourth-of c .section-rest4 .result))
+read-last c =
+    let part : tie.After-section-part2 = search in
+    c .read-further .ensures ∙ ap (λ (s : Bytes). furtherSections (rulesIn s) (now (fourth-of c .section-rest4 .result))) (part .section-part2 .ensures)
+
 -- What the arrays hold after the first section.
 learnt : (c : tie.After-section-rest) → let read : tie.After-read-components = search in
     AllKnown (components-of c) (read .read-components .last .1 .0) (read .read-components .last .1 .1 .0)
@@ -92,7 +101,8 @@ decode-model-spec =
     (λ c κs. search needs) (λ c κs. learnt (search) .placed) (λ c. search needs) (λ c. search needs) (λ c κs. search needs)
     (λ c. unfold fromCouplings in let read : tie.After-read-couplings = search in
     section-off 4 toCoupling _ _ (read .read-couplings .ensures) (read-3 search) (c .before .enum-told4 .given .1) (c .refusal4 .ensures))
-    (λ c κs. search needs) (λ c. unfold fromEnd endOfFile in sym (read-4 (c .before) ∙ rw (lt-ltb _ _ (c .if1 .taken))))
-    (λ c. let third : tie.After-section-rest3 = search in let second : tie.After-section-rest2 = search in let first : tie.After-section-rest = search in
-    sym (read-4 (c .before) ∙ model-is _ _ _ (first .before .section-part .ensures) (first .section-rest .ensures) (second .section-rest2 .ensures)
-    (third .section-rest3 .ensures) (c .if1 .left))))
+    (λ c κs. search needs) (λ c κs. search needs) (λ c κs. search needs) (λ c. search needs) (λ c. search needs) (λ c κs. search needs) (λ c. let told : tie.After-read-further = search in let d = fourth-of told in let third = third-of d in let second = second-of third in
+    further-off (components-of (first-of second)) (phases-of second) (rules-of third) (couplings-of d) _ (read-last told) _ (c .before .enum-told5 .given .1) (c .refusal5 .ensures) ∙ sym (read-4 d))
+    (λ c. let told : tie.After-read-further = search in let d = fourth-of told in let third = third-of d in let second = second-of third in let first = first-of second in let known : tie.After-last = search in
+    sym (read-4 d ∙ further-on (components-of first) (phases-of second) (rules-of third) (couplings-of d) _ (read-last told) _ (known .last .given .1)
+    ∙ ap ok (model-is _ _ (first .before .section-part .ensures) (first .section-rest .ensures) (second .section-rest2 .ensures) (third .section-rest3 .ensures)))))

@@ -11,6 +11,7 @@ use denote.Ref.{now}
 use Rattle.definition.specs.Limits.{ruleSize}
 use Rattle.definition.specs.Pinned.Decoder.{toRule}
 use Rattle.law_base.specs.Keys.{messageOf}
+use Rattle.law_base.specs.Ranges.{rangesOf}
 use Rattle.law_bytes.proofs.Records.{length-records}
 use Rattle.model_records.specs.Values.{ruleOf, rulesIn}
 use Rattle.step_rule.specs.Search.{foundOf}
@@ -25,9 +26,9 @@ returns c =
     let a = start .args in
     let x = map messageOf (now (a .bag)) in
     let byte : getD (now (a .rules)) (18 * a .i) 0 < 256 = omega (arith, after-shared-slice-known .shared-slice-known .given (18 * a .i)) in
-    let other = other-head (now (a .rules)) (a .component) (a .phase) (a .elapsed .0) x (a .i) (start .pre .0) byte (λ q. c .if1 .taken (rw (start .pre .1) at
+    let other = other-head (now (a .rules)) (rangesOf (a .elapsed .«half_open»)) (a .component) (a .phase) (a .elapsed .time .0) x (a .i) (start .pre .0) byte (λ q. c .if1 .taken (rw (start .pre .1) at
     (c .before .head-at .ensures) ∙ q ∙ sym (start .pre .2))) in
-    sym (one-position (a .component) (a .phase) (a .elapsed .0) x (rulesIn (now (a .rules))) (a .i) ∙ ap (λ b. cond b (some (a .i)) none) other)
+    sym (one-position (rangesOf (a .elapsed .«half_open»)) (a .component) (a .phase) (a .elapsed .time .0) x (rulesIn (now (a .rules))) (a .i) ∙ ap (λ b. cond b (some (a .i)) none) other)
 
 rule-in-requires : tie.Need-rule-in-requires
 unfolding rulesIn
@@ -39,7 +40,7 @@ returns-2 : tie.Need-returns-2
 returns-2 c =
     let start : tie.Start = search in let after-rule-in : tie.After-rule-in = search in let after-deciding-of : tie.After-deciding-of = search in
     let a = start .args in
-    one-moved (a .component) (a .phase) (a .elapsed .0) (map messageOf (now (a .bag))) (rulesIn (now (a .rules))) (a .i) (ruleOf (after-rule-in .rule-in .result)) none
+    one-moved (rangesOf (a .elapsed .«half_open»)) (a .component) (a .phase) (a .elapsed .time .0) (map messageOf (now (a .bag))) (rulesIn (now (a .rules))) (a .i) (ruleOf (after-rule-in .rule-in .result)) none
     (after-rule-in .rule-in .ensures) (ap foundOf (sym (c .enum-told .given .1)) ∙ after-deciding-of .deciding-of .ensures)
 
 add-position : tie.Need-add-position
@@ -47,7 +48,7 @@ add-position c =
     let start : tie.Start = search in let after-deciding-of : tie.After-deciding-of = search in
     let a = start .args in
     let j = c .before .found .given .0 .0 in
-    let z : j ≡ 0 = first-alone (a .component) (a .phase) (a .elapsed .0) (map messageOf (now (a .bag))) _ j (ap foundOf (sym
+    let z : j ≡ 0 = first-alone (rangesOf (a .elapsed .«half_open»)) (a .component) (a .phase) (a .elapsed .time .0) (map messageOf (now (a .bag))) _ j (ap foundOf (sym
     (c .before .found .given .1)) ∙ after-deciding-of .deciding-of .ensures) in
     record { fits = omega arith }
 
@@ -55,7 +56,7 @@ returns-3 : tie.Need-returns-3
 returns-3 c =
     let start : tie.Start = search in let after-rule-in : tie.After-rule-in = search in let after-deciding-of : tie.After-deciding-of = search in
     let a = start .args in
-    one-moved (a .component) (a .phase) (a .elapsed .0) (map messageOf (now (a .bag))) (rulesIn (now (a .rules))) (a .i) (ruleOf (after-rule-in .rule-in .result)) (some
+    one-moved (rangesOf (a .elapsed .«half_open»)) (a .component) (a .phase) (a .elapsed .time .0) (map messageOf (now (a .bag))) (rulesIn (now (a .rules))) (a .i) (ruleOf (after-rule-in .rule-in .result)) (some
     (c .before .found .given .0 .0))
     (after-rule-in .rule-in .ensures) (ap foundOf (sym (c .before .found .given .1)) ∙ after-deciding-of .deciding-of .ensures)
 

@@ -5,6 +5,7 @@ use Rattle.step_rule.proofs.OneRule.{one-more}
 use Rattle.step_rule.specs.Search.{foundOf}
 use Rattle.spec_step.specs.TableStep.{decidingIn}
 use Rattle.law_base.specs.Keys.{messageOf}
+use Rattle.law_base.specs.Ranges.{rangesOf}
 use Rattle.model_records.specs.Values.{rulesIn}
 use denote.Ref.{now}
 use Prim.Native.Nat.{_-_, _*_}
@@ -15,8 +16,8 @@ use Rattle.step_rule.proofs.deciding.Statement.{statement}
 use Rattle.step_rule.proofs.deciding.Tie as tie
 
 abbrev Inv-loop : tie.InvT-loop
-Inv-loop rules first end component phase elapsed bag stop head i₀ at₀ i at = (at ≡ 18 * i) × (decidingIn (rulesIn rules) i end component phase (elapsed .0)
-    (map messageOf bag) ≡ decidingIn (rulesIn rules) first end component phase (elapsed .0) (map messageOf bag))
+Inv-loop rules first end component phase elapsed bag stop head i₀ at₀ i at = (at ≡ 18 * i) × (decidingIn (rangesOf (elapsed .«half_open»)) (rulesIn rules) i end component phase (elapsed .time .0)
+    (map messageOf bag) ≡ decidingIn (rangesOf (elapsed .«half_open»)) (rulesIn rules) first end component phase (elapsed .time .0) (map messageOf bag))
 
 abbrev μ-loop : tie.MeasureT-loop
 μ-loop rules first end component phase elapsed bag stop head i₀ at₀ i at = end - i
@@ -28,7 +29,7 @@ loop-again c =
     let a = start .args in
     let l = at-loop .loop in (
       omega arith,
-      one-more (a .component) (a .phase) (a .elapsed .0) (map messageOf (now (a .bag))) (rulesIn (now (a .rules))) (l .i) (a .end) none (omega arith)
+      one-more (rangesOf (a .elapsed .«half_open»)) (a .component) (a .phase) (a .elapsed .time .0) (map messageOf (now (a .bag))) (rulesIn (now (a .rules))) (l .i) (a .end) none (omega arith)
           (ap foundOf (sym (c .enum-told .given .1)) ∙ after-decided-at .decided-at .ensures) ∙ l .inv .1,
     )
 
@@ -43,7 +44,7 @@ returns-2 c =
     let after-decided-at : tie.After-decided-at Inv-loop μ-loop = search in
     let a = start .args in
     let l = at-loop .loop in
-    one-more (a .component) (a .phase) (a .elapsed .0) (map messageOf (now (a .bag))) (rulesIn (now (a .rules))) (l .i) (a .end) (some (c .before .here .given .0 .0)) (omega arith)
+    one-more (rangesOf (a .elapsed .«half_open»)) (a .component) (a .phase) (a .elapsed .time .0) (map messageOf (now (a .bag))) (rulesIn (now (a .rules))) (l .i) (a .end) (some (c .before .here .given .0 .0)) (omega arith)
     (ap foundOf (sym (c .before .here .given .1)) ∙ after-decided-at .decided-at .ensures) ∙ l .inv .1
 
 pub deciding-spec : {M : Type 1} → statement M

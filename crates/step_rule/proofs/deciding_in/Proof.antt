@@ -36,9 +36,9 @@ use denote.Triple.Walked.{needs, goes-dropped, Walks, walked, walk-meets}
 use Rattle.definition.specs.Limits.{maxAtomicBag}
 use Rattle.model_records.specs.declared.Rule.{Rule}
 use Rattle.model_records.proofs.Rule as R
-use Rattle.clock.specs.declared.Stay.{Stay}
-use Rattle.clock.proofs.Stay as S
-use Rattle.clock.proofs.Stay.Laws as S′
+use Rattle.step_rule.specs.declared.Elapsed.{Elapsed}
+use Rattle.step_rule.proofs.Elapsed as S
+use Rattle.step_rule.proofs.Elapsed.Laws as S′
 use Rattle.step_rule.proofs.rule_holds.Symbol as rule-holds-def
 use Rattle.step_rule.proofs.rule_holds.Symbol.{name as #step-rule·rule-holds}
 use Rattle.step_rule.proofs.rule_holds.Met as rule-holds-thm
@@ -50,7 +50,7 @@ use Rattle.step_rule.proofs.deciding_in.Code as code
 use Rattle.step_rule.proofs.deciding_in.Proof.Loop.{stayed, x, at, Post, searched, apart}
 
 module _ {M : Type 1} (𝓤 : URA M) (H : Heap 𝓤) (A : Atoms 𝓤) (W : Given 𝓤 H A) (mem : Memory → SProp 𝓤) (run : Routine → Fun 𝓤)
-    (κ κ′ : Lft) (q q′ : Share) (b o : ℕ) (γ : GName) (ys : List Rule) (from-i end c p : ℕ) (e : Stay) (bag : RefT (List ℕ)) where
+    (κ κ′ : Lft) (q q′ : Share) (b o : ℕ) (γ : GName) (ys : List Rule) (from-i end c p : ℕ) (e : Elapsed) (bag : RefT (List ℕ)) where
   abbrev passed : Args deciding-in.signature (κ, (κ′, tt))
   passed = x 𝓤 H A W mem run κ κ′ q q′ b o γ ys from-i end c p e bag
 

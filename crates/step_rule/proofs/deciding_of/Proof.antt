@@ -47,14 +47,15 @@ use denote.Triple.Walked.{says, needs, Stays, stay-dropped, walkOf, goes-dropped
 use denote.Triple.Clauses.{ensured, lasts}
 use Rattle.definition.specs.Limits.{maxAtomicBag}
 use Rattle.law_base.specs.Keys.{messageOf}
+use Rattle.law_base.specs.Ranges.{rangesOf}
 use Rattle.spec_step.specs.TableStep.{decidingIn}
 use Rattle.model_records.specs.Values.{ruleOf}
 use Rattle.model_records.specs.declared.Rule.{Rule}
 use Rattle.model_records.proofs.Rule as R
 use Rattle.model_records.proofs.Rule.Laws as R′
-use Rattle.clock.specs.declared.Stay.{Stay}
-use Rattle.clock.proofs.Stay as S
-use Rattle.clock.proofs.Stay.Laws as S′
+use Rattle.step_rule.specs.declared.Elapsed.{Elapsed}
+use Rattle.step_rule.proofs.Elapsed as S
+use Rattle.step_rule.proofs.Elapsed.Laws as S′
 use Rattle.step_rule.specs.declared.Found.{Found}
 use Rattle.step_rule.specs.Search.{foundOf}
 use Rattle.step_rule.proofs.Found as F
@@ -94,7 +95,7 @@ module _ {M : Type 1} (𝓤 : URA M) (H : Heap 𝓤) (A : Atoms 𝓤) (mem : Mem
   Search = tripleOf 𝓤 H A deciding-in.signature (deciding-in.spec 𝓤 H A mem run)
 
 module _ {M : Type 1} (𝓤 : URA M) (H : Heap 𝓤) (A : Atoms 𝓤) (W : Given 𝓤 H A) (mem : Memory → SProp 𝓤) (run : Routine → Fun 𝓤)
-    (κ : Lft) (q : Share) (xs : List Rule) (c p : ℕ) (e : Stay) (bag : RefT (List ℕ)) where
+    (κ : Lft) (q : Share) (xs : List Rule) (c p : ℕ) (e : Elapsed) (bag : RefT (List ℕ)) where
   abbrev x : Args deciding-of.signature (κ, tt)
   x = (xs, (c, (p, (e, (bag, tt)))))
 
@@ -109,7 +110,7 @@ module _ {M : Type 1} (𝓤 : URA M) (H : Heap 𝓤) (A : Atoms 𝓤) (W : Given
   Post = walkOf 𝓤 H A deciding-of.ended stayed (deciding-of.clauses 𝓤 H A mem run) .post bound
 
   abbrev Right : Found → Type 0
-  Right r = foundOf r ≡ decidingIn (map ruleOf xs) 0 count c p (e .0) (map messageOf (now bag))
+  Right r = foundOf r ≡ decidingIn (rangesOf (e .«half_open»)) (map ruleOf xs) 0 count c p (e .time .0) (map messageOf (now bag))
 
   exits : (r : Found) (u : Val) → Is F.the-row r (u ∷ []) → Right r → ent 𝓤 (⋆ 𝓤 H A (‵ (flft κ q) ∷ [])) (Post u)
   exits r u is eq =

@@ -45,14 +45,15 @@ use denote.Triple.Walked.{says, Stays, stay-dropped, walkOf, ends-at}
 use denote.Triple.Clauses.{ensured}
 use Rattle.definition.specs.Limits.{maxAtomicBag}
 use Rattle.law_base.specs.Keys.{messageOf}
+use Rattle.law_base.specs.Ranges.{rangesOf}
 use Rattle.spec_step.specs.TableStep.{decidingIn}
 use Rattle.model_records.specs.Values.{ruleOf}
 use Rattle.model_records.specs.declared.Rule.{Rule}
 use Rattle.model_records.proofs.Rule as R
 use Rattle.model_records.proofs.Rule.Laws as R′
-use Rattle.clock.specs.declared.Stay.{Stay}
-use Rattle.clock.proofs.Stay as S
-use Rattle.clock.proofs.Stay.Laws as S′
+use Rattle.step_rule.specs.declared.Elapsed.{Elapsed}
+use Rattle.step_rule.proofs.Elapsed as S
+use Rattle.step_rule.proofs.Elapsed.Laws as S′
 use Rattle.step_rule.specs.declared.Found.{Found}
 use Rattle.step_rule.specs.declared.Found.the-variants.{At, Nothing}
 use Rattle.step_rule.specs.Search.{foundOf}
@@ -77,7 +78,7 @@ abbrev next : Body
 next = after (after (after (after (after (after tested)))))
 
 module _ {M : Type 1} (𝓤 : URA M) (H : Heap 𝓤) (A : Atoms 𝓤) (W : Given 𝓤 H A) (mem : Memory → SProp 𝓤) (run : Routine → Fun 𝓤)
-    (κ κ′ : Lft) (q q′ : Share) (b o : ℕ) (γ : GName) (ys : List Rule) (from-i end c p : ℕ) (e : Stay) (bag : RefT (List ℕ)) where
+    (κ κ′ : Lft) (q q′ : Share) (b o : ℕ) (γ : GName) (ys : List Rule) (from-i end c p : ℕ) (e : Elapsed) (bag : RefT (List ℕ)) where
   abbrev rules : RefT (List Rule)
   rules = record { ptr = (b, o); name = γ; now = ys }
 
@@ -96,7 +97,7 @@ module _ {M : Type 1} (𝓤 : URA M) (H : Heap 𝓤) (A : Atoms 𝓤) (W : Given
 
   -- the definition's answer from position i on
   abbrev pub from-at : ℕ → Option ℕ
-  from-at i = decidingIn (map ruleOf ys) i end c p (e .0) (map messageOf (now bag))
+  from-at i = decidingIn (rangesOf (e .«half_open»)) (map ruleOf ys) i end c p (e .time .0) (map messageOf (now bag))
 
   exits : (r : Found) (u : Val) → Is F.the-row r (u ∷ []) → foundOf r ≡ from-at from-i → ent 𝓤 (⋆ 𝓤 H A (‵ (flft κ q) ∷ ‵ (flft κ′ q′) ∷ [])) (Post u)
   exits r u is eq =
@@ -212,11 +213,11 @@ module _ {M : Type 1} (𝓤 : URA M) (H : Heap 𝓤) (A : Atoms 𝓤) (W : Given
         first ! $ branches ! (load ! (from ! (stop !)) (look ! 12 refl))
         (λ so. assigns ! (agg ! (and-then ! (lit ! tt) (and-then ! (load ! (from ! (stop !)) (look ! 18 refl)) (no-more !)))) (from ! (stop !)) (init ! 16 refl (found-typed (At (i .0)) here)) $
         jumps ! $ exec ! C Λ En code-mir.t-3 (atRet En Post) $ forget ! 12 refl $
-        leaves (i .0) (At (i .0)) _ here (found-here ys c p (e .0) (map messageOf (now bag)) (i .0) end less (sym t ∙ is-true r so) ∙ i .1 .1))
+        leaves (i .0) (At (i .0)) _ here (found-here ys (rangesOf (e .«half_open»)) c p (e .time .0) (map messageOf (now bag)) (i .0) end less (sym t ∙ is-true r so) ∙ i .1 .1))
         (λ not-so. skips ! $ exec ! C Λ En next (anyQ (Turned i)) $
         assigns-last ! (bin ! (load ! (from ! (stop !)) (look ! 18 refl)) (lit ! tt) (record { fits = one-more })) (from ! (stop !))
         (store ! 18 refl (tt, record { fits = one-more })) $ forget ! 12 refl $
-        again ! (Nearer Reached end) At-i i (i .0 + 1, (one-more, found-later ys c p (e .0) (map messageOf (now bag)) (i .0) end less (sym t ∙ is-false r not-so) ∙ i .1 .1)) (omega
+        again ! (Nearer Reached end) At-i i (i .0 + 1, (one-more, found-later ys (rangesOf (e .«half_open»)) c p (e .time .0) (map messageOf (now bag)) (i .0) end less (sym t ∙ is-false r not-so) ∙ i .1 .1)) (omega
         (arith, less)))))))))
       where
         k : Rule
@@ -245,7 +246,7 @@ module _ {M : Type 1} (𝓤 : URA M) (H : Heap 𝓤) (A : Atoms 𝓤) (W : Given
         first ! $ branches ! (load ! (from ! (stop !)) (look ! 14 refl))
         (λ over. assigns ! (agg ! (and-then ! (lit ! tt) (no-more !))) (from ! (stop !)) (init ! 16 refl (found-typed Nothing missing)) $
         jumps ! $ exec ! C Λ En code-mir.t-3 (atRet En Post) $ forget ! 14 refl $
-        leaves (i .0) Nothing _ missing (found-none ys c p (e .0) (map messageOf (now bag)) (i .0) end (leb→le end (i .0) over) ∙ i .1 .1))
+        leaves (i .0) Nothing _ missing (found-none ys (rangesOf (e .«half_open»)) c p (e .time .0) (map messageOf (now bag)) (i .0) end (leb→le end (i .0) over) ∙ i .1 .1))
         (λ less. skips ! $ exec ! C Λ En tested (anyQ (Turned i)) $ forget ! 14 refl $ reads i (nleb→lt end (i .0) less))
       where
         missing : Is F.the-row Nothing (EL.vals F.the-type F′.the-laws Nothing)

@@ -1,0 +1,48 @@
+-- The definition's last lines of a file as the tests that the code makes, one after the other. Assumes nothing.
+use mathlib.Core.Path.{_≡_, refl, sym}
+use Prim.Native.Nat.{ℕ, _≤_, _<_}
+use mathlib.Core.List.{List, [], _∷_}
+use mathlib.Core.Bool.{Bool, true, false, not}
+use native.Mathlib.Omega.{arith}
+use lib.Dec.{ltb}
+use lib.ListN.{length, drop, length-drop}
+use borrow.Author.Tests.{lt-ltb, le-ltb}
+use Rattle.definition.specs.Lists.{all}
+use Rattle.definition.specs.Bytes.{Bytes, Result, ok, refused, _>>=_, refuseIf}
+use Rattle.definition.specs.Limits.{fifthSize}
+use Rattle.definition.specs.Model.{Rule, RangeReading, inclusive, halfOpen}
+use Rattle.definition.specs.Pinned.Decoder.{isFifth, fifthSection, elapsedFits, endOfFile, furtherSections}
+use Rattle.law_base.proofs.Lists.{all-every}
+
+module _ (rs : List Rule) where
+  -- nothing follows the couplings
+  pub nothing-follows : (s : Bytes) → length s ≡ 0 → ok inclusive ≡ furtherSections rs s
+  unfolding furtherSections fifthSection endOfFile elapsedFits
+  nothing-follows [] e = rw (all-every {A = Rule} (λ k. true) rs (λ k. refl))
+  nothing-follows (b ∷ s) e = absurd (omega arith)
+
+  -- something follows: the tests in their order
+  abbrev tested : Bytes → Bool → Bool → Result RangeReading
+  tested s fifth differ = refuseIf (not fifth) 20 >>= λ _. refuseIf (not differ) 7 >>= λ _. refuseIf (ltb 0 (length (drop fifthSize s))) 2 >>= λ _. ok halfOpen
+
+  in-order : (s : Bytes) → (length s ≡ 0 → ⊥) → furtherSections rs s ≡ tested s (isFifth s) (all (elapsedFits halfOpen) rs)
+  unfolding furtherSections fifthSection endOfFile
+  in-order [] h = absurd (h refl)
+  in-order (b ∷ s) h = go (isFifth (b ∷ s)) refl
+    where
+      go : (t : Bool) → isFifth (b ∷ s) ≡ t → furtherSections rs (b ∷ s) ≡ tested (b ∷ s) (isFifth (b ∷ s)) (all (elapsedFits halfOpen) rs)
+      go true e = rw e
+      go false e = rw e
+
+  module _ (s : Bytes) (some : length s ≡ 0 → ⊥) where
+    pub no-section : isFifth s ≡ false → refused 20 ≡ furtherSections rs s
+    no-section e = sym (rw (in-order s some, e))
+
+    pub equal-ends : isFifth s ≡ true → all (elapsedFits halfOpen) rs ≡ false → refused 7 ≡ furtherSections rs s
+    equal-ends e f = sym (rw (in-order s some, e, f))
+
+    pub left-over : isFifth s ≡ true → all (elapsedFits halfOpen) rs ≡ true → fifthSize < length s → refused 2 ≡ furtherSections rs s
+    left-over e f l = sym (rw (in-order s some, e, f, lt-ltb 0 (length (drop fifthSize s)) (omega (arith, length-drop fifthSize s))))
+
+    pub half-open : isFifth s ≡ true → all (elapsedFits halfOpen) rs ≡ true → length s ≤ fifthSize → ok halfOpen ≡ furtherSections rs s
+    half-open e f l = sym (rw (in-order s some, e, f, le-ltb 0 (length (drop fifthSize s)) (omega (arith, length-drop fifthSize s))))
