@@ -11,7 +11,7 @@ use Rattle.definition.specs.Bytes.{Bytes, ok, refused, _>>=_, refuseIf, numberO
 use Rattle.definition.specs.Limits.{maxComponents, maxCouplings, maxRoutes}
 use Rattle.definition.specs.Model.{Model}
 use Rattle.definition.specs.Routes.{routes}
-use Rattle.definition.specs.Pinned.Decoder.{toComponent, componentFits, toCoupling, couplingFits, Section, orElse, componentCountRefusal, limitRefusal, componentSection, phaseSection, ruleSection, couplingSection, endOfFile, decode, accepted}
+use Rattle.definition.specs.Pinned.Decoder.{toComponent, componentFits, toCoupling, couplingFits, Section, orElse, componentCountRefusal, limitRefusal, componentSection, phaseSection, ruleSection, couplingSection, furtherSections, decode, accepted}
 use Rattle.law_base.proofs.Lists.{each}
 use Rattle.law_base.proofs.Results.{bind-ok, ok-same}
 use Rattle.law_bytes.proofs.Sections.{Gives, section-gives}
@@ -53,8 +53,8 @@ decode-placed s m e =
     let b = bind-ok (phaseSection (a .0 .records) (a .0 .rest)) _ m (a .2) in
     let c = bind-ok (ruleSection (a .0 .records) (b .0 .rest)) _ m (b .2) in
     let d = bind-ok (couplingSection (a .0 .records) (c .0 .rest)) _ m (c .2) in
-    let f = bind-ok (endOfFile (d .0 .rest)) _ m (d .2) in
-    let g : record { components = a .0 .records; phases = b .0 .records; rules = c .0 .records; couplings = d .0 .records } ≡ m = ok-same _ m (f .2) in
+    let f = bind-ok (furtherSections (c .0 .records) (d .0 .rest)) _ m (d .2) in
+    let g : record { components = a .0 .records; phases = b .0 .records; rules = c .0 .records; couplings = d .0 .records; ranges = f .0 } ≡ m = ok-same _ m (f .2) in
     let h = component-limit s (a .1) in
     let u = section-gives 5 componentCountRefusal toComponent componentFits 4 s (omega arith) (a .1) in
     let v = section-gives 4 (limitRefusal maxCouplings) toCoupling (couplingFits (a .0 .records)) 8 (c .0 .rest) (omega arith) (d .1) in

@@ -8,6 +8,7 @@ use Rattle.definition.specs.Bytes.{Bytes, ok}
 use Rattle.definition.specs.Limits.{maxComponents, maxRules, maxCouplings}
 use Rattle.definition.specs.Model.{atomics}
 use Rattle.definition.specs.Pinned.Decoder.{accepted}
+use Rattle.law_base.specs.Ranges.{rangesOf}
 use Rattle.law_bytes.proofs.Slices.{all-bytes}
 use Rattle.law_model.proofs.WellFormed.{Accepted}
 use Rattle.law_model.proofs.Reading.{accepted-sound}
@@ -35,10 +36,10 @@ module _ (file : Bytes) (n : Counts) (bytes : (i : ℕ) → getD file i 0 < 256)
 
   -- the tables, by what the code has: the parts, and what was filled from them
   pub tables-filled : (cs rs ks : Bytes) (t : List ℕ) → cs ≡ componentsPart file n → rs ≡ rulesPart file n → ks ≡ couplingsPart file n
-      → t ≡ filled (componentsIn cs) (rulesIn rs) (couplingsIn ks) → TablesOf (modelOf file n) t
+      → t ≡ filled (componentsIn cs) (rulesIn rs) (couplingsIn ks) (rangesOf (n .«half_open»)) → TablesOf (modelOf file n) t
   unfolding modelOf modelIn
   tables-filled cs rs ks t p q r e =
-      let f : t ≡ filled (componentsIn (componentsPart file n)) (rulesIn (rulesPart file n)) (couplingsIn (couplingsPart file n)) = rw (p, q, r) at e in
+      let f : t ≡ filled (componentsIn (componentsPart file n)) (rulesIn (rulesPart file n)) (couplingsIn (couplingsPart file n)) (rangesOf (n .«half_open»)) = rw (p, q, r) at e in
       subst (TablesOf (modelOf file n)) (sym f) (tables-of (modelOf file n) (fine .sound))
 
   -- the words of the links, of the parts as they were cut

@@ -22,6 +22,7 @@ fn fill(file: &[u8], n: Counts, targets: &[u16; LINKS], tables: &mut [u16; TABLE
         model_file::components_of(file, n),
         model_file::rules_of(file, n),
         model_file::couplings_of(file, n),
+        n.half_open,
         targets,
         tables,
     );

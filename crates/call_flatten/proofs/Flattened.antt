@@ -16,7 +16,7 @@ use Rattle.definition.specs.Flatten.{flat, flatten}
 use Rattle.model_records.specs.Values.{componentsIn, phasesIn, rulesIn, modelIn}
 use Rattle.model_file.specs.Checked.{componentsPart, phasesPart, rulesPart, modelOf}
 use Rattle.model_file.specs.declared.Counts.{Counts}
-use Rattle.spec_step.specs.Tables.{atomicsIn}
+use Rattle.spec_step.specs.Tables.{atomicsIn, rangesIn}
 use Rattle.accept_tables.proofs.Accepted.{fine, few-records}
 use Rattle.law_model.proofs.WellFormed.{Accepted}
 use Rattle.law_model.proofs.Answers.{flatten-model, flatten-done}
@@ -24,7 +24,7 @@ use Rattle.law_model.proofs.Answers as Answers
 use Rattle.flat_rows.specs.Rows.{probeRows}
 use Rattle.flat_rows.specs.Put.{CanProbe}
 use Rattle.flat_rows.proofs.ProbeRows.{rows-sorted, rows-many}
-use Rattle.flat_writer.specs.Written.{flatBy}
+use Rattle.flat_writer.specs.Written.{flatBy, rangesSize}
 use Rattle.flat_writer.proofs.Sections.{flat-length}
 use Rattle.flat_writer.proofs.FlatBy.{flat-by}
 use Rattle.sort.proofs.Fronts.{length-sort}
@@ -40,7 +40,7 @@ flatIn file n t rows = flatBy (componentsIn (componentsPart file n)) (phasesIn (
 
 -- Its size, with so many rows.
 abbrev pub sizeIn : Bytes → Counts → List ℕ → ℕ → ℕ
-sizeIn file n t count = 13 + 5 * atomicsIn t + 18 * length (phasesIn (phasesPart file n)) + 18 * length (rulesIn (rulesPart file n)) + 4 * count
+sizeIn file n t count = 13 + 5 * atomicsIn t + 18 * length (phasesIn (phasesPart file n)) + 18 * length (rulesIn (rulesPart file n)) + 4 * count + rangesSize (rangesIn t)
 
 module _ (file : Bytes) (n : Counts) (bytes : (i : ℕ) → getD file i 0 < 256) (t : List ℕ) (room : ℕ) (can : CanFlatten file n t room) where
   abbrev m : Model

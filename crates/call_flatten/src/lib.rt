@@ -36,7 +36,7 @@ fn find_flat(file: &[u8], n: Counts, tables: &[u16; TABLE_SIZE], rows: &mut [u32
     let count = flat_rows::flat_rows(tables, atomics, rows);
     Found {
         rows: count,
-        size: flat_writer::flat_size(phases, rules, atomics, count),
+        size: flat_writer::flat_size(phases, rules, tables, atomics, count),
     }
 }
 

@@ -6,7 +6,7 @@ use Prim.Native.Nat.{ℕ, _≤_, _<_}
 use lib.ListN.{length, getD}
 use Rattle.definition.specs.Bytes.{Bytes, ok}
 use Rattle.definition.specs.Limits.{maxComponents}
-use Rattle.definition.specs.Model.{atomics, phaseAt}
+use Rattle.definition.specs.Model.{RangeReading, atomics, phaseAt}
 use Rattle.definition.specs.Pinned.Decoder.{accepted}
 use Rattle.definition.specs.Atomic.{advanceOf}
 use Rattle.definition.specs.SavedRun.{Entry, atomicCount, runOf, dueOf, entryFits, entriesFit, runFits}
@@ -24,17 +24,17 @@ unfolding modelOf modelIn
 few-components file n h e = accepted-sound file (modelOf file n) (all-bytes file h) (sym e) .sound .components .few
 
 -- A run is judged by components and phases alone.
-module _ (components phases rules couplings : Bytes) where
-  entries-alone : (o : ℕ) (cs : List ℕ) (rs : List Entry) → entriesFit (bare components phases) o cs rs ≡ entriesFit (modelIn components phases rules couplings) o cs rs
+module _ (components phases rules couplings : Bytes) (ranges : RangeReading) where
+  entries-alone : (o : ℕ) (cs : List ℕ) (rs : List Entry) → entriesFit (bare components phases) o cs rs ≡ entriesFit (modelIn components phases rules couplings ranges) o cs rs
   unfolding entriesFit entryFits dueOf advanceOf phaseAt bare modelIn
   entries-alone o [] rs = refl
   entries-alone o (c ∷ cs) [] = refl
-  entries-alone o (c ∷ cs) (r ∷ rs) = ap (λ b. entryFits (modelIn components phases rules couplings) o c r && b) (entries-alone o cs rs)
+  entries-alone o (c ∷ cs) (r ∷ rs) = ap (λ b. entryFits (modelIn components phases rules couplings ranges) o c r && b) (entries-alone o cs rs)
 
-  fits-alone : (s : Bytes) → runFits (bare components phases) s ≡ runFits (modelIn components phases rules couplings) s
+  fits-alone : (s : Bytes) → runFits (bare components phases) s ≡ runFits (modelIn components phases rules couplings ranges) s
   unfolding runFits runOf atomicCount bare modelIn
   fits-alone s = rw (entries-alone _ (atomics (componentsIn components)) _)
 
 pub fits-file : (file s : Bytes) (n : Counts) → runFits (bare (componentsPart file n) (phasesPart file n)) s ≡ runFits (modelOf file n) s
 unfolding modelOf
-fits-file file s n = fits-alone (componentsPart file n) (phasesPart file n) _ _ s
+fits-file file s n = fits-alone (componentsPart file n) (phasesPart file n) _ _ _ s

@@ -18,3 +18,4 @@ pub mod TraceTable
 pub mod ColumnTable
 pub mod BagTable
 pub mod FeedTable
+pub mod RangeTable

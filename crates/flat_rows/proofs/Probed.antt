@@ -34,7 +34,7 @@ before-most (k ∷ cs) (suc c) = let h = before-most cs c in omega arith
 
 module _ (m : Model) where
   abbrev pub probed : Model
-  probed = record { components = m .components; phases = replicate (phaseTotal (m .components)) noPhase ++ probes; rules = m .rules; couplings = m .couplings }
+  probed = record { components = m .components; phases = replicate (phaseTotal (m .components)) noPhase ++ probes; rules = m .rules; couplings = m .couplings; ranges = m .ranges }
 
   abbrev pub probeEntry : ℕ → Entry
   probeEntry c = record { phase = phaseTotal (m .components) - phasesBefore (m .components) c + c; last = 0 }

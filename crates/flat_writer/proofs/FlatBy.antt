@@ -65,4 +65,4 @@ module _ (m : Model) (w : WellFormed m) (t : List ℕ) (h : Tabled m t) where
       go : componentsBy (m .components) t (length (atomics (m .components))) ≡ flatComponents (m .components)
           → map (ruleBy t) (m .rules) ≡ map (flatRule (m .components)) (m .rules) → map couplingOf rows ≡ flat m .couplings
           → flatBy (m .components) (m .phases) (m .rules) t (length (atomics (m .components))) rows ≡ flat m
-      go a b c = unfold flatBy flat in (λ i. record { components = a i; phases = m .phases; rules = b i; couplings = c i })
+      go a b c = unfold flatBy flat in (λ i. record { components = a i; phases = m .phases; rules = b i; couplings = c i; ranges = h .ranges i })

@@ -2,27 +2,30 @@
 use mathlib.Core.Path.{_≡_, refl, sym, ap, ap₂, _∙_}
 use Prim.Native.Nat.{ℕ, suc, _+_, _*_, _/_, _%_, _≤_, _<_}
 use mathlib.Core.List.{List, [], _∷_, _++_, map, append-assoc}
+use mathlib.Core.Bool.{not}
 use native.Mathlib.Omega.{arith}
+use borrow.Author.Tests.{eq-eqb, ne-eqb}
 use lib.ListN.{length, getD, take, drop, set, length-map, length-append, length-take, length-drop}
 use lib.Seq.{sets, getD-take, length-take-le}
 use Rattle.definition.specs.Lists.{concat, upFrom}
 use Rattle.definition.specs.Bytes.{Bytes, AllBytes, numberAt, bytesOf, stored, laidOut}
-use Rattle.definition.specs.Limits.{ruleSize, phaseSize}
-use Rattle.definition.specs.Model.{Component, Phase, Rule, noComponent, noRule, componentAt}
+use Rattle.definition.specs.Limits.{halfOpenByte, countSize, ruleSize, phaseSize}
+use Rattle.definition.specs.Model.{Component, Phase, Rule, RangeReading, inclusive, halfOpen, noComponent, noRule, componentAt}
 use Rattle.definition.specs.Records.{componentBytes, phaseBytes, ruleBytes, couplingBytes}
-use Rattle.definition.specs.File.{sectionBytes, modelBytes}
+use Rattle.definition.specs.File.{sectionBytes, rangesBytes, modelBytes}
 use Rattle.definition.specs.Pinned.Decoder.{toPhase, toRule}
 use Rattle.law_base.proofs.Lists.{getD-map, length-up}
+use Rattle.law_base.specs.Ranges.{rangesOf}
 use Rattle.law_bytes.specs.Parts.{recordsIn, row}
 use Rattle.law_bytes.proofs.Records.{length-records, record-in}
 use Rattle.model_records.specs.Values.{phasesIn, rulesIn}
 use Rattle.law_model.proofs.Codec.{length-bytes}
-use Rattle.spec_step.specs.Tables.{numbersAt}
+use Rattle.spec_step.specs.Tables.{numbersAt, rangesAt, rangesIn}
 use Rattle.law_step.proofs.Positions.{getD-up}
 use Rattle.law_stores.proofs.Stores.{sets-append, sets-front}
 use Rattle.flat_ranks.specs.Ranks.{rankOf}
 use Rattle.law_base.specs.Keys.{couplingOf}
-use Rattle.flat_writer.specs.Written.{numbersIn, underRoot, atomicsBy, componentsBy, ruleBy, flatBy}
+use Rattle.flat_writer.specs.Written.{numbersIn, underRoot, atomicsBy, componentsBy, ruleBy, flatBy, rangesSize}
 use Rattle.flat_writer.proofs.Pieces.{phases-copied, rule-copied}
 use Rattle.law_model.proofs.Writing.{component-size, phase-size, rule-size, coupling-size, section-length}
 
@@ -145,6 +148,22 @@ rule-puts t r at b l h =
     ap (λ k. sets (sets b at x) (at + k) (take 17 (drop 1 r))) (sym (length-bytes 1 (rankOf t (numberAt 1 0 r))))
     ∙ sym (sets-append x (take 17 (drop 1 r)) b at) ∙ ap (sets b at) (sym (rule-copied t l h))
 
+-- the fifth section, where there is one
+pub ranges-open : (t : List ℕ) → (getD t rangesAt 0 ≡ 0 → ⊥) → rangesIn t ≡ halfOpen
+ranges-open t h = ap (λ b. rangesOf (not b)) (ne-eqb (getD t rangesAt 0) 0 h)
+
+pub ranges-closed : (t : List ℕ) → getD t rangesAt 0 ≡ 0 → rangesIn t ≡ inclusive
+ranges-closed t h = ap (λ b. rangesOf (not b)) (eq-eqb (getD t rangesAt 0) 0 h)
+
+ranges-length : (r : RangeReading) → length (rangesBytes r) ≡ rangesSize r
+unfolding rangesBytes sectionBytes bytesOf concat
+ranges-length inclusive = refl
+ranges-length halfOpen = refl
+
+pub ranges-puts : (at : ℕ) (b : Bytes) → set (sets b at (bytesOf countSize 1)) (at + countSize) halfOpenByte ≡ sets b at (rangesBytes halfOpen)
+unfolding rangesBytes concat bytesOf
+ranges-puts at b = section-puts (bytesOf 1) (halfOpenByte ∷ []) 1 at b refl
+
 -- ---- the whole
 
 module _ (cs : List Component) (ps : List Phase) (rs : List Rule) (t : List ℕ) (n : ℕ) (rows : List ℕ) where
@@ -160,11 +179,16 @@ module _ (cs : List Component) (ps : List Phase) (rs : List Rule) (t : List ℕ)
   fourth : Bytes
   fourth = sectionBytes couplingBytes (map couplingOf rows)
 
-  whole : modelBytes (flatBy cs ps rs t n rows) ≡ first ++ (second ++ (third ++ fourth))
-  whole = parts ∙ append-assoc (first ++ second) third fourth ∙ append-assoc first second (third ++ fourth)
+  fifth : Bytes
+  fifth = rangesBytes (rangesIn t)
+
+  whole : modelBytes (flatBy cs ps rs t n rows) ≡ first ++ (second ++ (third ++ (fourth ++ fifth)))
+  whole =
+      parts ∙ append-assoc (first ++ second ++ third) fourth fifth ∙ append-assoc (first ++ second) third (fourth ++ fifth)
+      ∙ append-assoc first second (third ++ (fourth ++ fifth))
     where
-      parts : modelBytes (flatBy cs ps rs t n rows) ≡ first ++ second ++ third ++ fourth
-      parts = unfold modelBytes flatBy first second third fourth in refl
+      parts : modelBytes (flatBy cs ps rs t n rows) ≡ first ++ second ++ third ++ fourth ++ fifth
+      parts = unfold modelBytes flatBy first second third fourth fifth in refl
 
   first-length : length first ≡ 7 + 5 * n
   unfolding first componentsBy
@@ -182,36 +206,49 @@ module _ (cs : List Component) (ps : List Phase) (rs : List Rule) (t : List ℕ)
   unfolding fourth
   fourth-length = section-length 4 couplingBytes coupling-size (map couplingOf rows) ∙ omega (arith, length-map rows couplingOf)
 
-  pub flat-length : length (modelBytes (flatBy cs ps rs t n rows)) ≡ 13 + 5 * n + 18 * length ps + 18 * length rs + 4 * length rows
+  fifth-length : length fifth ≡ rangesSize (rangesIn t)
+  unfolding fifth
+  fifth-length = ranges-length (rangesIn t)
+
+  pub flat-length : length (modelBytes (flatBy cs ps rs t n rows)) ≡ 13 + 5 * n + 18 * length ps + 18 * length rs + 4 * length rows + rangesSize (rangesIn t)
   flat-length =
       ap length whole
       ∙ omega (
         arith,
-        length-append first (second ++ (third ++ fourth)),
-        length-append second (third ++ fourth),
-        length-append third fourth,
+        length-append first (second ++ (third ++ (fourth ++ fifth))),
+        length-append second (third ++ (fourth ++ fifth)),
+        length-append third (fourth ++ fifth),
+        length-append fourth fifth,
         first-length,
         second-length,
         third-length,
         fourth-length,
+        fifth-length,
       )
 
-  pub flat-puts : (b : Bytes) → 13 + 5 * n + 18 * length ps + 18 * length rs + 4 * length rows ≤ length b
-      → sets (sets (sets (sets b 0 (sectionBytes componentBytes (componentsBy cs t n))) (7 + 5 * n) (sectionBytes phaseBytes ps)) (7 + 5 * n + 2 + 18 * length ps) (sectionBytes ruleBytes (map (ruleBy t) rs)))
-      (7 + 5 * n + 2 + 18 * length ps + 2 + 18 * length rs) (sectionBytes couplingBytes (map couplingOf rows))
+  pub flat-puts : (b : Bytes) (count : ℕ) → count ≡ length rows → 13 + 5 * n + 18 * length ps + 18 * length rs + 4 * length rows + rangesSize (rangesIn t) ≤ length b
+      → sets (sets (sets (sets (sets b 0 (sectionBytes componentBytes (componentsBy cs t n))) (7 + 5 * n) (sectionBytes phaseBytes ps)) (7 + 5 * n + 2 + 18 * length ps) (sectionBytes ruleBytes (map (ruleBy t) rs)))
+      (7 + 5 * n + 2 + 18 * length ps + 2 + 18 * length rs) (sectionBytes couplingBytes (map couplingOf rows)))
+      (7 + 5 * n + 2 + 18 * length ps + 2 + 18 * length rs + 2 + 4 * count) (rangesBytes (rangesIn t))
       ≡ stored (modelBytes (flatBy cs ps rs t n rows)) b
-  flat-puts b l =
+  flat-puts b count e l =
       sym (sym (sets-front b (modelBytes (flatBy cs ps rs t n rows)) (omega (arith, flat-length)))
       ∙ ap (sets b 0) whole
-      ∙ sets-append first (second ++ (third ++ fourth)) b 0
-      ∙ ap (λ k. sets (sets b 0 first) k (second ++ (third ++ fourth))) (omega (arith, first-length))
-      ∙ sets-append second (third ++ fourth) (sets b 0 first) (7 + 5 * n)
-      ∙ ap (λ k. sets (sets (sets b 0 first) (7 + 5 * n) second) k (third ++ fourth)) (omega (arith, second-length))
-      ∙ sets-append third fourth (sets (sets b 0 first) (7 + 5 * n) second) (7 + 5 * n + 2 + 18 * length ps)
-      ∙ ap (λ k. sets (sets (sets (sets b 0 first) (7 + 5 * n) second) (7 + 5 * n + 2 + 18 * length ps) third) k fourth) (omega (arith, third-length))
+      ∙ sets-append first (second ++ (third ++ (fourth ++ fifth))) b 0
+      ∙ ap (λ k. sets (sets b 0 first) k (second ++ (third ++ (fourth ++ fifth)))) (omega (arith, first-length))
+      ∙ sets-append second (third ++ (fourth ++ fifth)) (sets b 0 first) (7 + 5 * n)
+      ∙ ap (λ k. sets (sets (sets b 0 first) (7 + 5 * n) second) k (third ++ (fourth ++ fifth))) (omega (arith, second-length))
+      ∙ sets-append third (fourth ++ fifth) (sets (sets b 0 first) (7 + 5 * n) second) (7 + 5 * n + 2 + 18 * length ps)
+      ∙ ap (λ k. sets three k (fourth ++ fifth)) (omega (arith, third-length))
+      ∙ sets-append fourth fifth three (7 + 5 * n + 2 + 18 * length ps + 2 + 18 * length rs)
+      ∙ ap (λ k. sets (sets three (7 + 5 * n + 2 + 18 * length ps + 2 + 18 * length rs) fourth) k fifth) (omega (arith, fourth-length, e))
       ∙ named)
     where
-      named : sets (sets (sets (sets b 0 first) (7 + 5 * n) second) (7 + 5 * n + 2 + 18 * length ps) third) (7 + 5 * n + 2 + 18 * length ps + 2 + 18 * length rs) fourth
-          ≡ sets (sets (sets (sets b 0 (sectionBytes componentBytes (componentsBy cs t n))) (7 + 5 * n) (sectionBytes phaseBytes ps)) (7 + 5 * n + 2 + 18 * length ps) (sectionBytes ruleBytes (map (ruleBy t) rs)))
-          (7 + 5 * n + 2 + 18 * length ps + 2 + 18 * length rs) (sectionBytes couplingBytes (map couplingOf rows))
-      named = unfold first second third fourth in refl
+      three : Bytes
+      three = sets (sets (sets b 0 first) (7 + 5 * n) second) (7 + 5 * n + 2 + 18 * length ps) third
+
+      named : sets (sets three (7 + 5 * n + 2 + 18 * length ps + 2 + 18 * length rs) fourth) (7 + 5 * n + 2 + 18 * length ps + 2 + 18 * length rs + 2 + 4 * count) fifth
+          ≡ sets (sets (sets (sets (sets b 0 (sectionBytes componentBytes (componentsBy cs t n))) (7 + 5 * n) (sectionBytes phaseBytes ps)) (7 + 5 * n + 2 + 18 * length ps) (sectionBytes ruleBytes (map (ruleBy t) rs)))
+          (7 + 5 * n + 2 + 18 * length ps + 2 + 18 * length rs) (sectionBytes couplingBytes (map couplingOf rows)))
+          (7 + 5 * n + 2 + 18 * length ps + 2 + 18 * length rs + 2 + 4 * count) (rangesBytes (rangesIn t))
+      named = unfold first second third fourth fifth in refl

@@ -5,10 +5,11 @@ use mathlib.Core.List.{List, _∷_, map}
 use lib.ListN.{length, getD}
 use Rattle.definition.specs.Lists.{upFrom}
 use Rattle.definition.specs.Bytes.{Bytes, stored}
+use Rattle.definition.specs.Limits.{fifthSize}
 use Rattle.definition.specs.File.{modelBytes}
-use Rattle.definition.specs.Model.{Component, Phase, Rule, Model, noComponent, componentAt}
+use Rattle.definition.specs.Model.{Component, Phase, Rule, RangeReading, inclusive, halfOpen, Model, noComponent, componentAt}
 use Rattle.model_records.specs.Values.{componentsIn, phasesIn, rulesIn}
-use Rattle.spec_step.specs.Tables.{numbersAt}
+use Rattle.spec_step.specs.Tables.{numbersAt, rangesIn}
 use Rattle.law_base.specs.Keys.{couplingOf}
 use Rattle.flat_ranks.specs.Ranks.{rankOf}
 
@@ -40,11 +41,15 @@ ruleBy t k = record {
 }
 
 unfoldable pub flatBy : List Component → List Phase → List Rule → List ℕ → ℕ → List ℕ → Model
-flatBy cs ps rs t n rows = record { components = componentsBy cs t n; phases = ps; rules = map (ruleBy t) rs; couplings = map couplingOf rows }
+flatBy cs ps rs t n rows = record { components = componentsBy cs t n; phases = ps; rules = map (ruleBy t) rs; couplings = map couplingOf rows; ranges = rangesIn t }
 
--- Its bytes at the front of a buffer, and how many they are.
+-- Its bytes at the front of a buffer, and how many they are: a fifth section stands where the model has one.
 abbrev pub flatWritten : Bytes → Bytes → Bytes → List ℕ → ℕ → List ℕ → Bytes → Bytes
 flatWritten components phases rules t n rows out = stored (modelBytes (flatBy (componentsIn components) (phasesIn phases) (rulesIn rules) t n rows)) out
 
-abbrev pub flatSize : Bytes → Bytes → ℕ → ℕ → ℕ
-flatSize phases rules n count = 13 + 5 * n + 18 * length (phasesIn phases) + 18 * length (rulesIn rules) + 4 * count
+abbrev pub rangesSize : RangeReading → ℕ
+rangesSize inclusive = 0
+rangesSize halfOpen = fifthSize
+
+abbrev pub flatSize : Bytes → Bytes → List ℕ → ℕ → ℕ → ℕ
+flatSize phases rules t n count = 13 + 5 * n + 18 * length (phasesIn phases) + 18 * length (rulesIn rules) + 4 * count + rangesSize (rangesIn t)

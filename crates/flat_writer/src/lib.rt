@@ -5,17 +5,20 @@ ghost use Prim.Native.Nat.{_+_, _*_, _≤_};
 ghost use lib.ListN.{length, take};
 ghost use lib.Seq.{sets};
 ghost use Rattle.definition.specs.Lists.{concat};
-ghost use Rattle.definition.specs.Limits.{maxPhases, maxRules, maxRoutes, ruleSize};
+ghost use Rattle.definition.specs.Limits.{maxPhases, maxRules, maxRoutes, ruleSize, fifthSize};
 ghost use Rattle.definition.specs.Records.{componentBytes, phaseBytes, ruleBytes, couplingBytes};
-ghost use Rattle.definition.specs.File.{sectionBytes};
+ghost use Rattle.definition.specs.File.{sectionBytes, rangesBytes};
 ghost use Rattle.definition.specs.Pinned.Decoder.{toRule};
 ghost use Rattle.model_records.specs.Values.{componentOf, componentsIn, phasesIn, rulesIn};
 ghost use Rattle.law_base.specs.Keys.{couplingOf};
-ghost use Rattle.flat_writer.specs.Written.{underRoot, atomicsBy, componentsBy, ruleBy, flatWritten, flatSize};
+ghost use Rattle.spec_step.specs.Tables.{rangesIn};
+ghost use Rattle.flat_writer.specs.Written.{underRoot, atomicsBy, componentsBy, ruleBy, flatWritten, rangesSize, flatSize};
 use flat_ranks::rank_of;
 use limits::COMPONENT_SIZE;
 use limits::COUNT_SIZE;
 use limits::COUPLING_SIZE;
+use limits::FIFTH_SIZE;
+use limits::HALF_OPEN_BYTE;
 use limits::PHASE_SIZE;
 use limits::RULE_SIZE;
 use little_endian::byte_at;
@@ -28,6 +31,7 @@ use model_records::component_at;
 use model_records::phase_count;
 use model_records::rule_count;
 use table_words::NUMBERS_AT;
+use table_words::RANGES_AT;
 use table_words::word_at;
 use widen::u8_to_u32;
 use widen::u8_to_usize;
@@ -148,18 +152,41 @@ fn put_rows(rows: &[u32], n: usize, out: &mut [u8], at: usize)
     put_row_list(rows, n, out, at + COUNT_SIZE);
 }
 
+// ---- the fifth section, where the model has one
+
+fn ranges_size(tables: &[u16]) -> usize
+    ensures { λ r. ⌜ (r ≡ rangesSize (rangesIn (now (tables .entry)))) × (r ≤ fifthSize) ⌝ }
+{
+    if word_at(tables, RANGES_AT) != 0 {
+        FIFTH_SIZE
+    } else {
+        0
+    }
+}
+
+fn put_ranges(tables: &[u16], out: &mut [u8], at: usize)
+    requires { ⌜ at + rangesSize (rangesIn (now tables)) ≤ length (now out) ⌝ }
+    ensures { λ _. ⌜ now (out .exit) ≡ sets (now (out .entry)) at (rangesBytes (rangesIn (now (tables .entry)))) ⌝ }
+{
+    if word_at(tables, RANGES_AT) != 0 {
+        put_number(out, at, COUNT_SIZE, 1);
+        out[at + COUNT_SIZE] = HALF_OPEN_BYTE;
+    }
+}
+
 // ---- the whole
 
 // How many bytes the flat form has.
-pub fn flat_size(phases: &[u8], rules: &[u8], n: u8, count: usize) -> usize
+pub fn flat_size(phases: &[u8], rules: &[u8], tables: &[u16], n: u8, count: usize) -> usize
     requires { ⌜ (length (phasesIn (now phases)) ≤ maxPhases) × (length (rulesIn (now rules)) ≤ maxRules) × (count ≤ maxRoutes) ⌝ }
-    ensures { λ r. ⌜ r ≡ flatSize (now (phases .entry)) (now (rules .entry)) n count ⌝ }
+    ensures { λ r. ⌜ r ≡ flatSize (now (phases .entry)) (now (rules .entry)) (now (tables .entry)) n count ⌝ }
 {
     13
         + COMPONENT_SIZE * u8_to_usize(n)
         + PHASE_SIZE * phase_count(phases)
         + RULE_SIZE * rule_count(rules)
         + COUPLING_SIZE * count
+        + ranges_size(tables)
 }
 
 pub fn put_flat(
@@ -172,7 +199,7 @@ pub fn put_flat(
     count: usize,
     out: &mut [u8],
 )
-    requires { ⌜ (count ≤ length (now rows)) × (flatSize (now phases) (now rules) n count ≤ length (now out)) ⌝ }
+    requires { ⌜ (count ≤ length (now rows)) × (flatSize (now phases) (now rules) (now tables) n count ≤ length (now out)) ⌝ }
     ensures { λ _. ⌜ now (out .exit) ≡ flatWritten (now (components .entry)) (now (phases .entry)) (now (rules .entry)) (now (tables .entry)) n
         (take count (now (rows .entry))) (now (out .entry)) ⌝ }
 {
@@ -183,4 +210,6 @@ pub fn put_flat(
     put_rules(rules, tables, out, third);
     let fourth = third + COUNT_SIZE + RULE_SIZE * rule_count(rules);
     put_rows(rows, count, out, fourth);
+    let fifth = fourth + COUNT_SIZE + COUPLING_SIZE * count;
+    put_ranges(tables, out, fifth);
 }

@@ -7,7 +7,7 @@ use lib.ListN.{drop, getD, length}
 use Rattle.definition.specs.Lists.{concat, upFrom}
 use Rattle.definition.specs.Bytes.{Bytes}
 use Rattle.definition.specs.Limits.{headSize, entrySize, maxComponents}
-use Rattle.definition.specs.Model.{Component, Model, componentAt, atomics}
+use Rattle.definition.specs.Model.{Component, Model, inclusive, componentAt, atomics}
 use Rattle.definition.specs.SavedRun.{Entry, Run, toEntry, toRun, entryBytes, runOf, entriesFit}
 use Rattle.law_bytes.specs.Parts.{row}
 use Rattle.model_records.specs.Values.{modelIn}
@@ -17,7 +17,7 @@ use Rattle.run_saved.specs.declared.Entry as E
 
 -- A run is judged by a model's components and phases alone.
 unfoldable pub bare : Bytes → Bytes → Model
-bare components phases = modelIn components phases [] []
+bare components phases = modelIn components phases [] [] inclusive
 
 abbrev pub entryOf : E.Entry → Entry
 entryOf e = record { phase = e .phase; last = e .last .0 }

@@ -6,7 +6,7 @@ ghost use Prim.Native.Nat.{_+_, _*_, _/_, _≤_, _<_, min};
 ghost use lib.ListN.{length, getD};
 ghost use Rattle.definition.specs.Limits.{ruleSize, maxAtomicBag};
 ghost use Rattle.definition.specs.Lists.{count};
-ghost use Rattle.definition.specs.Atomic.{withinElapsed, meets, holds};
+ghost use Rattle.definition.specs.Atomic.{upToEnd, withinElapsed, meets, holds};
 ghost use Rattle.model_records.specs.Values.{ruleOf, rulesIn};
 ghost use Rattle.law_base.specs.Keys.{messageOf};
 ghost use Rattle.law_base.specs.Ranges.{rangesOf};
@@ -61,18 +61,22 @@ fn count_meeting(rule: Rule, bag: &[u32]) -> u16
     count_between(bag, port + rule.low as u32, port + rule.high as u32)
 }
 
+// Up to the high end of a range, or short of it.
+fn up_to_end(elapsed: Elapsed, high: u64) -> bool
+    ensures { λ r. ⌜ r ≡ upToEnd (rangesOf (elapsed .«half_open»)) (elapsed .time .0) high ⌝ }
+{
+    if elapsed.half_open {
+        return elapsed.time.0 < high;
+    }
+    elapsed.time.0 <= high
+}
+
 fn within_elapsed(rule: Rule, elapsed: Elapsed) -> bool
     ensures { λ r. ⌜ r ≡ withinElapsed (rangesOf (elapsed .«half_open»)) (ruleOf rule) (elapsed .time .0) ⌝ }
 {
     let low = u32_to_u64(rule.low_elapsed);
     let high = u32_to_u64(rule.high_elapsed);
-    let time = elapsed.time.0;
-    let before_end = if elapsed.half_open {
-        time < high
-    } else {
-        time <= high
-    };
-    (low <= time) & (before_end | (rule.high_elapsed == NEVER_FIELD))
+    (low <= elapsed.time.0) & (up_to_end(elapsed, high) | (rule.high_elapsed == NEVER_FIELD))
 }
 
 // No two bytes make this number.

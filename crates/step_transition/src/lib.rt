@@ -15,11 +15,13 @@ use clock::Stay;
 use limits::NO_POSITION;
 use run_state::STATE_SIZE;
 use step_due::phase_in;
+use step_rule::Elapsed;
 use step_rule::Found;
 use table_words::ORDERS_AT;
 use table_words::RULES_FROM_AT;
 use table_words::RULES_TO_AT;
 use table_words::TABLE_SIZE;
+use table_words::half_open_in;
 use table_words::row_in;
 use widen::u8_to_u32;
 use widen::u8_to_usize;
@@ -93,7 +95,11 @@ fn decided(
 {
     let first = row_in(tables, RULES_FROM_AT, c);
     let end = row_in(tables, RULES_TO_AT, c);
-    let Found::At(i) = step_rule::deciding(rules, first, end, c, p, elapsed, bag) else {
+    let reading = Elapsed {
+        time: elapsed,
+        half_open: half_open_in(tables),
+    };
+    let Found::At(i) = step_rule::deciding(rules, first, end, c, p, reading, bag) else {
         return NOWHERE + told(NO_POSITION, 0);
     };
     told(i, next_by(rules, i))

@@ -11,9 +11,10 @@ use lib.Seq.{getD-set-same, getD-set-other}
 use lib.Dec.{eqb}
 use Rattle.definition.specs.Limits.{maxComponents, maxCouplings}
 use Rattle.definition.specs.Lists.{keep}
-use Rattle.definition.specs.Model.{Component, Rule, Coupling, noCoupling, atomics, children}
+use Rattle.definition.specs.Model.{Component, Rule, Coupling, RangeReading, inclusive, halfOpen, noCoupling, atomics, children}
+use Rattle.law_base.specs.Ranges.{rangesOf}
 use Rattle.law_routes.specs.Nodes.{portNodes, sourceNumber, targetNumber}
-use Rattle.spec_step.specs.Tables.{numbersAt, rulesFromAt, rulesToAt, childAt, siblingAt, firstAt, liveAt, nextAt, sourceAt, countAt, atomicsAt, tableSize, atomicsIn, chainRows, childRows}
+use Rattle.spec_step.specs.Tables.{numbersAt, rulesFromAt, rulesToAt, childAt, siblingAt, firstAt, liveAt, nextAt, sourceAt, countAt, atomicsAt, rangesAt, tableSize, atomicsIn, rangesIn, chainRows, childRows}
 use Rattle.spec_step.specs.Tabled.{isLive}
 use Rattle.table_words.specs.Writes.{column, linked}
 use Rattle.table_words.proofs.Columns.{Within, within-both, within-set, column-within}
@@ -24,13 +25,13 @@ use Rattle.table_couplings.specs.declared.End.the-variants.{Source, Target}
 use Rattle.table_couplings.specs.Links.{linkEnd, zeros, begun, sourceFlag, spreadUp, spreadDown, byLink, byCoupling}
 use Rattle.table_couplings.proofs.Begun.{zeros-long, zeros-at, begun-within, begun-at}
 use Rattle.table_couplings.proofs.Order.{up-within}
-use Rattle.table_fill.specs.Filled.{filled}
+use Rattle.table_fill.specs.Filled.{rangesWord, filled}
 use Rattle.table_fill.proofs.Rows.{components-within}
 use Rattle.table_fill.proofs.Ranges.{starts-within, ends-within, starts-right, ends-right, ends-in}
 use Rattle.table_fill.proofs.Links.{linked-rows, child-links, coupling-links}
 use Rattle.table_fill.proofs.Live.{nodes, down-within}
 
-module _ (cs : List Component) (rs : List Rule) (ks : List Coupling) (few : length cs ≤ maxComponents) (short : length ks ≤ maxCouplings) where
+module _ (cs : List Component) (rs : List Rule) (ks : List Coupling) (ranges : RangeReading) (few : length cs ≤ maxComponents) (short : length ks ≤ maxCouplings) where
   abbrev pub t0 : List ℕ
   t0 = begun cs ks zeros
 
@@ -64,10 +65,13 @@ module _ (cs : List Component) (rs : List Rule) (ks : List Coupling) (few : leng
   abbrev counted : List ℕ
   counted = set down countAt (length cs)
 
-  abbrev pub t5 : List ℕ
-  t5 = set counted atomicsAt (length (atomics cs))
+  abbrev numbered : List ℕ
+  numbered = set counted atomicsAt (length (atomics cs))
 
-  pub is-filled : filled cs rs ks ≡ t5
+  abbrev pub t5 : List ℕ
+  t5 = set numbered rangesAt (rangesWord ranges)
+
+  pub is-filled : filled cs rs ks ranges ≡ t5
   unfolding filled byCoupling byLink
   is-filled = refl
 
@@ -116,8 +120,11 @@ module _ (cs : List Component) (rs : List Rule) (ks : List Coupling) (few : leng
 
   w5 : Within countAt tableSize down t5
   w5 =
+      let two : Within countAt tableSize down numbered
+      = within-both {a = countAt} {b = tableSize} {c = countAt} {d = tableSize} (omega arith) (omega arith) (omega arith) (omega arith)
+      (within-set down countAt (length cs) (omega arith) (omega arith)) (within-set counted atomicsAt (length (atomics cs)) (omega arith) (omega arith)) in
       within-both {a = countAt} {b = tableSize} {c = countAt} {d = tableSize} (omega arith) (omega arith) (omega arith) (omega arith)
-      (within-set down countAt (length cs) (omega arith) (omega arith)) (within-set counted atomicsAt (length (atomics cs)) (omega arith) (omega arith))
+      two (within-set numbered rangesAt (rangesWord ranges) (omega arith) (omega arith))
 
   pub l1 : length t1 ≡ tableSize
   l1 = w1 .long ∙ l0
@@ -185,10 +192,17 @@ module _ (cs : List Component) (rs : List Rule) (ks : List Coupling) (few : leng
   -- ---- counts, children, rows
 
   pub count-holds : getD t5 countAt 0 ≡ length cs
-  count-holds = getD-set-other counted atomicsAt countAt (length (atomics cs)) 0 (λ e. omega arith) ∙ getD-set-same down countAt (length cs) 0 (omega (arith, ld))
+  count-holds = getD-set-other numbered rangesAt countAt (rangesWord ranges) 0 (λ e. omega arith) ∙ getD-set-other counted atomicsAt countAt (length (atomics cs)) 0 (λ e. omega arith) ∙ getD-set-same down countAt (length cs) 0 (omega (arith, ld))
 
   pub atomics-hold : atomicsIn t5 ≡ length (atomics cs)
-  atomics-hold = getD-set-same counted atomicsAt (length (atomics cs)) 0 (omega (arith, ld, length-set down countAt (length cs)))
+  atomics-hold = getD-set-other numbered rangesAt atomicsAt (rangesWord ranges) 0 (λ e. omega arith) ∙ getD-set-same counted atomicsAt (length (atomics cs)) 0 (omega (arith, ld, length-set down countAt (length cs)))
+
+  pub ranges-hold : rangesIn t5 ≡ ranges
+  ranges-hold = ap (λ w. rangesOf (not (eqb w 0))) (getD-set-same numbered rangesAt (rangesWord ranges) 0 (omega (arith, ld, length-set down countAt (length cs), length-set counted atomicsAt (length (atomics cs))))) ∙ told ranges
+    where
+      told : (r : RangeReading) → rangesOf (not (eqb (rangesWord r) 0)) ≡ r
+      told inclusive = refl
+      told halfOpen = refl
 
   pub children-hold : 0 < length cs → (c : ℕ) → c < length cs → childRows t5 c ≡ children cs c
   unfolding childRows byParent

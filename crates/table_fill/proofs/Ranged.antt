@@ -9,7 +9,7 @@ use lib.ListN.{length, getD, set}
 use lib.Dec.{eqb, ltb}
 use borrow.Author.Tests.{eqb-true, ltb-true, ltb-false}
 use Rattle.definition.specs.Limits.{maxComponents, maxCouplings}
-use Rattle.definition.specs.Model.{Model, Component, Rule, componentAt, isAtomic, atomics}
+use Rattle.definition.specs.Model.{Model, Component, Rule, RangeReading, inclusive, halfOpen, componentAt, isAtomic, atomics}
 use Rattle.definition.specs.Pinned.Decoder.{kindFields, rootFields, componentFits}
 use Rattle.law_base.proofs.Tests.{and-right}
 use Rattle.law_model.proofs.WellFormed.{WellFormed}
@@ -18,7 +18,7 @@ use Rattle.law_nest.proofs.Components.{atomic-once}
 use Rattle.law_routes.specs.Nodes.{portNodes}
 use Rattle.law_routes.proofs.Placed.{parents}
 use Rattle.spec_step.specs.Tables.{numbersAt, positionsAt, kindsAt, ordersAt, phasesAt, parentsAt, rulesFromAt, rulesToAt, childAt, siblingAt}
-use Rattle.spec_step.specs.Tables.{firstAt, liveAt, nextAt, sourceAt, countAt, atomicsAt, atomicAt}
+use Rattle.spec_step.specs.Tables.{firstAt, liveAt, nextAt, sourceAt, countAt, atomicsAt, rangesAt, atomicAt}
 use Rattle.spec_step.specs.Ranges.{maxNodes, InRange, Seated}
 use Rattle.spec_step.specs.Tabled.{Tabled, isLive}
 use Rattle.spec_step.specs.TablesOf.{TablesOf}
@@ -32,7 +32,7 @@ use Rattle.table_couplings.specs.declared.End.the-variants.{Source, Target}
 use Rattle.table_couplings.proofs.Begun.{zeros-at}
 use Rattle.table_couplings.proofs.Nodes.{src-in}
 use Rattle.table_couplings.specs.Links.{zeros, begun, linkEnd, sourceFlag, spread, spreadUp, spreadDown, byLink, byCoupling}
-use Rattle.table_fill.specs.Filled.{filled}
+use Rattle.table_fill.specs.Filled.{rangesWord, filled}
 use Rattle.table_fill.proofs.Allowed.{Allowed, none, small, free, linking, kin, begin, total}
 use Rattle.table_fill.proofs.Holding as H
 use Rattle.table_fill.proofs.Tables.{tables-hold}
@@ -187,7 +187,7 @@ module _ (cs : List Component) (few : length cs ≤ maxComponents) where
 -- ---- the filled tables of a sound model
 
 module _ (m : Model) (w : WellFormed m) where
-  words-filled : Words (m .components) (w .components .few) (filled (m .components) (m .rules) (m .couplings))
+  words-filled : Words (m .components) (w .components .few) (filled (m .components) (m .rules) (m .couplings) (m .ranges))
   unfolding filled begun byCoupling byLink
   words-filled =
       let cs = m .components in
@@ -204,12 +204,18 @@ module _ (m : Model) (w : WellFormed m) where
       let t3 = byParent cs t2 in
       let w0 : Words cs few t0 = words-sources cs few src tgt (length ks) most begins zeros (λ x. subst (Allowed (length cs) x) (sym (zeros-at x)) (none (length cs) x)) in
       let w2 : Words cs few t2 = words-rules cs few (m .rules) t1 (words-columns cs few parent-small t0 w0) in
-      let w3 : Words cs few t3 = words-kin cs few above t2 (λ x a b. H.zero2 cs (m .rules) ks few most x a (omega arith)) w2 in
+      let w3 : Words cs few t3 = words-kin cs few above t2 (λ x a b. H.zero2 cs (m .rules) ks (m .ranges) few most x a (omega arith)) w2 in
       let w4 : Words cs few (byCoupling cs ks t3) = words-live cs few src tgt (length ks) most begins (linked firstAt maxNodes nextAt tgt (length ks) t3)
-      (words-chains cs few src tgt (length ks) most begins t3 (λ x a b. H.zero3 cs (m .rules) ks few most x a (omega arith)) w3) in
-      counted atomicsAt (length (atomics cs)) (set (byCoupling cs ks t3) countAt (length cs)) (omega arith) (omega (arith, atomics-most cs, few))
-      (counted countAt (length cs) (byCoupling cs ks t3) (omega arith) few w4)
+      (words-chains cs few src tgt (length ks) most begins t3 (λ x a b. H.zero3 cs (m .rules) ks (m .ranges) few most x a (omega arith)) w3) in
+      let w5 : Words cs few (set (set (byCoupling cs ks t3) countAt (length cs)) atomicsAt (length (atomics cs)))
+      = counted atomicsAt (length (atomics cs)) (set (byCoupling cs ks t3) countAt (length cs)) (omega arith) (omega (arith, atomics-most cs, few))
+      (counted countAt (length cs) (byCoupling cs ks t3) (omega arith) few w4) in
+      counted rangesAt (rangesWord (m .ranges)) (set (set (byCoupling cs ks t3) countAt (length cs)) atomicsAt (length (atomics cs))) (omega arith) (small (m .ranges)) w5
     where
+      small : (r : RangeReading) → rangesWord r ≤ maxComponents
+      small inclusive = omega arith
+      small halfOpen = omega arith
+
       counted : (x v : ℕ) (t : List ℕ) → countAt ≤ x → v ≤ maxComponents → Words (m .components) (w .components .few) t → Words (m .components) (w .components .few) (set t x v)
       counted x v t l b h = W.words-set (Allowed (length (m .components))) (none (length (m .components))) t x v h (total (length (m .components)) x v l b)
 
@@ -218,12 +224,12 @@ module _ (m : Model) (w : WellFormed m) where
       parent-small (suc c) l = omega (arith, parents (m .components) (w .components .fit) (suc c) (omega arith) l .0, w .components .few)
 
   -- the positions are those of its atomics
-  seated : Seated (length (atomics (m .components))) (filled (m .components) (m .rules) (m .couplings))
+  seated : Seated (length (atomics (m .components))) (filled (m .components) (m .rules) (m .couplings) (m .ranges))
   unfolding atomicAt
   seated c l e = go (ltb c (length (m .components))) refl
     where
       s : List ℕ
-      s = filled (m .components) (m .rules) (m .couplings)
+      s = filled (m .components) (m .rules) (m .couplings) (m .ranges)
 
       h : Tabled m s
       h = tables-hold m w
@@ -240,10 +246,10 @@ module _ (m : Model) (w : WellFormed m) where
           absurd (omega (arith, eqb-true (getD s (kindsAt + c) 0) 1 e, words-filled (kindsAt + c) .kinds (omega (arith, ltb-false c (length (m .components)) b)) (omega arith)))
 
   -- what a call takes of them
-  pub tables-of : TablesOf m (filled (m .components) (m .rules) (m .couplings))
+  pub tables-of : TablesOf m (filled (m .components) (m .rules) (m .couplings) (m .ranges))
   tables-of = record {
     tabled = tables-hold m w;
     few = omega (arith, atomics-most (m .components), w .components .few);
-    in-range = ranged (m .components) (w .components .few) (filled (m .components) (m .rules) (m .couplings)) words-filled;
+    in-range = ranged (m .components) (w .components .few) (filled (m .components) (m .rules) (m .couplings) (m .ranges)) words-filled;
     seated = seated;
   }

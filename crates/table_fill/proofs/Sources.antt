@@ -9,7 +9,7 @@ use lib.Dec.{eqb}
 use borrow.Author.Tests.{eqb-true, lt-ltb}
 use Rattle.definition.specs.Limits.{maxComponents, maxCouplings, portCount}
 use Rattle.definition.specs.Lists.{keep}
-use Rattle.definition.specs.Model.{Component, Rule, Coupling, noCoupling, isAtomic, componentAt}
+use Rattle.definition.specs.Model.{Component, Rule, Coupling, RangeReading, noCoupling, isAtomic, componentAt}
 use Rattle.definition.specs.Pinned.Decoder.{couplingFits}
 use Rattle.law_base.proofs.Tests.{clash}
 use Rattle.law_routes.specs.Nodes.{portNodes, inputNode, sourceNumber, targetNumber}
@@ -37,24 +37,24 @@ any-none p S T x (k ∷ ks) h = go (eqb (T k) x) refl (any-none p S T x ks (λ i
     go true e ih = rw (h 0 (omega arith) (eqb-true (T k) x e), ih)
     go false e ih = ih
 
-module _ (cs : List Component) (rs : List Rule) (ks : List Coupling) (some : 0 < length cs) (few : length cs ≤ maxComponents) (short : length ks ≤ maxCouplings) where
+module _ (cs : List Component) (rs : List Rule) (ks : List Coupling) (ranges : RangeReading) (some : 0 < length cs) (few : length cs ≤ maxComponents) (short : length ks ≤ maxCouplings) where
   abbrev end : List ℕ
-  end = t5 cs rs ks few short
+  end = t5 cs rs ks ranges few short
 
   -- every source is live
   source-live : (x : ℕ) → x < portNodes * length cs → isSource cs x ≡ true → isLive end x ≡ true
   source-live x h e =
-      let m = marked cs rs ks few short in
+      let m = marked cs rs ks ranges few short in
       let a : isLive m x ≡ true = begun in
-      live-kept cs rs ks few short x (omega arith)
-      ∙ down-keeps (linkEnd Source cs ks) (linkEnd Target cs ks) (length ks) 1 x (up cs rs ks few short) (omega arith)
-      (omega (arith, up-within (linkEnd Source cs ks) (linkEnd Target cs ks) (length ks) m .long, lm cs rs ks few short))
-      (up-keeps (linkEnd Source cs ks) (linkEnd Target cs ks) (length ks) x m (omega arith) (omega (arith, lm cs rs ks few short)) a)
+      live-kept cs rs ks ranges few short x (omega arith)
+      ∙ down-keeps (linkEnd Source cs ks) (linkEnd Target cs ks) (length ks) 1 x (up cs rs ks ranges few short) (omega arith)
+      (omega (arith, up-within (linkEnd Source cs ks) (linkEnd Target cs ks) (length ks) m .long, lm cs rs ks ranges few short))
+      (up-keeps (linkEnd Source cs ks) (linkEnd Target cs ks) (length ks) x m (omega arith) (omega (arith, lm cs rs ks ranges few short)) a)
     where
-      begun : isLive (marked cs rs ks few short) x ≡ true
+      begun : isLive (marked cs rs ks ranges few short) x ≡ true
       begun = unfold isLive sourceFlag in
           (ap (λ v. not (eqb v 0))
-          (column-at liveAt (sourceFlag cs) (portNodes * length cs) (chains cs rs ks few short) x (omega (arith, lc cs rs ks few short)) h
+          (column-at liveAt (sourceFlag cs) (portNodes * length cs) (chains cs rs ks ranges few short) x (omega (arith, lc cs rs ks ranges few short)) h
           ∙ ap (λ b. cond {A = ℕ} b 1 0) e))
 
   pub given-holds : (q : ℕ) → q < portCount → isLive end (inputNode 0 q) ≡ true
@@ -75,8 +75,8 @@ module _ (cs : List Component) (rs : List Rule) (ks : List Coupling) (some : 0 <
 
       kind : getD end (kindsAt + nodeComponent y) 0 ≡ componentAt cs (nodeComponent y) .kind
       kind =
-          kept1 cs rs ks few short (kindsAt + nodeComponent y) (omega (arith, inside))
-          ∙ kinds-hold cs (t0 cs rs ks few short) (l0 cs rs ks few short) few (nodeComponent y) inside
+          kept1 cs rs ks ranges few short (kindsAt + nodeComponent y) (omega (arith, inside))
+          ∙ kinds-hold cs (t0 cs rs ks ranges few short) (l0 cs rs ks ranges few short) few (nodeComponent y) inside
 
       here : isSource cs y ≡ true
       here = unfold isSource atomicNode atomicAt isAtomic in (rw o (rw kind at e))
@@ -86,11 +86,11 @@ module _ (cs : List Component) (rs : List Rule) (ks : List Coupling) (some : 0 <
     closed j a b v =
         let s = src-in cs ks fit in
         let g = tgt-in cs ks fit in
-        live-kept cs rs ks few short (linkEnd Target cs ks j) (omega (arith, g j a b))
+        live-kept cs rs ks ranges few short (linkEnd Target cs ks j) (omega (arith, g j a b))
         ∙ spread-closed (linkEnd Source cs ks) (linkEnd Target cs ks) (length ks) (λ j a b. omega (arith, s j a b)) (λ j a b. omega (arith, g j a b))
-        (up-order cs ks rising fit) (down-order cs ks rising fit) (down-input cs ks rising fit) (marked cs rs ks few short)
-        (omega (arith, lm cs rs ks few short)) j a b
-        (sym (live-kept cs rs ks few short (linkEnd Source cs ks j) (omega (arith, s j a b))) ∙ v)
+        (up-order cs ks rising fit) (down-order cs ks rising fit) (down-input cs ks rising fit) (marked cs rs ks ranges few short)
+        (omega (arith, lm cs rs ks ranges few short)) j a b
+        (sym (live-kept cs rs ks ranges few short (linkEnd Source cs ks j) (omega (arith, s j a b))) ∙ v)
 
     lead-none : (y : ℕ) → y < portNodes * length cs → isLive end y ≡ false → mayLead end y ≡ false
     unfolding mayLead
@@ -103,7 +103,7 @@ module _ (cs : List Component) (rs : List Rule) (ks : List Coupling) (some : 0 <
 
     pub live-holds : (x : ℕ) → x < portNodes * length cs → isLive end x ≡ false → anyOf (mayLead end) (chainRows end x) ≡ false
     live-holds x h e =
-        ap (anyOf (mayLead end)) (rows-hold cs rs ks few short x h)
+        ap (anyOf (mayLead end)) (rows-hold cs rs ks ranges few short x h)
         ∙ any-none (mayLead end) (sourceNumber cs) (targetNumber cs) x ks from
       where
         from : (i : ℕ) → i < length ks → targetNumber cs (getD ks i noCoupling) ≡ x → mayLead end (sourceNumber cs (getD ks i noCoupling)) ≡ false

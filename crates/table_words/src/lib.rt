@@ -4,8 +4,9 @@ ghost use mathlib.Core.Path.{_≡_};
 ghost use Prim.Native.Nat.{_+_, _<_, _≤_};
 ghost use lib.ListN.{getD, length};
 ghost use Rattle.definition.specs.Limits.{maxComponents};
+ghost use Rattle.law_base.specs.Ranges.{rangesOf};
 ghost use Rattle.spec_step.specs.Flags.{marksIn, reachedIn};
-ghost use Rattle.spec_step.specs.Tables.{siblingAt, atomicsAt, tableSize, atomicsIn};
+ghost use Rattle.spec_step.specs.Tables.{siblingAt, atomicsAt, tableSize, atomicsIn, rangesIn};
 ghost use Rattle.table_words.specs.Writes.{column, putIn, linkAt, linked};
 use limits::MAX_COMPONENTS;
 use limits::MAX_COUPLINGS;
@@ -51,7 +52,10 @@ pub const COUNT_AT: usize = SOURCE_AT + LINKS;
 // How many atomics there are.
 pub const ATOMICS_AT: usize = COUNT_AT + 1;
 
-pub const TABLE_SIZE: usize = ATOMICS_AT + 1;
+// Whether the high ends of elapsed ranges are excluded, 0 for no.
+pub const RANGES_AT: usize = ATOMICS_AT + 1;
+
+pub const TABLE_SIZE: usize = RANGES_AT + 1;
 
 // The flags of a step: first the mark of each component, then for each whether something may reach its inputs.
 pub const FLAGS_SIZE: usize = 2 * MAX_COMPONENTS;
@@ -85,6 +89,13 @@ pub fn atomics_in(t: &[u16; TABLE_SIZE]) -> u8
     ensures { λ r. ⌜ r ≡ atomicsIn (now (t .entry)) ⌝ }
 {
     word_in(t, ATOMICS_AT) as u8
+}
+
+// Whether the high ends of elapsed ranges are excluded.
+pub fn half_open_in(t: &[u16; TABLE_SIZE]) -> bool
+    ensures { λ r. ⌜ rangesOf r ≡ rangesIn (now (t .entry)) ⌝ }
+{
+    word_in(t, RANGES_AT) != 0
 }
 
 // The mark of component c.

@@ -9,4 +9,4 @@ unfolding withinElapsed
 returns c = cc
 
 pub within-elapsed-spec : {M : Type 1} → statement M
-within-elapsed-spec = tie.close (tie.spec (λ c κs. search needs) (λ c κs. search needs) returns)
+within-elapsed-spec = tie.close (tie.spec (λ c κs. search needs) (λ c κs. search needs) (λ c κs. search needs) returns)
