@@ -6,12 +6,13 @@ use mathlib.Core.Logic.{_⊎_}
 use Prim.Native.Nat.{ℕ, _≤_, _<_}
 use mathlib.Core.List.{[], _∷_, _++_}
 use mathlib.Core.Bool.{true, false}
+use Rattle.definition.specs.Lists.{count}
 use Rattle.definition.specs.Bytes.{Bytes, AllBytes, ok}
 use Rattle.definition.specs.Limits.{neverField}
-use Rattle.definition.specs.Model.{Rule, RangeReading, inclusive, halfOpen, Model}
+use Rattle.definition.specs.Model.{Bag, Rule, RangeReading, inclusive, halfOpen, Model, readAs}
 use Rattle.definition.specs.File.{modelBytes}
 use Rattle.definition.specs.Pinned.Decoder.{accepted}
-use Rattle.definition.specs.Atomic.{withinElapsed}
+use Rattle.definition.specs.Atomic.{meets, holds}
 use Rattle.definition.specs.Flatten.{flatten}
 use Rattle.definition.specs.Demands.{flatForm}
 
@@ -23,22 +24,27 @@ pub record MeetAt (e : ℕ) (k l : Rule) : Type 0 where
   pub before : k .lowElapsed ≤ e
   pub after : e ≤ l .highElapsed
 
--- The model with its four sections and no fifth.
-abbrev pub fourOf : Model → Model
-fourOf m = record { components = m .components; phases = m .phases; rules = m .rules; couplings = m .couplings; ranges = inclusive }
+-- What a rule asks besides the elapsed time, of component c in phase p with bag x.
+pub record HoldsElse (c p : ℕ) (x : Bag) (k : Rule) : Type 0 where
+  pub component : k .component ≡ c
+  pub phase : k .phase ≡ p
+  pub messages : k .least ≤ count (meets k) x
 
 pub record HalfOpenRanges : Type 0 where
   -- "Two rules that meet at 500 ms both hold on that tick" in a model of four sections ..
-  pub both : (e : ℕ) (k l : Rule) → MeetAt e k l → (withinElapsed inclusive k e ≡ true) × (withinElapsed inclusive l e ≡ true)
+  pub both : (c p e : ℕ) (x : Bag) (k l : Rule) → HoldsElse c p x k → HoldsElse c p x l → MeetAt e k l
+      → (holds inclusive c p e x k ≡ true) × (holds inclusive c p e x l ≡ true)
   -- .. and with a fifth only the later, since "that high end is excluded".
-  pub later : (e : ℕ) (k l : Rule) → MeetAt e k l → l .lowElapsed < l .highElapsed → (withinElapsed halfOpen k e ≡ false) × (withinElapsed halfOpen l e ≡ true)
+  pub later : (c p e : ℕ) (x : Bag) (k l : Rule) → HoldsElse c p x k → HoldsElse c p x l → MeetAt e k l → l .lowElapsed < l .highElapsed
+      → (holds halfOpen c p e x k ≡ false) × (holds halfOpen c p e x l ≡ true)
   -- No other elapsed time is read otherwise.
-  pub elsewhere : (e : ℕ) (k : Rule) → (e ≡ k .highElapsed → ⊥) → withinElapsed halfOpen k e ≡ withinElapsed inclusive k e
+  pub elsewhere : (c p e : ℕ) (x : Bag) (k : Rule) → (e ≡ k .highElapsed → ⊥) → holds halfOpen c p e x k ≡ holds inclusive c p e x k
   -- "4,294,967,295 still means no end"
-  pub no-end : (r : RangeReading) (e : ℕ) (k : Rule) → k .highElapsed ≡ neverField → k .lowElapsed ≤ e → withinElapsed r k e ≡ true
+  pub no-end : (r : RangeReading) (c p e : ℕ) (x : Bag) (k : Rule) → HoldsElse c p x k → k .highElapsed ≡ neverField → k .lowElapsed ≤ e
+      → holds r c p e x k ≡ true
   -- "Four-section files keep the inclusive reading", and the others have "count 1, then the byte 2" behind their four sections and nothing more.
   pub sections : (file : Bytes) (m : Model) → AllBytes file → accepted file ≡ ok m
-      → ((m .ranges ≡ inclusive) × (file ≡ modelBytes (fourOf m))) ⊎ ((m .ranges ≡ halfOpen) × (file ≡ modelBytes (fourOf m) ++ (1 ∷ 0 ∷ 2 ∷ [])))
+      → ((m .ranges ≡ inclusive) × (file ≡ modelBytes (readAs m inclusive))) ⊎ ((m .ranges ≡ halfOpen) × (file ≡ modelBytes (readAs m inclusive) ++ (1 ∷ 0 ∷ 2 ∷ [])))
   -- "flattening copies the section"
   pub copied : (file buffer : Bytes) (m n : Model) → AllBytes file → accepted file ≡ ok m → flatten file buffer .number ≡ 0
       → accepted (flatForm file buffer) ≡ ok n → n .ranges ≡ m .ranges

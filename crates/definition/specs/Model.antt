@@ -66,6 +66,10 @@ pub record Model : Type 0 where
   pub couplings : List Coupling
   pub ranges : RangeReading
 
+-- The model with its ranges read so.
+abbrev pub readAs : Model → RangeReading → Model
+readAs m r = record { components = m .components; phases = m .phases; rules = m .rules; couplings = m .couplings; ranges = r }
+
 -- ---- what stands where no record does: zeros
 
 unfoldable pub noMessage : Message

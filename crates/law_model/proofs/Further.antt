@@ -7,9 +7,9 @@ use mathlib.Core.Bool.{true, _&&_, not}
 use native.Mathlib.Omega.{arith}
 use lib.Dec.{leb, ltb, eqb}
 use lib.ListN.{length, drop}
-use borrow.Author.Tests.{ltb-true, eqb-true, le-leb}
+use borrow.Author.Tests.{eqb-true, le-leb}
 use Rattle.definition.specs.Lists.{all, concat}
-use Rattle.definition.specs.Bytes.{Bytes, AllBytes, more, ok, numberAt, littleEndian, bytesOf}
+use Rattle.definition.specs.Bytes.{Bytes, ok, numberAt, littleEndian, bytesOf}
 use Rattle.definition.specs.Limits.{halfOpenByte, countSize, fifthSize}
 use Rattle.definition.specs.Model.{Rule, RangeReading, inclusive, halfOpen}
 use Rattle.definition.specs.File.{sectionBytes, rangesBytes}
@@ -28,19 +28,20 @@ unfolding fifthSection rangesBytes sectionBytes bytesOf concat
 fifth-back inclusive = refl
 fifth-back halfOpen = fifth-read []
 
--- "count 1, then the byte 2": bytes that say so are no others.
-pub fifth-spelled : (s : Bytes) → AllBytes s → isFifth s ≡ true → s ≡ rangesBytes halfOpen ++ drop fifthSize s
+-- "count 1, then the byte 2": numbers that say so are no others, bytes or not.
+pub fifth-spelled : (s : Bytes) → isFifth s ≡ true → s ≡ rangesBytes halfOpen ++ drop fifthSize s
 unfolding isFifth rangesBytes sectionBytes bytesOf numberAt littleEndian concat
-fifth-spelled [] h e = absurd (clash e refl)
-fifth-spelled (a ∷ []) h e = absurd (clash e refl)
-fifth-spelled (a ∷ b ∷ []) h e = absurd (clash e refl)
-fifth-spelled (a ∷ b ∷ c ∷ s) (more p (more q (more r h))) e =
-    let s = a ∷ b ∷ c ∷ s in
-    let counted = and-left (leb fifthSize (length s) && eqb (numberAt countSize 0 s) 1) _ e in
-    let first : a + 256 * (b + 256 * 0) ≡ 1 = eqb-true _ 1 (and-right (leb fifthSize (length s)) _ counted) in
-    let third : c + 256 * 0 ≡ halfOpenByte = eqb-true _ halfOpenByte (and-right (leb fifthSize (length s) && eqb (numberAt countSize 0 s) 1) _ e) in
-    let x : a ≡ 1 = omega (arith, ltb-true a 256 p, ltb-true b 256 q) in
-    let y : b ≡ 0 = omega (arith, ltb-true a 256 p, ltb-true b 256 q) in
+fifth-spelled [] e = absurd (clash e refl)
+fifth-spelled (a ∷ []) e = absurd (clash e refl)
+fifth-spelled (a ∷ b ∷ []) e = absurd (clash e refl)
+fifth-spelled (a ∷ b ∷ c ∷ s) e =
+    let l = a ∷ b ∷ c ∷ s in
+    let long = leb fifthSize (length l) in
+    let counted = eqb (numberAt countSize 0 l) 1 in
+    let count : a + 256 * (b + 256 * 0) ≡ 1 = eqb-true _ 1 (and-right long counted (and-left (long && counted) _ e)) in
+    let byte : c + 256 * 0 ≡ halfOpenByte = eqb-true _ halfOpenByte (and-right (long && counted) _ e) in
+    let x : a ≡ 1 = omega arith in
+    let y : b ≡ 0 = omega arith in
     let z : c ≡ 2 = omega arith in
     rw (x, y, z)
 

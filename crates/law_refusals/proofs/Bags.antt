@@ -1,13 +1,12 @@
 -- The engine's test of a given bag passes exactly where document 01's lines on it hold, and what it then takes the bag for are the messages
 -- whose rows its bytes are. Assumes nothing.
-use mathlib.Core.Path.{_≡_, refl, sym, ap, ap₂, _∙_}
+use mathlib.Core.Path.{_≡_, sym, ap, ap₂, _∙_}
 use Prim.Native.Nat.{_*_, _/_, _%_, _≤_, _<_}
-use mathlib.Core.List.{List, [], _∷_, map}
-use mathlib.Core.Bool.{Bool, true}
+use mathlib.Core.List.{map}
+use mathlib.Core.Bool.{true}
 use native.Mathlib.Omega.{arith}
 use lib.ListN.{length}
 use lib.Seq.{take-all}
-use Rattle.definition.specs.Lists.{all}
 use Rattle.definition.specs.Bytes.{Bytes, AllBytes, chunks}
 use Rattle.definition.specs.Limits.{messageSize, maxGiven, portCount}
 use Rattle.definition.specs.Model.{Bag}
@@ -16,18 +15,12 @@ use Rattle.definition.specs.Sound.{Every}
 use Rattle.definition.specs.Engine.{toBag, bagFits}
 use Rattle.definition.specs.Clauses.{BagFits}
 use Rattle.law_model.proofs.Codec.{bag-length, rows-length}
-use Rattle.law_refusals.proofs.Tests.{Decides, less, most, equal, both}
+use Rattle.law_refusals.proofs.Tests.{Decides, less, most, equal, both, each}
 use Rattle.law_model.proofs.Layouts.{record-size}
 use Rattle.law_model.proofs.Rows.{rows-held, rows-written, rows-read}
 use Rattle.law_model.proofs.Spellings.{message-spelled}
 
 -- ---- the test
-
--- every element passes
-each : {A : Type 0} (p : A → Bool) (P : A → Type 0) → ((x : A) → Decides (p x) (P x)) → (xs : List A) → Decides (all p xs) (Every P xs)
-unfolding all
-each p P d [] = record { holds = λ e. tt; passes = λ h. refl }
-each p P d (x ∷ xs) = both (d x) (each p P d xs)
 
 -- three lines: whole rows, few of them, ports that there are
 bag-test : (b : Bytes)

@@ -11,12 +11,12 @@ use lib.ListN.{length, getD}
 use borrow.Author.Tests.{leb-true, le-leb, ltb-true, ltb-false}
 use Rattle.definition.specs.Lists.{count}
 use Rattle.definition.specs.Limits.{neverField}
-use Rattle.definition.specs.Model.{Message, Bag, Rule, Model, noRule}
+use Rattle.definition.specs.Model.{Message, Bag, Rule, RangeReading, inclusive, halfOpen, Model, noRule}
 use Rattle.definition.specs.Sound.{Every}
-use Rattle.definition.specs.Atomic.{meets, withinElapsed, holds, deciding, ruleFor}
-use Rattle.definition.specs.Clauses.{Among, nothing, with, without, Meets, Holds, Decides, first, none-holds}
+use Rattle.definition.specs.Atomic.{meets, upToEnd, withinElapsed, holds, deciding, ruleFor}
+use Rattle.definition.specs.Clauses.{Among, nothing, with, without, Meets, UpToEnd, WithinElapsed, Holds, Decides, first, none-holds}
 use Rattle.law_refusals.proofs.Tests as Tests
-use Rattle.law_refusals.proofs.Tests.{fails-not, most, equal, reworded, both, either}
+use Rattle.law_refusals.proofs.Tests.{fails-not, less, most, equal, reworded, both, either}
 
 -- ---- so many that pass
 
@@ -61,16 +61,26 @@ meets-test k x =
     reworded (both (both (equal (x .port) (k .port)) (most (k .low) (x .value))) (most (x .value) (k .high)))
     (λ h. (h .0 .0, h .0 .1, h .1)) (λ h. ((h .0, h .1), h .2))
 
-rule-test : (c p e : ℕ) (x : Bag) (k : Rule) → Tests.Decides (holds c p e x k) (Holds c p e x k)
-unfolding holds withinElapsed
-rule-test c p e x k =
+-- the one test that looks at the reading of ranges
+end-test : (r : RangeReading) (e high : ℕ) → Tests.Decides (upToEnd r e high) (UpToEnd r e high)
+unfolding upToEnd
+end-test inclusive e high = most e high
+end-test halfOpen e high = less e high
+
+pub elapsed-test : (r : RangeReading) (k : Rule) (e : ℕ) → Tests.Decides (withinElapsed r k e) (WithinElapsed r k e)
+unfolding withinElapsed
+elapsed-test r k e =
+    reworded (both (most (k .lowElapsed) e) (either (end-test r e (k .highElapsed)) (equal (k .highElapsed) neverField)))
+    (λ h. record { from = h .0; to = h .1 }) (λ h. (h .from, h .to))
+
+rule-test : (r : RangeReading) (c p e : ℕ) (x : Bag) (k : Rule) → Tests.Decides (holds r c p e x k) (Holds r c p e x k)
+unfolding holds
+rule-test r c p e x k =
     reworded
-    (both
-    (both (both (equal (k .component) c) (equal (k .phase) p))
-    (both (most (k .lowElapsed) e) (either (most e (k .highElapsed)) (equal (k .highElapsed) neverField))))
+    (both (both (both (equal (k .component) c) (equal (k .phase) p)) (elapsed-test r k e))
     (so-many (meets k) (Meets k) (meets-test k) (k .least) x))
-    (λ h. record { component = h .0 .0 .0; phase = h .0 .0 .1; from = h .0 .1 .0; to = h .0 .1 .1; messages = h .1 })
-    (λ h. (((h .component, h .phase), (h .from, h .to)), h .messages))
+    (λ h. record { component = h .0 .0 .0; phase = h .0 .0 .1; elapsed = h .0 .1; messages = h .1 })
+    (λ h. (((h .component, h .phase), h .elapsed), h .messages))
 
 -- ---- the first rule that passes
 
@@ -94,32 +104,35 @@ first-found test at (k ∷ ks) = go (test k) refl (deciding test (suc at) ks) (f
     go false e o (at-place n i q l h f) = rw e (at-place n (suc i) (omega arith) (omega arith) h (behind e i f))
     go false e o (nowhere f) = rw e (nowhere (behind e (length ks) f))
 
-pub rule-decides : (m : Model) (c p e : ℕ) (x : Bag) → Decides (m .rules) c p e x (ruleFor m c p e x)
+pub rule-decides : (m : Model) (c p e : ℕ) (x : Bag) → Decides (m .ranges) (m .rules) c p e x (ruleFor m c p e x)
 unfolding ruleFor
-rule-decides m c p e x = go (deciding (holds c p e x) 0 (m .rules)) (first-found (holds c p e x) 0 (m .rules))
+rule-decides m c p e x = go (deciding (holds r c p e x) 0 (m .rules)) (first-found (holds r c p e x) 0 (m .rules))
   where
-    go : (o : Option ℕ) → First (holds c p e x) 0 (m .rules) o → Decides (m .rules) c p e x o
+    r : RangeReading
+    r = m .ranges
+
+    go : (o : Option ℕ) → First (holds r c p e x) 0 (m .rules) o → Decides r (m .rules) c p e x o
     go o (at-place n i q l h f) =
-        subst (λ (j : ℕ). Decides (m .rules) c p e x (some j)) (let r : i ≡ n = omega arith in r)
-        (first i l (rule-test c p e x _ .holds h) (λ j b. fails-not (rule-test c p e x _) (f j b)))
-    go o (nowhere f) = none-holds (λ j b. fails-not (rule-test c p e x _) (f j b))
+        subst (λ (j : ℕ). Decides r (m .rules) c p e x (some j)) (let t : i ≡ n = omega arith in t)
+        (first i l (rule-test r c p e x _ .holds h) (λ j b. fails-not (rule-test r c p e x _) (f j b)))
+    go o (nowhere f) = none-holds (λ j b. fails-not (rule-test r c p e x _) (f j b))
 
 -- ---- one rule decides, or none
 
-decides-one : (ks : List Rule) (c p e : ℕ) (x : Bag) (o q : Option ℕ) → Decides ks c p e x o → Decides ks c p e x q → o ≡ q
-decides-one ks c p e x o q (first i l h b) (first j k g d) = go (ltb i j) refl
+decides-one : (r : RangeReading) (ks : List Rule) (c p e : ℕ) (x : Bag) (o q : Option ℕ) → Decides r ks c p e x o → Decides r ks c p e x q → o ≡ q
+decides-one r ks c p e x o q (first i l h b) (first j k g d) = go (ltb i j) refl
   where
     go : (t : Bool) → ltb i j ≡ t → some i ≡ some j
     go true s = absurd (d i (ltb-true i j s) h)
     go false s = behind (ltb j i) refl
       where
         behind : (t : Bool) → ltb j i ≡ t → some i ≡ some j
-        behind true r = absurd (b j (ltb-true j i r) g)
-        behind false r = ap some (omega (arith, ltb-false i j s, ltb-false j i r))
-decides-one ks c p e x o q (first i l h b) (none-holds n) = absurd (n i l h)
-decides-one ks c p e x o q (none-holds n) (first j k g d) = absurd (n j k g)
-decides-one ks c p e x o q (none-holds n) (none-holds k) = refl
+        behind true u = absurd (b j (ltb-true j i u) g)
+        behind false u = ap some (omega (arith, ltb-false i j s, ltb-false j i u))
+decides-one r ks c p e x o q (first i l h b) (none-holds n) = absurd (n i l h)
+decides-one r ks c p e x o q (none-holds n) (first j k g d) = absurd (n j k g)
+decides-one r ks c p e x o q (none-holds n) (none-holds k) = refl
 
 -- so the definition's search finds what decides
-pub decided-rule : (m : Model) (c p e : ℕ) (x : Bag) (o : Option ℕ) → Decides (m .rules) c p e x o → ruleFor m c p e x ≡ o
-decided-rule m c p e x o d = decides-one (m .rules) c p e x _ o (rule-decides m c p e x) d
+pub decided-rule : (m : Model) (c p e : ℕ) (x : Bag) (o : Option ℕ) → Decides (m .ranges) (m .rules) c p e x o → ruleFor m c p e x ≡ o
+decided-rule m c p e x o d = decides-one (m .ranges) (m .rules) c p e x _ o (rule-decides m c p e x) d

@@ -5,6 +5,7 @@ pub mod Components
 pub mod Phases
 pub mod Rules
 pub mod Couplings
+pub mod Further
 pub mod Judged
 pub mod Runs
 pub mod Bags

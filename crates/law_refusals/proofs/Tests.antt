@@ -1,6 +1,6 @@
 -- Tests that pass exactly where a clause holds: of numbers, joined by "and" and "or", on each element of a list and on neighbours. The
 -- decoder's tests are put together of these, and so are the clauses of a sound model. Assumes nothing.
-use mathlib.Core.Path.{_≡_, refl, ap, _∙_}
+use mathlib.Core.Path.{_≡_, refl, sym, ap, _∙_}
 use mathlib.Core.Logic.{_⊎_, inl, inr, ⊎-elim}
 use Prim.Native.Nat.{ℕ, zero, suc, _+_, _≤_, _<_}
 use mathlib.Core.List.{List, [], _∷_}
@@ -10,7 +10,7 @@ use lib.Dec.{leb, ltb, eqb}
 use lib.ListN.{length, getD}
 use borrow.Author.Tests.{ltb-true, lt-ltb, leb-true, le-leb, eqb-true, eqb-false, eq-eqb, not-true}
 use Rattle.definition.specs.Lists.{all, upFrom, lexLe, rises}
-use Rattle.definition.specs.Sound.{NotAbove}
+use Rattle.definition.specs.Sound.{Every, NotAbove}
 use Rattle.law_base.proofs.Tests.{clash, and-left, and-right, and-true, or-left, or-right}
 
 -- The test b passes where P holds, and only there.
@@ -27,6 +27,14 @@ fails {b} d h = go b refl
 
 pub fails-not : {b : Bool} {P : Type 0} → Decides b P → b ≡ false → P → ⊥
 fails-not d e p = clash (d .passes p) e
+
+-- two tests of the same
+pub same-test : {a b : Bool} {P : Type 0} → Decides a P → Decides b P → a ≡ b
+same-test {a} {b} d f = go a refl
+  where
+    go : (t : Bool) → a ≡ t → a ≡ b
+    go true e = e ∙ sym (f .passes (d .holds e))
+    go false e = e ∙ sym (fails f (fails-not d e))
 
 -- ---- single tests
 
@@ -69,6 +77,12 @@ module _ {a b : Bool} {P Q : Type 0} where
 
 -- ---- tests on lists
 
+-- every element passes
+pub each : {A : Type 0} (p : A → Bool) (P : A → Type 0) → ((x : A) → Decides (p x) (P x)) → (xs : List A) → Decides (all p xs) (Every P xs)
+unfolding all
+each p P d [] = record { holds = λ e. tt; passes = λ h. refl }
+each p P d (x ∷ xs) = both (d x) (each p P d xs)
+
 module _ {A : Type 0} (empty : A) where
   -- the element at each place passes
   pub every : (p : A → Bool) (P : A → Type 0) → ((x : A) → Decides (p x) (P x)) → (xs : List A)
@@ -80,6 +94,17 @@ module _ {A : Type 0} (empty : A) where
       split : P x × ((i : ℕ) → i < length xs → P (getD xs i empty)) → (i : ℕ) → i < suc (length xs) → P (getD (x ∷ xs) i empty)
       split h zero l = h .0
       split h (suc i) l = h .1 i (omega arith)
+
+  -- an element that fails, where not all pass
+  pub missed : (p : A → Bool) (xs : List A) → all p xs ≡ false → (i : ℕ) × (i < length xs) × (p (getD xs i empty) ≡ false)
+  unfolding all
+  missed p [] e = absurd (clash refl e)
+  missed p (x ∷ xs) e = go (p x) refl (missed p xs)
+    where
+      go : (t : Bool) → p x ≡ t → (all p xs ≡ false → (i : ℕ) × (i < length xs) × (p (getD xs i empty) ≡ false))
+          → (i : ℕ) × (i < suc (length xs)) × (p (getD (x ∷ xs) i empty) ≡ false)
+      go true f ih = let r = ih (rw f at e) in (suc (r .0), omega arith, r .2)
+      go false f ih = (0, omega arith, f)
 
   -- no element falls below the one before it
   pub rising : (le : A → A → Bool) (P : A → A → Type 0) → ((x y : A) → Decides (le x y) (P x y)) → (xs : List A)

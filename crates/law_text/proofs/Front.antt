@@ -1,7 +1,7 @@
--- A file longer than the longest model is refused by what stands in its front: each section's count and records lie within it, and a byte
--- is left over. So the front alone gives the same answer. Assumes nothing.
+-- A file longer than the longest model is refused by what stands in its front: each section's count and records lie within it, a fifth
+-- section or what stands for it as well, and a byte is left over. So the front alone gives the same answer. Assumes nothing.
 use mathlib.Core.Path.{_≡_, refl, sym, ap, _∙_}
-use Prim.Native.Nat.{ℕ, zero, suc, _+_, _*_, _-_, _≤_}
+use Prim.Native.Nat.{ℕ, zero, suc, _+_, _*_, _-_, _≤_, _<_}
 use mathlib.Core.List.{List, [], _∷_, map}
 use mathlib.Core.Bool.{Bool, true, false, not}
 use native.Mathlib.Omega.{arith}
@@ -9,13 +9,14 @@ use native.Mathlib.Nat.{sub-zero, zero-sub, mul-le-mul-right}
 use lib.Dec.{ltb}
 use lib.ListN.{length, take, drop, length-drop}
 use lib.Seq.{take-all, take-nil, take-take, length-take-le}
-use borrow.Author.Tests.{ltb-true, ltb-false, lt-ltb, le-ltb}
+use borrow.Author.Tests.{ltb-true, ltb-false, lt-ltb, le-ltb, le-leb}
 use Rattle.definition.specs.Lists.{all, upFrom}
 use Rattle.definition.specs.Bytes.{Bytes, Result, ok, refused, _>>=_, refuseIf, numberAt, chunks}
-use Rattle.definition.specs.Limits.{countSize, maxComponents, maxPhases, maxRules, maxCouplings, maxRoutes, componentSize, phaseSize, ruleSize, couplingSize, longestModel}
+use Rattle.definition.specs.Limits.{countSize, maxComponents, maxPhases, maxRules, maxCouplings, maxRoutes, componentSize, phaseSize, ruleSize, couplingSize, fifthSize, longestModel}
+use Rattle.definition.specs.Model.{Rule, halfOpen}
 use Rattle.definition.specs.File.{phaseTotal}
 use Rattle.definition.specs.Routes.{routes}
-use Rattle.definition.specs.Pinned.Decoder.{toComponent, componentFits, toPhase, phaseFits, toRule, ruleFits, toCoupling, couplingFits, Section, sectionCount, section, componentCountRefusal, phaseCountRefusal, limitRefusal, componentSection, phaseSection, ruleSection, couplingSection, endOfFile, decode, accepted}
+use Rattle.definition.specs.Pinned.Decoder.{toComponent, componentFits, toPhase, phaseFits, toRule, ruleFits, toCoupling, couplingFits, Section, sectionCount, section, componentCountRefusal, phaseCountRefusal, limitRefusal, componentSection, phaseSection, ruleSection, couplingSection, isFifth, fifthSection, elapsedFits, endOfFile, furtherSections, decode, accepted}
 use Rattle.law_model.proofs.Reading.{most-within, components-within, phases-right}
 
 -- ---- parts of a front
@@ -105,9 +106,33 @@ left-over : (s : Bytes) → 1 ≤ length s → endOfFile s ≡ refused 2
 unfolding endOfFile
 left-over s h = rw (lt-ltb 0 (length s) h)
 
--- What the sections after one may take.
+-- More bytes behind the couplings than a fifth section has: there is none (20), or a range has equal ends (7), or a byte is left over (2).
+further-long : (rs : List Rule) (s : Bytes) → fifthSize < length s
+    → furtherSections rs s ≡ (refuseIf (not (isFifth s)) 20 >>= λ _. refuseIf (not (all (elapsedFits halfOpen) rs)) 7 >>= λ _. refused 2)
+unfolding furtherSections fifthSection
+further-long rs [] h = absurd (omega arith)
+further-long rs (b ∷ s) h = go (isFifth (b ∷ s)) refl (all (elapsedFits halfOpen) rs) refl
+  where
+    go : (t : Bool) → isFifth (b ∷ s) ≡ t → (u : Bool) → all (elapsedFits halfOpen) rs ≡ u
+        → furtherSections rs (b ∷ s) ≡ (refuseIf (not (isFifth (b ∷ s))) 20 >>= λ _. refuseIf (not (all (elapsedFits halfOpen) rs)) 7 >>= λ _. refused 2)
+    go true e true f = rw (e, f, left-over (drop fifthSize (b ∷ s)) (omega (arith, length-drop fifthSize (b ∷ s))))
+    go true e false f = rw (e, f)
+    go false e u f = rw e
+
+fifth-front : (k : ℕ) (s : Bytes) → fifthSize ≤ k → k ≤ length s → isFifth (take k s) ≡ isFifth s
+unfolding isFifth numberAt
+fifth-front k s h l =
+    let byte : numberAt 1 countSize (take k s) ≡ numberAt 1 countSize s
+    = ap (numberAt 1 0) (drop-front countSize k s) ∙ number-front 1 (k - countSize) (drop countSize s) (omega arith) in
+    rw (length-take-le k s l, le-leb fifthSize k h, le-leb fifthSize (length s) (omega arith), number-front countSize k s (omega arith), byte)
+
+further-front : (rs : List Rule) (k : ℕ) (s : Bytes) → suc fifthSize ≤ k → k ≤ length s → furtherSections rs (take k s) ≡ furtherSections rs s
+further-front rs k s h l =
+    rw (further-long rs (take k s) (omega (arith, length-take-le k s l)), further-long rs s (omega arith), fifth-front k s (omega arith) l)
+
+-- What the sections after one may take, and a byte more than all.
 abbrev couplingRoom : ℕ
-couplingRoom = countSize + maxCouplings * couplingSize + 1
+couplingRoom = countSize + maxCouplings * couplingSize + suc fifthSize
 
 abbrev ruleRoom : ℕ
 ruleRoom = countSize + maxRules * ruleSize + couplingRoom
@@ -121,9 +146,8 @@ decode-front k s h l =
     section-front componentSize componentCountRefusal toComponent componentFits 4 maxComponents components-within phaseRoom k s h l _ (λ cs s₁ k₁ h₁ l₁.
     section-front phaseSize (phaseCountRefusal (phaseTotal cs)) toPhase (phaseFits cs) 6 maxPhases (λ n e. phases-right (phaseTotal cs) n e .0) ruleRoom k₁ s₁ h₁ l₁ _ (λ ps s₂ k₂ h₂ l₂.
     section-front ruleSize (limitRefusal maxRules) toRule (ruleFits cs) 7 maxRules (most-within maxRules) couplingRoom k₂ s₂ h₂ l₂ _ (λ rs s₃ k₃ h₃ l₃.
-    section-front couplingSize (limitRefusal maxCouplings) toCoupling (couplingFits cs) 8 maxCouplings (most-within maxCouplings) 1 k₃ s₃ h₃ l₃ _ (λ ks s₄ k₄ h₄ l₄.
-    ap (λ r. r >>= λ _. ok (record { components = cs; phases = ps; rules = rs; couplings = ks }))
-    (left-over (take k₄ s₄) (omega (arith, length-take-le k₄ s₄ l₄)) ∙ sym (left-over s₄ (omega arith)))))))
+    section-front couplingSize (limitRefusal maxCouplings) toCoupling (couplingFits cs) 8 maxCouplings (most-within maxCouplings) (suc fifthSize) k₃ s₃ h₃ l₃ _ (λ ks s₄ k₄ h₄ l₄.
+    ap (λ r. r >>= λ r. ok (record { components = cs; phases = ps; rules = rs; couplings = ks; ranges = r })) (further-front rs k₄ s₄ h₄ l₄)))))
 
 -- The front that is one byte longer than the longest model is enough.
 pub accepted-front : (file : Bytes) → accepted (take (suc longestModel) file) ≡ accepted file

@@ -78,7 +78,12 @@ module _ (cs : List Component) (ps : List Phase) (rs : List Rule) (ks : List Cou
 pub model-is : (file : Bytes) (n : N.Counts) {part phases rules couplings : Bytes} → part ≡ partOf componentSize (n .components) file
     → phases ≡ restAfter componentSize (n .components) file → rules ≡ restAfter phaseSize (n .phases) phases
     → couplings ≡ restAfter ruleSize (n .rules) rules
-    → _≡_ {A = Model} (record { components = componentsIn part; phases = phasesIn (partOf phaseSize (n .phases) phases); rules = rulesIn (partOf ruleSize (n .rules) rules);
-    couplings = couplingsIn (partOf couplingSize (n .couplings) couplings); ranges = rangesOf (n .«half_open») }) (modelOf file n)
+    → _≡_ {A = Model} (record {
+      components = componentsIn part;
+      phases = phasesIn (partOf phaseSize (n .phases) phases);
+      rules = rulesIn (partOf ruleSize (n .rules) rules);
+      couplings = couplingsIn (partOf couplingSize (n .couplings) couplings);
+      ranges = rangesOf (n .«half_open»);
+    }) (modelOf file n)
 unfolding modelOf modelIn componentsPart phasesPart rulesPart couplingsPart afterComponents afterPhases afterRules
 model-is file n e f g h = rw (e, h, g, f)

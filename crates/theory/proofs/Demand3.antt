@@ -134,7 +134,7 @@ machine-same m k l same (c ∷ cs) q run b h =
 
 -- ---- by what flattening writes
 
-flat-form : (file buffer : Bytes) (m : Model) → accepted file ≡ ok m → flatten file buffer .number ≡ 0 → flatForm file buffer ≡ modelBytes (flat m)
+pub flat-form : (file buffer : Bytes) (m : Model) → accepted file ≡ ok m → flatten file buffer .number ≡ 0 → flatForm file buffer ≡ modelBytes (flat m)
 unfolding flatForm flatten wrote stored
 flat-form file buffer m e h = rw e (go (ltb (length buffer) (length (modelBytes (flat m)))) refl)
   where

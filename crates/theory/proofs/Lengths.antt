@@ -1,5 +1,6 @@
 -- The longest model file, the longest saved run, the longest table of deciding rules and the longest feed: each section's count is within its
--- limit and its records have one size, the root is no atomic, and a feed has few bags, none of them long. Assumes nothing.
+-- limit and its records have one size, a fifth section has one length, the root is no atomic, and a feed has few bags, none of them long.
+-- Assumes nothing.
 use mathlib.Core.Path.{ap}
 use mathlib.Core.Bool.{_&&_}
 use Prim.Native.Nat.{_+_, _*_, _/_, _%_, _≤_}
@@ -8,15 +9,15 @@ use native.Mathlib.Omega.{arith}
 use lib.Dec.{leb, eqb}
 use lib.ListN.{length, length-append}
 use borrow.Author.Tests.{leb-true}
-use Rattle.definition.specs.Limits.{componentSize, phaseSize, ruleSize, couplingSize, positionSize, countSize, messageSize, maxGiven, bagHead, longestModel, longestRun, longestTable, longestFeed}
+use Rattle.definition.specs.Limits.{componentSize, phaseSize, ruleSize, couplingSize, fifthSize, positionSize, countSize, messageSize, maxGiven, bagHead, longestModel, longestRun, longestTable, longestFeed}
 use Rattle.definition.specs.Lists.{concat}
 use Rattle.definition.specs.Bytes.{Bytes, bytesOf}
 use Rattle.definition.specs.Sound.{Every}
 use Rattle.definition.specs.Engine.{bagFits}
 use Rattle.definition.specs.Feed.{FeedBag, feedBagBytes, feedBytes, IsFeed}
-use Rattle.definition.specs.Model.{Model}
+use Rattle.definition.specs.Model.{RangeReading, inclusive, halfOpen, Model}
 use Rattle.definition.specs.Records.{componentBytes, phaseBytes, ruleBytes, couplingBytes}
-use Rattle.definition.specs.File.{sectionBytes, modelBytes}
+use Rattle.definition.specs.File.{sectionBytes, rangesBytes, modelBytes}
 use Rattle.definition.specs.SavedRun.{runLength, atomicCount}
 use Rattle.law_model.proofs.Writing.{component-size, phase-size, rule-size, coupling-size, section-length}
 use Rattle.law_model.proofs.WellFormed.{WellFormed}
@@ -24,6 +25,11 @@ use Rattle.law_flat.proofs.FlatComponents.{few-atomics}
 use Rattle.law_base.proofs.Tests.{and-left, and-right}
 use Rattle.law_model.proofs.Codec.{length-bytes}
 use Rattle.law_feed.proofs.Timed.{Proper}
+
+ranges-long : (r : RangeReading) → length (rangesBytes r) ≤ fifthSize
+unfolding rangesBytes sectionBytes bytesOf concat
+ranges-long inclusive = omega arith
+ranges-long halfOpen = omega arith
 
 module _ (m : Model) (w : WellFormed m) where
   pub model-long : length (modelBytes m) ≤ longestModel
@@ -35,6 +41,7 @@ module _ (m : Model) (w : WellFormed m) where
       let d = sectionBytes couplingBytes (m .couplings) in
       omega (
         arith,
+        length-append (a ++ b ++ c ++ d) (rangesBytes (m .ranges)),
         length-append (a ++ b ++ c) d,
         length-append (a ++ b) c,
         length-append a b,
@@ -46,6 +53,7 @@ module _ (m : Model) (w : WellFormed m) where
         w .phases .few,
         w .rules .few,
         w .couplings .few,
+        ranges-long (m .ranges),
       )
 
   pub run-long : runLength (atomicCount m) ≤ longestRun

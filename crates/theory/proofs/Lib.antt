@@ -42,3 +42,4 @@ pub mod FlatStages
 pub mod FlatFeeds
 pub mod FlatCalls
 pub mod Demand3
+pub mod HalfOpenRanges

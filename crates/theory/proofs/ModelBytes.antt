@@ -2,11 +2,11 @@
 use mathlib.Core.List.{List, [], _∷_, map}
 use lib.ListN.{length}
 use Rattle.definition.specs.Lists.{concat}
-use Rattle.definition.specs.Bytes.{Bytes, AllBytes, none, Layout, laidOut}
-use Rattle.definition.specs.Limits.{countSize}
-use Rattle.definition.specs.Model.{Model}
+use Rattle.definition.specs.Bytes.{Bytes, AllBytes, none, bytesOf, Layout, laidOut}
+use Rattle.definition.specs.Limits.{countSize, halfOpenByte}
+use Rattle.definition.specs.Model.{RangeReading, inclusive, halfOpen, Model}
 use Rattle.definition.specs.Records.{componentBytes, phaseBytes, ruleBytes, couplingBytes, componentLayout, phaseLayout, ruleLayout, couplingLayout}
-use Rattle.definition.specs.File.{sectionBytes, modelBytes}
+use Rattle.definition.specs.File.{sectionBytes, rangesBytes, modelBytes}
 use Rattle.law_model.proofs.Codec.{append-bytes, number-bytes}
 
 laid-bytes : (fs : Layout) → AllBytes (laidOut fs)
@@ -23,11 +23,17 @@ section-bytes : {A : Type 0} (bytes : A → Bytes) → ((a : A) → AllBytes (by
 unfolding sectionBytes
 section-bytes bytes h xs = append-bytes (number-bytes countSize (length xs)) (rows-bytes bytes h xs)
 
+ranges-bytes : (r : RangeReading) → AllBytes (rangesBytes r)
+unfolding rangesBytes
+ranges-bytes inclusive = none
+ranges-bytes halfOpen = section-bytes (bytesOf 1) (number-bytes 1) (halfOpenByte ∷ [])
+
 pub model-bytes : (m : Model) → AllBytes (modelBytes m)
 unfolding modelBytes componentBytes phaseBytes ruleBytes couplingBytes
 model-bytes m =
-    append-bytes (append-bytes (append-bytes
+    append-bytes (append-bytes (append-bytes (append-bytes
     (section-bytes componentBytes (λ k. laid-bytes (componentLayout k)) (m .components))
     (section-bytes phaseBytes (λ k. laid-bytes (phaseLayout k)) (m .phases)))
     (section-bytes ruleBytes (λ k. laid-bytes (ruleLayout k)) (m .rules)))
-    (section-bytes couplingBytes (λ k. laid-bytes (couplingLayout k)) (m .couplings))
+    (section-bytes couplingBytes (λ k. laid-bytes (couplingLayout k)) (m .couplings)))
+    (ranges-bytes (m .ranges))

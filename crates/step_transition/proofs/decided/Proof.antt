@@ -26,7 +26,8 @@ searched : (k : tie.After-deciding) → Searched k
 unfolding ruleIn
 searched k =
     let after-row-in2 : tie.After-row-in2 = search in let after-row-in : tie.After-row-in = search in
-    rw (after-row-in2 .row-in2 .ensures, after-row-in .row-in .ensures) at (k .deciding .ensures)
+    let reading : tie.After-half-open-in = search in
+    rw (reading .half-open-in .ensures, after-row-in2 .row-in2 .ensures, after-row-in .row-in .ensures) at (k .deciding .ensures)
 
 add-result : tie.Need-add-result
 add-result c = record { fits = omega (arith, c .told .ensures .0) }
@@ -62,5 +63,5 @@ returns-2 c =
 
 pub decided-spec : {M : Type 1} → statement M
 decided-spec =
-    tie.close (tie.spec (λ c κs. search needs) (λ c κs. search needs) (λ c κs. search needs) (λ c. search needs) (λ c. search needs)
+    tie.close (tie.spec (λ c κs. search needs) (λ c κs. search needs) (λ c κs. search needs) (λ c κs. search needs) (λ c. search needs) (λ c. search needs)
     (λ c κs. search needs) add-result returns (λ c κs. search needs) (λ c κs. search needs) returns-2)
