@@ -65,7 +65,8 @@ ran 'header as C' "$made/header"
 build_as_cpp header_as_cpp "$here/header.c" "$made/other.c"
 ran 'header as C++' "$made/header_as_cpp"
 
-# The inserter: cues that are all taken, cues for which the hold has no rule, a trace that is full again and again, and refusals.
+# The inserter: cues that are all taken, cues for which the hold has no rule, cues where two rules meet, a trace that is full again
+# and again, and refusals.
 build inserter "$here/inserter.c"
 # insert NAME STATUS MODEL CUES [OPTION]
 insert() {
@@ -85,17 +86,27 @@ model bad_rule
 model nested
 insert captions 0 "$here/captions.model" captions
 insert stray 0 "$here/captions.model" stray
+insert meeting 0 "$here/meeting.model" meeting
+insert meeting-half-open 0 "$here/meeting-half-open.model" meeting
 insert busy 0 "$made/busy.model" busy
 insert backwards 1 "$here/captions.model" backwards
 insert crowd 1 "$here/captions.model" crowd
 insert bad_rule 1 "$made/bad_rule.model" captions
 insert jam 1 "$made/jam.model" captions
 # The same with the rules that decided in each instant: between them stands what is put up without.
-for name in captions stray; do
-  insert "$name-rules" 0 "$here/captions.model" "$name" --rules
-  grep -v ' lit' "$made/$name-rules.out" >"$made/$name-others.out"
-  agree "inserter $name with and without rules" "$here/$name.inserted" "$made/$name-others.out"
-done
+# with_rules NAME MODEL CUES
+with_rules() {
+  insert "$1-rules" 0 "$here/$2.model" "$3" --rules
+  grep -v ' lit' "$made/$1-rules.out" >"$made/$1-others.out"
+  agree "inserter $1 with and without rules" "$here/$1.inserted" "$made/$1-others.out"
+}
+with_rules captions captions captions
+with_rules stray captions stray
+with_rules meeting meeting meeting
+with_rules meeting-half-open meeting-half-open meeting
+# The half-open file is the other one with three bytes more.
+{ cat "$here/meeting.model" && printf '\001\000\002'; } >"$made/three_more.model"
+agree 'meeting, half-open' "$here/meeting-half-open.model" "$made/three_more.model"
 
 # The archive: what the inserter puts up, kept by columns and given back; a day of cues, searched by moment; and refusals.
 build archive "$here/archive.c"

@@ -137,14 +137,47 @@ static void by_feed(void) {
     holds(f.number == PDEVS_BUFFER_TOO_SHORT && f.bags == 0 && f.instants == 6, "no bag, and a trace too short");
 }
 
+/* Which rule decides where the atomic, now of order 1, is due at 1 and hears the value 0. */
+static uint64_t lit_at_1(const uint8_t *file, size_t length) {
+    static const uint8_t bag[PDEVS_MESSAGE_SIZE] = {0};
+    pdevs_written w = pdevs_start(file, length, run, sizeof run);
+    pdevs_advanced a = pdevs_advance(file, length, run, sizeof run, 1, bag, sizeof bag, trace, sizeof trace, rules, sizeof rules);
+    holds(w.number == PDEVS_OK && a.number == PDEVS_OK, "a start and an advance");
+    return number_at(rules, 2);
+}
+
+/* The model in four sections and in five: its second rule now lasts from 0 to 1. */
+static void by_sections(void) {
+    enum { FOUR = sizeof model, FIVE = FOUR + 3, ORDER = 11, FIRST_HIGH = 48, SECOND_HIGH = 66 };
+    uint8_t file[FIVE + 1] = {0}, flat[FIVE];
+    pdevs_written w;
+    memcpy(file, model, FOUR);
+    file[ORDER] = 1;
+    memcpy(file + SECOND_HIGH, "\1\0\0\0", 4);
+    memcpy(file + FOUR, "\1\0\2", 3);
+    holds(lit_at_1(file, FOUR) == 1, "a high end that is included");
+    holds(lit_at_1(file, FIVE) == PDEVS_NO_RULE, "a high end that is excluded");
+    w = pdevs_flatten(file, FIVE, flat, sizeof flat);
+    holds(w.number == PDEVS_OK && w.bytes == FIVE && memcmp(flat, file, FIVE) == 0, "a flat model with its fifth section");
+    holds(pdevs_check_model(file, FIVE + 1) == PDEVS_MODEL_LEFT_OVER, "a byte after the fifth section");
+    holds(pdevs_check_model(file, FIVE - 1) == PDEVS_BAD_FIFTH_SECTION, "a fifth section that is cut off");
+    memset(file + FIRST_HIGH, 0, 4);
+    holds(pdevs_check_model(file, FOUR) == PDEVS_OK, "equal ends in four sections");
+    holds(pdevs_check_model(file, FIVE) == PDEVS_BAD_RULE, "equal ends in five sections");
+    file[FIVE - 1] = 3;
+    holds(pdevs_check_model(file, FIVE) == PDEVS_BAD_FIFTH_SECTION, "another byte in the fifth section");
+}
+
 int main(void) {
     numbers();
     calls();
     by_columns();
     by_feed();
+    by_sections();
+    holds(PDEVS_MAX_MODEL == 32075, "the longest model");
     holds(PDEVS_MAX_FEED == 57002, "the longest feed");
     holds(PDEVS_MAX_RUN == 577, "the longest run");
     holds(PDEVS_MAX_RULES_TABLE == 126, "the longest rules table");
-    holds(strcmp(PDEVS_VERSION, "2.2") == 0, "the version");
+    holds(strcmp(PDEVS_VERSION, "2.3") == 0, "the version");
     return failed;
 }

@@ -18,6 +18,7 @@ class Model:
 
     def __init__(self):
         self.components, self.phases, self.rules, self.couplings = [bytes(5)], [], [], []
+        self.fifth = b""
 
     def coupled(self, parent=ROOT):
         self.components.append(bytes([0, parent, 0, 0, 0]))
@@ -39,9 +40,14 @@ class Model:
     def couple(self, source, source_port, target, target_port, times=1):
         self.couplings += [bytes([source, source_port, target, target_port])] * times
 
+    def half_open(self):
+        """The same with elapsed times that stop short of their high ends, as the fifth section says."""
+        self.fifth = struct.pack("<HB", 1, 2)
+        return self
+
     def file(self):
         sections = [self.components, self.phases, self.rules, sorted(self.couplings)]
-        return b"".join(struct.pack("<H", len(records)) + b"".join(records) for records in sections)
+        return b"".join(struct.pack("<H", len(records)) + b"".join(records) for records in sections) + self.fifth
 
 
 def cue_source():
@@ -107,7 +113,8 @@ def bad_rule():
 
 
 def largest():
-    """Every section at its limit: 64 components, 512 phases, 1,024 rules, 1,024 couplings; 32,072 bytes."""
+    """Every section at its limit: 64 components, 512 phases, 1,024 rules, 1,024 couplings; 32,072 bytes, and 3 more with the fifth
+    section."""
     m = Model()
     for k in range(63):
         count = 9 if k < 8 else 8
@@ -141,6 +148,24 @@ def captions():
     m.couple(channel, 0, ROOT, 0)
     m.couple(channel, 1, ROOT, 1)
     m.couple(channel, 2, ROOT, 2)
+    return m
+
+
+def meeting():
+    """A caption channel with two rules that meet: a cue puts the caption up for two seconds; another one within 500 ms only begins
+    these anew, and from 500 ms on it puts the caption up again. At 500 ms sharp both rules hold and the first decides, unless the
+    file is half-open: then only the second holds."""
+    m = Model()
+    channel = m.coupled()
+    hold = m.atomic([(NEVER, 0, []), (0, 2, [(0, 7)]), (2000, 0, [(1, 0)])], parent=channel)
+    m.rule(hold, 0, 7, 1)
+    m.rule(hold, 2, 7, 2, elapsed=(0, 500))
+    m.rule(hold, 2, 7, 1, elapsed=(500, NEVER))
+    m.couple(ROOT, 0, channel, 0)
+    m.couple(channel, 0, hold, 0)
+    for port in (0, 1):
+        m.couple(hold, port, channel, port)
+        m.couple(channel, port, ROOT, port)
     return m
 
 
@@ -220,11 +245,15 @@ FILES = {
     "too_late.bin": run(1000000000001, cue_source().file()),
     "largest.bin": run(1010, largest().file()),
     "one_byte_more.bin": run(1010, largest().file() + b"\0"),
+    "longest.bin": run(1010, largest().half_open().file()),
+    "left_over.bin": run(1010, largest().half_open().file() + b"\0"),
     "captions.model": captions().file(),
+    "meeting.model": meeting().file(),
+    "meeting-half-open.model": meeting().half_open().file(),
     "full_bag.model": full_bag().file(),
     "full_root_bag.model": full_root_bag().file(),
     "deep.model": deep().file(),
-    "largest.model": largest().file(),
+    "longest.model": largest().half_open().file(),
     "cue_source.feed": feed(worked_cues()),
     "captions.feed": feed(caption_cues()),
     "day.feed": feed(day_of_cues()),

@@ -7,16 +7,22 @@
  *
  * Numbers in buffers are little-endian. One tick is a millisecond; a moment counts ticks from the start of the run.
  *
- * A model file has four sections, each after its two-byte count:
+ * A model file has four sections, or five, each after its two-byte count:
  *   components, 1 to 64, 5 bytes: kind (0 coupled, 1 atomic), parent, phase count, initial phase, order (0 internal first,
  *     1 external first). Component 0 is the root, five zeros. Any other parent is an earlier coupled component, at most 8
  *     ancestors. An atomic has 1 to 64 phases; a coupled component has zeros in the last three bytes.
  *   phases, at most 512, 18 bytes, atomic by atomic: advance (4; at most 1,000,000,000, or 4,294,967,295 for never), next
  *     phase (1), output count (1, 0 to 4), four slots of port (1) and value (2), the used ones never falling, the rest zero.
  *   rules, at most 1,024, 18 bytes: atomic component, phase, next phase, port (1 each), low and high value (2 each), least
- *     count (2), low and high elapsed time (4 each; a high of 4,294,967,295 is no upper end).
+ *     count (2), low and high elapsed time (4 each; a high of 4,294,967,295 is no upper end). Low is at most high.
  *   couplings, at most 1,024, 4 bytes, never falling: source component, source port, target component, target port.
+ *   how elapsed times are read, which may be left out: the count 1 and the byte 2, that is 1, 0, 2 and nothing else.
  * Ports are 0 to 3.
+ *
+ * In a file of four sections a rule's elapsed times run from low to high, both included: of two rules that meet at 500 ms both
+ * hold on that tick, and the one that stands first decides. In a file of five they are half-open: high is excluded, so that only
+ * the one that begins there holds. Low must then be below high, in every rule; a high of 4,294,967,295 is no upper end either way.
+ * To make a file half-open, add the bytes 1, 0, 2 at its end. The ranges of values have both their ends in any file.
  *
  * A saved run has PDEVS_RUN_SIZE(number of atomics) bytes: open moment (8), number of atomics (2), then for each atomic in
  * file order its phase (1) and its last moment (8), when that phase was last entered. PDEVS_MAX_RUN bytes, 577, hold the
@@ -42,8 +48,9 @@
  * the file, counted in rules from 0, or PDEVS_NO_RULE. PDEVS_MAX_RULES_TABLE bytes, 126, hold the table of any model.
  *
  * A call answers a number: 0 is success, the others are refusals. PDEVS_NUMBERS below has them all, with names and words, in
- * the order of the checks. With 1 to 12 and 16 to 19, and with 15 from every call but the two that advance a run, every other
- * number answered is 0 and no byte of any buffer is changed. 13, 14 and 15 from these two keep what was done before: see there.
+ * the order of the checks. Those of a model, which every call gives that takes one, are 1 to 9 and 20. With 1 to 12 and 16 to 20,
+ * and with 15 from every call but the two that advance a run, every other number answered is 0 and no byte of any buffer is
+ * changed. 13, 14 and 15 from these two keep what was done before: see there.
  *
  * What is asked of the caller:
  *   - a pointer is not null, also where its length is 0, and is valid for its length (readable; writable where not const);
@@ -60,14 +67,16 @@
 
 /* The version of this interface: the minor number rises where something is added, the major where programs must change. */
 #define PDEVS_VERSION_MAJOR 2
-#define PDEVS_VERSION_MINOR 2
-#define PDEVS_VERSION PDEVS_VERSION_OF(PDEVS_VERSION_MAJOR, PDEVS_VERSION_MINOR) /* the same as a text, "2.2" */
+#define PDEVS_VERSION_MINOR 3
+#define PDEVS_VERSION PDEVS_VERSION_OF(PDEVS_VERSION_MAJOR, PDEVS_VERSION_MINOR) /* the same as a text, "2.3" */
 #define PDEVS_VERSION_OF(major, minor) PDEVS_VERSION_TEXT(major, minor)
 #define PDEVS_VERSION_TEXT(major, minor) #major "." #minor
 
 /*
  * Every number that a call answers, by ROW(number, name, words). The checks are made in this order, those of the model file
- * section by section: 1, 3 and 5 for its count, 1 for its length, then 4, 6, 7 or 8 for its records.
+ * section by section: 1, 3 and 5 for its count, 1 for its length, then 4, 6, 7 or 8 for its records. What follows the couplings is
+ * checked next: 20 where it does not begin with 1, 0, 2, then 7 once more where it does and a rule's low elapsed time is its high
+ * one (a low above the high was refused with its record), then 2 for bytes after that. 9 comes last.
  */
 #define PDEVS_NUMBERS(ROW)                                                                                               \
     ROW(0, PDEVS_OK, "success")                                                                                          \
@@ -78,7 +87,8 @@
     ROW(6, PDEVS_BAD_PHASE, "a phase breaks a line of the model file's form")                                            \
     ROW(7, PDEVS_BAD_RULE, "a rule breaks a line of the model file's form")                                              \
     ROW(8, PDEVS_BAD_COUPLING, "a coupling breaks a line of the model file's form")                                      \
-    ROW(2, PDEVS_MODEL_LEFT_OVER, "bytes are left over at the end of the model file")                                    \
+    ROW(20, PDEVS_BAD_FIFTH_SECTION, "bytes follow the model file's couplings and are no fifth section")                 \
+    ROW(2, PDEVS_MODEL_LEFT_OVER, "bytes are left over after the model file's fifth section")                            \
     ROW(9, PDEVS_TOO_MANY_ROUTES, "there are more than 1,024 routes")                                                    \
     ROW(10, PDEVS_RUN_DOES_NOT_FIT, "the saved run is too short, or does not fit the model")                             \
     ROW(19, PDEVS_BAD_FEED, "the feed breaks its layout, or has a port above 3, or bytes are left over")                 \
@@ -91,7 +101,7 @@
     ROW(15, PDEVS_BUFFER_TOO_SHORT, "the records pass the end of the lent trace, or the lent buffer is too short")       \
     ROW(16, PDEVS_BAD_POSITION, "the position is at or above the number of atomics")
 
-/* PDEVS_OK to PDEVS_BAD_FEED. */
+/* PDEVS_OK to PDEVS_BAD_FIFTH_SECTION. */
 #define PDEVS_NAMED(number, name, words) name = number,
 enum pdevs_number { PDEVS_NUMBERS(PDEVS_NAMED) };
 #undef PDEVS_NAMED
@@ -133,8 +143,8 @@ enum pdevs_number { PDEVS_NUMBERS(PDEVS_NAMED) };
 /* In a rules table: no rule. No rule of a file has this position. */
 #define PDEVS_NO_RULE 65535
 
-/* Lengths that suffice for every model. A flat model is no longer than the longest model file. */
-#define PDEVS_MAX_MODEL 32072
+/* Lengths that suffice for every model. A flat model is no longer than the longest model file, which has five sections. */
+#define PDEVS_MAX_MODEL 32075
 #define PDEVS_MAX_ATOMICS 63
 #define PDEVS_MAX_RUN PDEVS_RUN_SIZE(PDEVS_MAX_ATOMICS)
 #define PDEVS_MAX_RULES_TABLE PDEVS_RULES_TABLE_SIZE(PDEVS_MAX_ATOMICS)
@@ -175,18 +185,18 @@ static inline const char *pdevs_words(uint64_t number) {
     }
 }
 
-/* Checks a model file: 0, or the number from 1 to 9 with which every other function refuses it. */
+/* Checks a model file: 0, or the number of a model, 1 to 9 or 20, with which every other function refuses it. */
 uint64_t pdevs_check_model(const uint8_t *model, size_t model_len);
 
 /*
  * Starts a run: writes open moment 0, the initial phases and last moments 0 at the front of `run`; the bytes beyond stay.
- * Numbers: 1 to 9, 15.
+ * Numbers: those of a model, 15.
  */
 pdevs_written pdevs_start(const uint8_t *model, size_t model_len, uint8_t *run, size_t run_len);
 
 /*
  * Advances a run to the moment t: does every instant due before t, then t with the messages of the bag given at the root's
- * inputs in its first step. Numbers: 1 to 9, 10, 11, 12, then for each instant 13, 14, 15.
+ * inputs in its first step. Numbers: those of a model, 10, 11, 12, then for each instant 13, 14, 15.
  *
  * On 0 the open moment of `run` is t + 1, the atomics' phases and last moments are those after the last instant, and the
  * records of all steps with output at the root stand at the front of `trace`, `trace_bytes` long.
@@ -213,8 +223,8 @@ pdevs_advanced pdevs_advance(const uint8_t *model, size_t model_len, uint8_t *ru
 /*
  * Runs a feed to an end moment: advances to each bag's moment with that bag, in turn, and then to `end` with an empty bag where
  * it lies past the last bag or there is none. Each of these advances goes on where the one before left `run`, and writes on
- * behind it in `trace`; none has a rules table. The first that is refused stops it. Numbers: 1 to 9, 10, 19, 11, then for each
- * instant 13, 14, 15.
+ * behind it in `trace`; none has a rules table. The first that is refused stops it. Numbers: those of a model, 10, 19, 11, then
+ * for each instant 13, 14, 15.
  *
  * 19 says that `feed` is none: it is cut off, has over 1,000 bags or bytes left over, a bag has over 16 messages, a moment does
  * not lie above the one before it or lies above 1,000,000,000,000, or a port is above 3. 11 says that `end` lies before the last
@@ -239,13 +249,14 @@ pdevs_fed pdevs_advance_feed(const uint8_t *model, size_t model_len, uint8_t *ru
 
 /*
  * Reads the atomic at a position, counted from 0 among the atomics in file order, and the whole model's next due moment.
- * Numbers: 1 to 9, 10, 16.
+ * Numbers: those of a model, 10, 16.
  */
 pdevs_reading pdevs_read(const uint8_t *model, size_t model_len, const uint8_t *run, size_t run_len, uint64_t position);
 
 /*
  * Flattens a model: writes, at the front of `out`, the model of the root and the atomics alone, with each route as a
- * coupling; every run of it is a run of the nested model. The bytes beyond stay. Numbers: 1 to 9, 15.
+ * coupling, and with the fifth section where the model has one; every run of it is a run of the nested model. The bytes beyond
+ * stay. Numbers: those of a model, 15.
  */
 pdevs_written pdevs_flatten(const uint8_t *model, size_t model_len, uint8_t *out, size_t out_len);
 

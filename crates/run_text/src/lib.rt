@@ -11,6 +11,7 @@ ghost use Rattle.run_text.specs.Text.{decimalIn, field, messageLine, mes
 use limits::COMPONENT_SIZE;
 use limits::COUNT_SIZE;
 use limits::COUPLING_SIZE;
+use limits::FIFTH_SIZE;
 use limits::MAX_COMPONENTS;
 use limits::MAX_COUPLINGS;
 use limits::MAX_PHASES;
@@ -55,7 +56,8 @@ const LONGEST_MODEL: usize = 4 * COUNT_SIZE
     + COMPONENT_SIZE * MAX_COMPONENTS
     + PHASE_SIZE * MAX_PHASES
     + RULE_SIZE * MAX_RULES
-    + COUPLING_SIZE * MAX_COUPLINGS;
+    + COUPLING_SIZE * MAX_COUPLINGS
+    + FIFTH_SIZE;
 
 // As much of an input as is ever asked for: one byte more than the longest, so that a file with a byte too many is still seen to
 // have it.

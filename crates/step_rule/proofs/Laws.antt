@@ -5,18 +5,18 @@ use mathlib.Core.Option.{none, some}
 use mathlib.Core.Bool.{Bool, true, false, _&&_, cond}
 use Prim.Native.Nat.{ℕ, suc, _+_, _-_, _*_, _/_, _%_, _≤_, _<_}
 use native.Mathlib.Omega.{arith}
-use native.Mathlib.Nat.{div-add-mod, mod-lt}
+use native.Mathlib.Nat.{add-zero, div-add-mod, mod-lt}
 use native.Mathlib.Numerals.{add-one}
-use lib.Dec.{leb, eqb}
+use lib.Dec.{leb, ltb, eqb}
 use lib.ListN.{length, drop, getD}
 use lib.Seq.{drop-cons, drop-length}
-use borrow.Author.Tests.{eqb-true, eqb-false, leb-true, leb-false, le-leb, lt-leb}
+use borrow.Author.Tests.{eqb-true, eqb-false, leb-true, leb-false, le-leb, lt-leb, lt-ltb, le-ltb}
 use Rattle.definition.specs.Lists.{count}
-use Rattle.definition.specs.Model.{Message, Rule}
-use Rattle.definition.specs.Atomic.{meets}
+use Rattle.definition.specs.Model.{Message, Rule, RangeReading, inclusive, halfOpen}
+use Rattle.definition.specs.Atomic.{upToEnd, meets}
 use Rattle.law_base.specs.Keys.{messageOf}
 use Rattle.spec_step.specs.TableStep.{firstFrom}
-use Rattle.step_rule.specs.Search.{between}
+use Rattle.step_rule.specs.Search.{between, endTicks}
 
 -- ---- counting
 
@@ -129,3 +129,15 @@ module _ (p : ℕ → Bool) (n i : ℕ) (h : i < n) where
 pub first-none : (p : ℕ → Bool) (n i : ℕ) → n ≤ i → none ≡ firstFrom p (n - i) i
 unfolding firstFrom
 first-none p n i h = let z : n - i ≡ 0 = omega arith in rw z
+
+-- ---- the high end of a range
+
+-- below the high end and its ticks is up to the end
+pub below-end : (r : RangeReading) (e high : ℕ) → ltb e (high + endTicks r) ≡ upToEnd r e high
+unfolding upToEnd
+below-end inclusive e high = go (leb e high) refl
+  where
+    go : (b : Bool) → leb e high ≡ b → ltb e (high + 1) ≡ b
+    go true f = lt-ltb e (high + 1) (omega (arith, leb-true e high f))
+    go false f = le-ltb e (high + 1) (omega (arith, leb-false e high f))
+below-end halfOpen e high = ap (ltb e) (add-zero high)

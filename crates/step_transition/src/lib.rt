@@ -95,11 +95,11 @@ fn decided(
 {
     let first = row_in(tables, RULES_FROM_AT, c);
     let end = row_in(tables, RULES_TO_AT, c);
-    let reading = Elapsed {
+    let since = Elapsed {
         time: elapsed,
         half_open: half_open_in(tables),
     };
-    let Found::At(i) = step_rule::deciding(rules, first, end, c, p, reading, bag) else {
+    let Found::At(i) = step_rule::deciding(rules, first, end, c, p, since, bag) else {
         return NOWHERE + told(NO_POSITION, 0);
     };
     told(i, next_by(rules, i))

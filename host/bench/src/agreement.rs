@@ -138,9 +138,9 @@ fn random_models() {
 
 #[test]
 fn models_at_limits() {
-    for (case, (name, number, file)) in (0..).zip(limits::LIMITS) {
+    for (case, (name, number, file)) in (0..).zip(limits::all()) {
         let mut random = Random::for_case(12, case);
-        assert_eq!(check_model(&file()), number, "{name}");
+        assert_eq!(check_model(&file()), *number, "{name}");
         calls_on_file(&mut random, &file());
     }
 }
@@ -223,6 +223,10 @@ fn workloads_are_as_large_as_they_say() {
     assert_eq!(sizes("nest LI, stray cues"), ([64, 126, 55], 70, 56));
     assert_eq!(sizes("each of 32 to each"), ([33, 64, 64], 1_024, 1_024));
     assert_eq!(sizes("1,024 rules, scattered"), ([34, 136, 1_024], 33, 33));
+    assert_eq!(sizes("1,024 rules, half-open"), sizes("1,024 rules, grouped"));
+    let files =
+        ["half-open", "grouped"].map(|kind| workload(&format!("1,024 rules, {kind}")).model);
+    assert_eq!(files[0], [&files[1][..], &[1, 0, 2]].concat());
     assert_eq!(sizes("64 messages, 32 rules"), ([3, 3, 32], 16, 16));
     assert_eq!(sizes("4,096 messages, 32 rules"), ([3, 3, 32], 1_024, 1_024));
     assert_eq!(sizes("16,384 messages, 32 rules"), ([2, 2, 32], 1_024, 1_024));

@@ -8,7 +8,7 @@ use crate::models::damage::{self, Damage};
 use crate::models::{chains, limits, nests};
 use crate::random::Random;
 use crate::runs::{self, RunDamage, RUN_DAMAGES};
-use crate::{columns, feeds, notice, rules_table, special};
+use crate::{columns, feeds, notice, ranges, rules_table, special};
 #[cfg(test)]
 use crate::{counts::Counts, engine::rearrangers, worked};
 use reference::decode::decode;
@@ -17,7 +17,7 @@ use reference::model::Model;
 /// The names of all boundaries and damages that the cases below must meet.
 pub fn names() -> Vec<&'static str> {
     let mut names: Vec<&'static str> = damage::all().iter().map(|damage| damage.name).collect();
-    names.extend(limits::LIMITS.iter().map(|limit| limit.0));
+    names.extend(limits::all().iter().map(|limit| limit.0));
     names.extend(RUN_DAMAGES.iter().map(|damage| damage.name));
     names.extend(special::names());
     names.extend(columns::names());
@@ -25,6 +25,7 @@ pub fn names() -> Vec<&'static str> {
     names.extend(calls_on_model::NAMES);
     names.extend(notice::NOTICED);
     names.extend(rules_table::names());
+    names.extend(ranges::NAMES);
     names
 }
 
@@ -36,7 +37,7 @@ const ROUNDS_OF_DAMAGE: usize = 5;
 pub fn fixed() -> usize {
     let damages = damage::all().len() + RUN_DAMAGES.len();
     let made_for_something = special::CASES.len() + columns::CASES.len() + feeds::CASES.len();
-    limits::LIMITS.len() + made_for_something + ROUNDS_OF_DAMAGE * damages
+    limits::all().len() + made_for_something + ROUNDS_OF_DAMAGE * damages
 }
 
 /// One case of a run. The first ones are fixed, the others random.
@@ -46,10 +47,11 @@ pub fn case(comparison: &mut Comparison, random: &mut Random, number: usize) -> 
         return columns::random_trace(comparison, random);
     }
     let mut at = number;
-    if let Some(limit) = limits::LIMITS.get(at) {
+    let limits = limits::all();
+    if let Some(limit) = limits.get(at) {
         return at_limit(comparison, random, limit);
     }
-    at -= limits::LIMITS.len();
+    at -= limits.len();
     if let Some(special) = special::CASES.get(at) {
         return special(comparison, random);
     }
@@ -75,8 +77,8 @@ fn random_case(comparison: &mut Comparison, random: &mut Random) -> Compared<()>
     match random.below(100) {
         0..=79 => on_random_model(comparison, random),
         80 => {
-            let limit = random.pick(&limits::LIMITS);
-            at_limit(comparison, random, &limit)
+            let limit = random.pick(&limits::all());
+            at_limit(comparison, random, limit)
         }
         81 if random.percent(60) => random.pick(&special::CASES)(comparison, random),
         81 if random.percent(20) => random.pick(&columns::CASES)(comparison, random),
@@ -112,18 +114,21 @@ fn accepted_nest(random: &mut Random) -> Model {
     }
 }
 
-fn at_limit(
+/// Calls on a file whose number is known.
+pub fn at_limit(
     comparison: &mut Comparison,
     random: &mut Random,
     limit: &limits::Limit,
 ) -> Compared<()> {
     let (name, number, file) = limit;
     let file = file();
-    expect_number(comparison, &file, *number, name)?;
-    calls_on_file(comparison, random, &file)
+    expect_number(comparison, &file, *number, name)
+        .and_then(|()| calls_on_file(comparison, random, &file))
+        .map_err(|fault| format!("{name}, {fault}"))
 }
 
-fn damaged(comparison: &mut Comparison, random: &mut Random, damage: &Damage) -> Compared<()> {
+/// Calls on a random nest that was damaged so.
+pub fn damaged(comparison: &mut Comparison, random: &mut Random, damage: &Damage) -> Compared<()> {
     let file = loop {
         let model = accepted_nest(random);
         if let Some(file) = (damage.apply)(random, &model) {

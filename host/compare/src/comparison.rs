@@ -8,6 +8,7 @@ use crate::feeds;
 use crate::laws::{self, Buffers};
 use crate::lent::Lent;
 use crate::notice;
+use crate::ranges;
 use crate::rules_table;
 use reference::decode::decode;
 use reference::model::Model;
@@ -97,6 +98,9 @@ impl Comparison {
         if out[length..] != first[length..] {
             return Err("flattening wrote past its length".into());
         }
+        if written.number == 0 {
+            ranges::test_flat_form(&mut self.counts, file, &out[..length])?;
+        }
         self.calls += 1;
         self.counts.number(Kind::Flatten, written.number);
         Ok((written, out))
@@ -172,6 +176,7 @@ impl CallList<'_> {
         counts.transitions(&observed);
         notice::notice(counts, self.model.as_ref(), call, &answer, &run_before, &observed);
         rules_table::notice(counts, self.model.as_ref(), call, &answer, &observed.last_instant);
+        ranges::notice(counts, self.model.as_ref(), call, answer.number(), &observed);
         feeds::notice(counts, self.model.as_ref(), call, &answer, &run_before, &calls_of_feed);
         let outcome = Outcome { answer, trace: trace.to_vec(), rules: rules.to_vec() };
         self.comparison

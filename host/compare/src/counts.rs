@@ -1,7 +1,7 @@
 //! What a comparison run has met, and what it must meet to pass.
 
 use crate::call::Kind;
-use crate::{columns, feeds, rules_table};
+use crate::{columns, feeds, ranges, rules_table};
 use reference::limits::ANCESTORS;
 use reference::lit_rules::LastInstant;
 use reference::observed::Observed;
@@ -19,7 +19,7 @@ const KINDS: [(Kind, &str); 8] = [
 ];
 
 /// One more than the highest number.
-const NUMBERS: usize = 20;
+const NUMBERS: usize = 21;
 
 /// Strays after some time in the phase, by the atomic's ancestors.
 const STRAYS: [&str; ANCESTORS] = [
@@ -45,7 +45,7 @@ fn possible_numbers(kind: Kind) -> Vec<usize> {
         Kind::TraceToColumns => return vec![0, 15, 17],
         Kind::ColumnsToTrace => return vec![0, 15, 18],
     };
-    (0..=9).chain(others.iter().copied()).collect()
+    (0..=9).chain([20]).chain(others.iter().copied()).collect()
 }
 
 #[derive(Default)]
@@ -57,7 +57,7 @@ pub struct Counts {
     pub at_random: bool,
 }
 
-/// How often a kind of transition, of trace or of feed was met. Each comes in a case made for it; those that chance
+/// How often a kind of transition, of range, of trace or of feed was met. Each comes in a case made for it; those that chance
 /// has made count apart, so that a generator which has lost a kind is told.
 #[derive(Default)]
 struct Met {
@@ -71,6 +71,7 @@ impl Counts {
         let mut counts = Counts { named, ..Counts::default() };
         counts.transitions(&Observed::default());
         counts.kinds(rules_table::kinds(&LastInstant::default()));
+        counts.kinds(ranges::calls(None));
         counts.kinds(columns::kinds());
         counts.kinds(feeds::kinds());
         counts
@@ -99,9 +100,10 @@ impl Counts {
             ("coupled component whose bag dies inside", observed.bags_lost_inside),
         ];
         self.kinds(kinds.into_iter().chain(STRAYS.into_iter().zip(observed.strays)));
+        self.kinds(ranges::kinds(&observed.range_ends));
     }
 
-    /// Counts how often kinds of transitions, of what they light, of traces, or of feeds were met.
+    /// Counts how often kinds of transitions, of what they light, of ranges, of traces, or of feeds were met.
     pub fn kinds(&mut self, kinds: impl Iterator<Item = (&'static str, u64)>) {
         for (name, count) in kinds {
             let met = self.kinds.entry(name).or_default();
@@ -124,7 +126,9 @@ impl Counts {
         for (row, (_, name)) in self.numbers.iter().zip(KINDS) {
             println!("{name:>16}{}", columns(row));
         }
-        println!("transitions, what they light, traces, and feeds, in all cases and at random:");
+        println!(
+            "transitions, what they light, ranges, traces, and feeds, in all cases and at random:"
+        );
         for (name, Met { in_all_cases, at_random }) in &self.kinds {
             println!("{in_all_cases:>12}{at_random:>12}  {name}");
         }
@@ -171,6 +175,7 @@ fn what_was_never_met_is_told() {
     let told = |fault: &str| faults.iter().any(|known| known == fault);
     assert!(told("never met: a boundary") && !told("never met: another"));
     assert!(told("never met: internal") && told("start never answered 15"));
+    assert!(told("advance never answered 20") && !told("trace_to_columns never answered 20"));
     assert!(told("advance answered 14") && !told("read never answered 16"));
 }
 
@@ -191,4 +196,21 @@ fn a_stray_that_only_fixed_cases_meet_is_told() {
     assert!(!told("never met: stray with 8 ancestors"));
     assert!(!told("never met at random: stray with 7 ancestors"));
     assert!(told("never met: stray with 6 ancestors"));
+}
+
+#[test]
+fn a_tick_that_only_fixed_cases_meet_is_told() {
+    let mut counts = Counts::new([]);
+    let mut observed = Observed::default();
+    observed.range_ends.high_end_left_to_none = [1, 0, 0];
+    counts.transitions(&observed);
+    counts.at_random = true;
+    observed.range_ends.high_end_left_to_none = [0, 0, 1];
+    counts.transitions(&observed);
+    let faults = counts.faults();
+    let told = |fault: &str| faults.iter().any(|known| known == fault);
+    assert!(told("never met at random: half-open: high end left to none"));
+    assert!(!told("never met: half-open: high end left to none"));
+    assert!(!told("never met at random: half-open: high end left to none, order 1"));
+    assert!(told("never met: inclusive: high end decides"));
 }

@@ -3,6 +3,7 @@
 
 use crate::call::{Answer, Call};
 use crate::feeds;
+use crate::ranges;
 #[cfg(test)]
 use reference::examples::{relayed_hold, tick_among_strays};
 use reference::limits::{
@@ -57,6 +58,7 @@ pub fn test(
         (Call::Advance { t, bag, .. }, Answer::Advanced(answer)) => {
             test_advance(*t, !bag.is_empty(), answer, before, after)?;
             test_lit_rules(model, answer.instants, &run_after, before.rules, after.rules)?;
+            ranges::test_lit_ranges(model, answer, before.run, &run_after, after.rules)?;
             test_phases_without_rules(model, answer.steps, before.run, &run_after)
         }
         (Call::Feed { end, feed, .. }, Answer::Fed(answer)) => {

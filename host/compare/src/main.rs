@@ -4,7 +4,8 @@
 //!
 //! `compare --calls N --seed S` runs until N calls are compared; `--case K` repeats one case alone.
 //! The run fails where an answer or a byte of a lent buffer differs, where a line of the papers does
-//! not hold, and where a refusal number, a kind of transition, trace or feed, or a boundary was never met.
+//! not hold, and where a refusal number, a kind of transition, range, trace or feed, or a boundary was never
+//! met.
 //! Each kind must be met at random too: a run of less than 30,000 calls may have too few random models.
 
 mod arguments;
@@ -24,6 +25,7 @@ mod models;
 mod naive_routes;
 mod notice;
 mod random;
+mod ranges;
 mod relations;
 mod rules_table;
 mod runs;

@@ -18,7 +18,7 @@ const LENGTHS: [&str; 4] = [
 ];
 
 /// A table that would have had room stays as it was: by the number of the refusal.
-const REFUSED: [&str; 12] = [
+const REFUSED: [&str; 13] = [
     "rules: table stays, refused by 1",
     "rules: table stays, refused by 2",
     "rules: table stays, refused by 3",
@@ -31,6 +31,7 @@ const REFUSED: [&str; 12] = [
     "rules: table stays, refused by 10",
     "rules: table stays, refused by 11",
     "rules: table stays, refused by 12",
+    "rules: table stays, refused by 20",
 ];
 
 /// The same without a refusal of the call, and tables that were written though an instant was left undone.
@@ -110,6 +111,7 @@ pub fn notice(
     }
     match (number, is_written) {
         (1..=12, _) => counts.meet(REFUSED[number as usize - 1]),
+        (20, _) => counts.meet(REFUSED[12]),
         (0, false) => counts.meet(INSTANTS[0]),
         (13, false) => counts.meet(INSTANTS[1]),
         (15, false) => counts.meet(INSTANTS[2]),

@@ -4,6 +4,7 @@ mod columns;
 mod counts;
 mod feeds;
 mod lit_rules;
+mod ranges;
 mod stays;
 
 use crate::cases;
@@ -45,6 +46,7 @@ enum Fault {
     AboutCounts(counts::Wrong),
     AboutFeeds(feeds::Wrong),
     AboutLitRules(lit_rules::Wrong),
+    AboutRanges(ranges::Wrong),
 }
 
 const FAULTS: [Fault; 19] = [
@@ -114,6 +116,7 @@ impl Engine for Faulty {
     fn check_model(&self, model: &[u8]) -> u64 {
         match self.0 {
             Fault::RefusesEachFile => reference::check_model(model).max(3),
+            Fault::AboutRanges(wrong) => wrong.check_model(model),
             _ => reference::check_model(model),
         }
     }
@@ -155,6 +158,7 @@ impl Engine for Faulty {
             (None, Fault::AboutLitRules(wrong)) => {
                 wrong.advance(model, run, t, &given, trace, rules)
             }
+            (None, Fault::AboutRanges(wrong)) => wrong.advance(model, run, t, &given, trace, rules),
             (None, _) => reference::advance(model, run, t, &given, trace, rules),
         };
         let used = answer.trace_bytes as usize;
@@ -210,7 +214,10 @@ impl Engine for Faulty {
             out[..model.len()].copy_from_slice(model);
             return Written { number: 0, bytes: model.len() as u64 };
         }
-        reference::flatten(model, out)
+        match self.0 {
+            Fault::AboutRanges(wrong) => wrong.flatten(model, out),
+            _ => reference::flatten(model, out),
+        }
     }
 }
 
@@ -241,12 +248,17 @@ fn find_on_random_models(fault: Fault, models: u64) -> Option<String> {
     })
 }
 
+/// In so many random cases after the fixed ones every fault must be found.
+const RANDOM_CASES: usize = 140;
+
 #[test]
 fn every_fault_is_found() {
     let about_counts = counts::ALL.map(|(wrong, _)| Fault::AboutCounts(wrong));
     let about_lit_rules = lit_rules::ALL.map(|(wrong, ..)| Fault::AboutLitRules(wrong));
-    for fault in FAULTS.into_iter().chain(about_counts).chain(about_lit_rules) {
-        assert!(find(fault, 0..600).is_some(), "{fault:?} was not found");
+    let about_ranges = ranges::all().map(Fault::AboutRanges);
+    for fault in FAULTS.into_iter().chain(about_counts).chain(about_lit_rules).chain(about_ranges) {
+        let cases = 0..cases::fixed() + RANDOM_CASES;
+        assert!(find(fault, cases).is_some(), "{fault:?} was not found");
     }
 }
 
@@ -264,26 +276,6 @@ fn rows_alone_find_what_is_wrong_about_stays() {
             special::strays::on_each_level(&mut comparison_with(fault), &mut Random::new(1));
         let difference = found.expect_err("a row tells the fault");
         assert!(difference.starts_with(&format!("{row}, ")), "{fault:?} is told by {difference}");
-    }
-}
-
-#[test]
-fn random_models_alone_find_what_is_wrong_about_lit_rules() {
-    for (wrong, _, models) in lit_rules::ALL {
-        let found = find_on_random_models(Fault::AboutLitRules(wrong), models);
-        assert!(found.is_some(), "{wrong:?} was not found");
-    }
-}
-
-#[test]
-fn rows_alone_find_what_is_wrong_about_lit_rules() {
-    for (wrong, row, _) in lit_rules::ALL {
-        let mut comparison = comparison_with(Fault::AboutLitRules(wrong));
-        let mut random = Random::new(1);
-        let found = special::lit_rules::on_each_level(&mut comparison, &mut random)
-            .and_then(|()| special::lit_rules::positions(&mut comparison, &mut random));
-        let difference = found.expect_err("a row tells the fault");
-        assert!(difference.starts_with(&format!("{row}, ")), "{wrong:?} is told by {difference}");
     }
 }
 

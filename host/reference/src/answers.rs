@@ -20,6 +20,7 @@ pub const BAD_POSITION: u64 = 16;
 pub const NOT_A_TRACE: u64 = 17;
 pub const NOT_COLUMNS: u64 = 18;
 pub const BAD_FEED: u64 = 19;
+pub const BAD_FIFTH_SECTION: u64 = 20;
 
 /// What the writers of one buffer answer: start, flattening, and rearranging a trace.
 #[derive(Clone, Copy, Debug, PartialEq, Eq)]

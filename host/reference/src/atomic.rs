@@ -2,6 +2,7 @@
 
 use crate::limits;
 use crate::model::Model;
+use crate::ranges::Ranges;
 use crate::records::{Message, Phase, Rule};
 
 pub struct Atomic<'m> {
@@ -9,6 +10,7 @@ pub struct Atomic<'m> {
     internal_first: bool,
     /// The rules that name this atomic with their positions in the file, in file order.
     rules: Vec<(usize, &'m Rule)>,
+    ranges: Ranges,
 }
 
 /// The sequential state of an atomic. To Parallel DEVS a bag for which no rule holds is an event like
@@ -42,11 +44,17 @@ impl<'m> Atomic<'m> {
             phases: model.phases_of(component),
             internal_first: model.components[component].order == 0,
             rules: model.rules.iter().enumerate().filter(|(_, rule)| names_this(rule)).collect(),
+            ranges: model.ranges,
         }
     }
 
     pub fn internal_first(&self) -> bool {
         self.internal_first
+    }
+
+    /// How its rules' elapsed ranges are read.
+    pub fn ranges(&self) -> Ranges {
+        self.ranges
     }
 
     /// How long the phase lasts; none for never.
@@ -65,11 +73,26 @@ impl<'m> Atomic<'m> {
 
     /// "The first rule in file order whose conditions all hold decides": its position, and where it leads.
     pub fn deciding_rule(&self, phase: u8, elapsed: u64, bag: &[Message]) -> Option<(usize, u8)> {
-        let holds = |rule: &Rule| {
-            rule.phase == phase && elapsed_is_in_range(rule, elapsed) && enough_messages(rule, bag)
-        };
-        let deciding = self.rules.iter().find(|(_, rule)| holds(rule));
-        deciding.map(|(position, rule)| (*position, rule.next_phase))
+        let in_range = |rule: &Rule| self.ranges.holds(rule, elapsed);
+        let deciding = self.first_rule(phase, bag, in_range);
+        deciding.map(|position| (position, self.rule(position).next_phase))
+    }
+
+    /// The position of the first rule of a phase whose range is as asked and for which the bag has enough.
+    pub fn first_rule(
+        &self,
+        phase: u8,
+        bag: &[Message],
+        range: impl Fn(&Rule) -> bool,
+    ) -> Option<usize> {
+        let holds = |rule: &Rule| rule.phase == phase && range(rule) && enough_messages(rule, bag);
+        self.rules.iter().find(|(_, rule)| holds(rule)).map(|(position, _)| *position)
+    }
+
+    /// The rule of this atomic at a position in the file.
+    pub fn rule(&self, position: usize) -> &'m Rule {
+        let own = self.rules.iter().find(|(own, _)| *own == position);
+        own.expect("a rule of this atomic").1
     }
 }
 
@@ -106,12 +129,6 @@ impl Atomic<'_> {
         let led = self.external(state, left, bag);
         Led { state: self.internal(led.state), ..led }
     }
-}
-
-fn elapsed_is_in_range(rule: &Rule, elapsed: u64) -> bool {
-    let no_upper_end = rule.high_elapsed == limits::UNBOUNDED;
-    u64::from(rule.low_elapsed) <= elapsed
-        && (no_upper_end || elapsed <= u64::from(rule.high_elapsed))
 }
 
 fn enough_messages(rule: &Rule, bag: &[Message]) -> bool {

@@ -3,6 +3,7 @@
 
 use crate::limits::UNBOUNDED;
 use crate::model::Model;
+use crate::ranges::Ranges;
 use crate::records::{Component, Coupling, Message, Phase, Rule};
 
 pub const NEVER: u32 = UNBOUNDED;
@@ -79,6 +80,12 @@ impl Builder {
     ) {
         let row = Coupling { source: byte(source), source_port, target: byte(target), target_port };
         self.model.couplings.extend(std::iter::repeat_n(row, times));
+    }
+
+    /// The same with elapsed ranges that are read so.
+    pub fn read_as(mut self, ranges: Ranges) -> Builder {
+        self.model.ranges = ranges;
+        self
     }
 
     /// The model, its couplings in order.

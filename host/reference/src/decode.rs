@@ -1,12 +1,13 @@
 //! Reading a model file: the rows of the refusal table from "each section" down to "routes".
 
 use crate::answers::{
-    BAD_COMPONENT, BAD_COUPLING, BAD_PHASE, BAD_RULE, COUNT_LIMIT, CUT_OFF, LEFT_OVER, PHASE_SUM,
-    TOO_MANY_ROUTES,
+    BAD_COMPONENT, BAD_COUPLING, BAD_FIFTH_SECTION, BAD_PHASE, BAD_RULE, COUNT_LIMIT, CUT_OFF,
+    LEFT_OVER, PHASE_SUM, TOO_MANY_ROUTES,
 };
 use crate::limits;
 use crate::little_endian::u16_at;
 use crate::model::{parent_of, relation_of, Model};
+use crate::ranges::Ranges;
 use crate::records::{Component, Coupling, Message, Phase, Rule};
 use crate::routes;
 
@@ -17,10 +18,11 @@ pub fn decode(file: &[u8]) -> Result<Model, u64> {
     let phases = read_phases(&mut rest, &components)?;
     let rules = read_rules(&mut rest, &components)?;
     let couplings = read_couplings(&mut rest, &components)?;
+    let ranges = read_ranges(&mut rest, &rules)?;
     if !rest.is_empty() {
         return Err(LEFT_OVER);
     }
-    let model = Model { components, phases, rules, couplings };
+    let model = Model { components, phases, rules, couplings, ranges };
     if routes::count(&model) > limits::ROUTES {
         return Err(TOO_MANY_ROUTES);
     }
@@ -176,4 +178,17 @@ fn coupling_is_legal(coupling: &Coupling, components: &[Component]) -> bool {
         && coupling.source_port <= limits::HIGHEST_PORT
         && coupling.target_port <= limits::HIGHEST_PORT
         && relation_of(components, source, target).is_some()
+}
+
+/// The fifth section, or its absence where nothing follows the couplings. The rules were judged without it:
+/// what it forbids them is judged once it has been read.
+fn read_ranges(rest: &mut &[u8], rules: &[Rule]) -> Result<Ranges, u64> {
+    if rest.is_empty() {
+        return Ok(Ranges::Inclusive);
+    }
+    *rest = rest.strip_prefix(&Ranges::SECTION).ok_or(BAD_FIFTH_SECTION)?;
+    if !rules.iter().all(|rule| Ranges::HalfOpen.allows(rule)) {
+        return Err(BAD_RULE);
+    }
+    Ok(Ranges::HalfOpen)
 }

@@ -246,6 +246,26 @@ pub fn relayed_hold(ancestors: usize, order: u8) -> Builder {
     model
 }
 
+/// An atomic with so many ancestors, joined to the root's input 0 through all of them, that hears a cue in
+/// phase 0, which lasts for `advance`. Each range of elapsed times, of which there are two at most, has a
+/// rule for the cue: the first leads to phase 1, the second to phase 2. Where the atomic is due just then,
+/// either order leads to phase 3 without a rule, and to 4 and 5 by the first and the second range.
+pub fn cue_in_ranges(ancestors: usize, order: u8, advance: u32, ranges: &[(u32, u32)]) -> Builder {
+    let mut model = Builder::new();
+    let innermost = model.coupled_chain(0, ancestors - 1);
+    let phases = [(advance, 3), (NEVER, 4), (NEVER, 5), (NEVER, 3), (NEVER, 4), (NEVER, 5)];
+    let phases = phases.map(|(advance, next)| phase(advance, next, &[]));
+    let atomic = model.atomic_from(innermost, 0, order, &phases);
+    for (to, &(low_elapsed, high_elapsed)) in (1..).zip(ranges) {
+        // Order 0 searches in phase 3, where phase 0 leads by itself.
+        for (from, to) in [(0, to), (3, 3 + to)] {
+            model.rule(Rule { low_elapsed, high_elapsed, ..rule(atomic, from, CUE, to) });
+        }
+    }
+    (1..=atomic).for_each(|inside| model.couple(inside - 1, 0, inside, 0));
+    model
+}
+
 /// So many rules of one atomic, joined to the root's input 0: each but the last wants value 9, and the
 /// last wants 7.
 pub fn last_rule_decides(rules: usize) -> Builder {

@@ -1,4 +1,4 @@
-//! Flattening: the root and the atomics alone, with each route as a coupling.
+//! Flattening: the root and the atomics alone, with each route as a coupling, and ranges read as they were.
 
 use crate::answers::Written;
 use crate::decode::decode;
@@ -40,5 +40,6 @@ pub fn flat_form(model: &Model) -> Model {
     });
     let mut couplings: Vec<Coupling> = routes.collect();
     couplings.sort();
-    Model { components, phases: model.phases.clone(), rules: rules.collect(), couplings }
+    let (phases, rules) = (model.phases.clone(), rules.collect());
+    Model { components, phases, rules, couplings, ranges: model.ranges }
 }

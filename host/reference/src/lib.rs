@@ -25,6 +25,8 @@ pub mod little_endian;
 pub mod model;
 pub mod nest;
 pub mod observed;
+pub mod range_ends;
+pub mod ranges;
 pub mod records;
 pub mod resultant;
 pub mod root_coordinator;

@@ -1,5 +1,7 @@
-//! A model as its four sections of records, the component tree, and the file that holds a model.
+//! A model as its four sections of records and the reading of its ranges, the component tree, and the file
+//! that holds a model.
 
+use crate::ranges::Ranges;
 use crate::records::{Component, Coupling, Phase, Rule};
 
 #[derive(Clone, Debug, Default, PartialEq, Eq)]
@@ -8,6 +10,7 @@ pub struct Model {
     pub phases: Vec<Phase>,
     pub rules: Vec<Rule>,
     pub couplings: Vec<Coupling>,
+    pub ranges: Ranges,
 }
 
 /// How the two ends of a coupling stand to each other.
@@ -60,6 +63,7 @@ impl Model {
         self.rules.iter().for_each(|rule| rule.write(&mut file));
         put_count(&mut file, self.couplings.len());
         self.couplings.iter().for_each(|coupling| coupling.write(&mut file));
+        self.ranges.write(&mut file);
         file
     }
 }

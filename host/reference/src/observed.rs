@@ -3,6 +3,7 @@
 use crate::atomic::{Atomic, AtomicState, Led};
 use crate::limits;
 use crate::lit_rules::LastInstant;
+use crate::range_ends::RangeEnds;
 
 #[derive(Clone, Copy, Debug, Default, PartialEq, Eq)]
 pub struct Observed {
@@ -47,6 +48,7 @@ pub struct Observed {
     pub deepest_transition: usize,
     /// External transitions of a coupled component below the root whose bag reached no atomic.
     pub bags_lost_inside: u64,
+    pub range_ends: RangeEnds,
     /// The last instant done in the last call.
     pub last_instant: LastInstant,
 }

@@ -4,6 +4,7 @@
 use crate::atomic::{Atomic, AtomicState};
 use crate::lit_rules::{Told, Transition};
 use crate::observed::Observed;
+use crate::range_ends::{Search, Searching};
 use crate::records::Message;
 
 pub type Bag = Vec<Message>;
@@ -98,8 +99,11 @@ impl Devs<'_> {
             (Devs::Atomic { atomic, ancestors, .. }, State::Atomic(state)) => {
                 let led = atomic.external(*state, elapsed, bag);
                 observed.external(*ancestors, *state, elapsed, &led);
-                observed.external_part(state.spent + elapsed, bag.len(), led.rule.is_some());
-                self.changed(led.state, Transition::External { rule: led.rule })
+                let (phase, elapsed, decided) = (state.phase, state.spent + elapsed, led.rule);
+                observed.external_part(elapsed, bag.len(), decided.is_some());
+                let by = Searching::External;
+                observed.range_ends.add(&Search { by, atomic, phase, elapsed, bag, decided });
+                self.changed(led.state, Transition::External { rule: decided })
             }
             (Devs::Coupled(resultant), State::Children(children)) => {
                 resultant.external(children, elapsed, bag, observed)
@@ -114,9 +118,11 @@ impl Devs<'_> {
             (Devs::Atomic { atomic, ancestors, .. }, State::Atomic(state)) => {
                 let led = atomic.confluent(*state, bag);
                 observed.confluent(*ancestors, atomic, *state, &led);
-                observed.external_part(0, bag.len(), led.rule.is_some());
-                let internal_first = atomic.internal_first();
-                self.changed(led.state, Transition::Confluent { internal_first, rule: led.rule })
+                let (internal_first, decided) = (atomic.internal_first(), led.rule);
+                observed.external_part(0, bag.len(), decided.is_some());
+                let (by, phase, elapsed) = confluent_search(atomic, state.phase);
+                observed.range_ends.add(&Search { by, atomic, phase, elapsed, bag, decided });
+                self.changed(led.state, Transition::Confluent { internal_first, rule: decided })
             }
             (Devs::Coupled(resultant), State::Children(children)) => {
                 resultant.confluent(children, bag, observed)
@@ -132,6 +138,15 @@ impl Devs<'_> {
         };
         Changed { state: State::Atomic(state), told: vec![Told { rank, ancestors, transition }] }
     }
+}
+
+/// Where and when a confluent transition searches, for what is observed of it.
+fn confluent_search(atomic: &Atomic, phase: u8) -> (Searching, u8, u64) {
+    if atomic.internal_first() {
+        return (Searching::ConfluentInternalFirst, atomic.next_phase(phase), 0);
+    }
+    let advance = atomic.advance(phase).expect("a never-due atomic is not imminent");
+    (Searching::ConfluentExternalFirst, phase, advance)
 }
 
 impl Resultant<'_> {

@@ -24,9 +24,16 @@ fn every_proper_front_is_cut_off() {
 }
 
 #[test]
-fn one_byte_more_is_left_over() {
+fn one_byte_more_is_no_fifth_section() {
     let mut file = worked();
     file.push(0);
+    assert_eq!(reference::check_model(&file), 20);
+}
+
+#[test]
+fn one_byte_more_after_the_fifth_section_is_left_over() {
+    let mut file = worked();
+    file.extend([1, 0, 2, 0]);
     assert_eq!(reference::check_model(&file), 2);
 }
 
@@ -88,11 +95,13 @@ fn an_earlier_section_goes_first() {
 }
 
 #[test]
-fn left_over_bytes_before_routes() {
-    let mut file = repeated_way_out(25, 41).file();
-    assert_eq!(reference::check_model(&file), 9);
-    file.push(0);
-    assert_eq!(reference::check_model(&file), 2);
+fn what_follows_the_couplings_before_routes() {
+    let file = repeated_way_out(25, 41).file();
+    let followed = |bytes: &[u8]| reference::check_model(&[&file, bytes].concat());
+    assert_eq!(followed(&[]), 9);
+    assert_eq!(followed(&[0]), 20);
+    assert_eq!(followed(&[1, 0, 2]), 9);
+    assert_eq!(followed(&[1, 0, 2, 0]), 2);
 }
 
 #[test]
@@ -102,7 +111,7 @@ fn advance_model_run_time_bag() {
     let mut bad_run = started(&file);
     bad_run[8] = 3;
     let mut bad_model = file.clone();
-    bad_model.push(0);
+    bad_model.extend([1, 0, 2, 0]);
     let mut trace = vec![JUNK; 8];
     let mut number = |model: &[u8], run: &[u8], t: u64| {
         let mut lent = run.to_vec();

@@ -14,12 +14,23 @@ fn count_between(bag: &[u32], low: u32, high: u32) -> u32 {
 }
 
 #[inline(always)]
-fn holds(rules: &[u8], place: usize, atomic_and_phase: u16, elapsed: u64, bag: &[u32]) -> bool {
+fn holds(
+    rules: &[u8],
+    place: usize,
+    atomic_and_phase: u16,
+    elapsed: u64,
+    half_open: bool,
+    bag: &[u32],
+) -> bool {
     if u16_at(rules, place) != atomic_and_phase || elapsed < u64::from(u32_at(rules, place + 10)) {
         return false;
     }
     let high_elapsed = u32_at(rules, place + 14);
-    if elapsed > u64::from(high_elapsed) && high_elapsed != limits::UNBOUNDED {
+    // How ranges are read is asked on the tick of their end only.
+    if elapsed >= u64::from(high_elapsed)
+        && high_elapsed != limits::UNBOUNDED
+        && (half_open || elapsed > u64::from(high_elapsed))
+    {
         return false;
     }
     let port = u32::from(at(rules, place + 3)) << 16;
@@ -47,7 +58,8 @@ impl<L: Lights> External<'_, L> {
         let to = usize::from(at(&tables.rules_to, self.number));
         let mut place = Rule::BYTES * from;
         for rule in from..to {
-            if holds(model.rules, place, atomic_and_phase, elapsed, self.bag) {
+            let half_open = model.half_open;
+            if holds(model.rules, place, atomic_and_phase, elapsed, half_open, self.bag) {
                 self.lights.light(self.position, rule as u16);
                 return at(model.rules, place + 2);
             }

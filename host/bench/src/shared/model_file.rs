@@ -1,11 +1,13 @@
-//! A model file read in one pass: the numbers 1 to 8, and its four sections, whose records stay in the
-//! file's bytes.
+//! A model file read in one pass: its numbers up to the routes, its four sections, whose records stay in the
+//! file's bytes, and whether a fifth follows them.
 
 use super::unchecked::{at, u16_at, u32_at};
 use reference::answers::{
-    BAD_COMPONENT, BAD_COUPLING, BAD_PHASE, BAD_RULE, COUNT_LIMIT, CUT_OFF, LEFT_OVER, PHASE_SUM,
+    BAD_COMPONENT, BAD_COUPLING, BAD_FIFTH_SECTION, BAD_PHASE, BAD_RULE, COUNT_LIMIT, CUT_OFF,
+    LEFT_OVER, PHASE_SUM,
 };
 use reference::limits;
+use reference::ranges::Ranges;
 use reference::records::{Component, Coupling, Phase, Rule};
 
 /// The parent of the root.
@@ -16,6 +18,8 @@ pub struct ModelFile<'f> {
     pub phases: &'f [u8],
     pub rules: &'f [u8],
     pub couplings: &'f [u8],
+    /// Whether elapsed ranges stop short of their high ends.
+    pub half_open: bool,
     /// By component; the root has none.
     pub parents: [u8; limits::COMPONENTS],
     /// By component; 0 for a coupled one.
@@ -30,6 +34,7 @@ impl<'f> ModelFile<'f> {
             phases: &[],
             rules: &[],
             couplings: &[],
+            half_open: false,
             parents: [NOBODY; limits::COMPONENTS],
             phase_counts: [0; limits::COMPONENTS],
         };
@@ -52,6 +57,12 @@ impl<'f> ModelFile<'f> {
         let count = take_count(&mut rest, limits::COUPLINGS)?;
         model.couplings = take(&mut rest, count * Coupling::BYTES)?;
         model.check_couplings()?;
+        if rest.is_empty() {
+            return Ok(model);
+        }
+        rest = rest.strip_prefix(&Ranges::SECTION).ok_or(BAD_FIFTH_SECTION)?;
+        model.half_open = true;
+        model.check_half_open_ranges()?;
         if !rest.is_empty() {
             return Err(LEFT_OVER);
         }
@@ -120,6 +131,15 @@ impl<'f> ModelFile<'f> {
             }
         }
         Ok(())
+    }
+
+    /// The records have their low ends at most at the high ones.
+    fn check_half_open_ranges(&self) -> Result<(), u64> {
+        let mut rules = self.rules.chunks_exact(Rule::BYTES);
+        match rules.any(|record| u32_at(record, 10) == u32_at(record, 14)) {
+            true => Err(BAD_RULE),
+            false => Ok(()),
+        }
     }
 
     fn check_couplings(&self) -> Result<(), u64> {

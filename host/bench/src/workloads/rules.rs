@@ -1,8 +1,9 @@
 //! As many rules as a model may have: 32 listeners with 32 rules each. A source sends another value at
-//! each moment, and all listeners search their rules.
+//! each moment, and all listeners search their rules, under either reading of elapsed ranges.
 
 use super::Workload;
 use reference::builder::{phase, rule, Builder, NEVER};
+use reference::ranges::Ranges;
 use reference::records::{Phase, Rule};
 
 const LISTENERS: usize = 32;
@@ -12,9 +13,11 @@ const VALUES: u8 = 8;
 pub fn all() -> Vec<Workload> {
     let grouped = |listener: usize, number: usize| (listener, number);
     let scattered = |listener: usize, number: usize| (number, listener);
+    let half_open = listeners(grouped).read_as(Ranges::HalfOpen);
     vec![
         Workload::long_call("1,024 rules, grouped", &listeners(grouped), 200),
         Workload::long_call("1,024 rules, scattered", &listeners(scattered), 200),
+        Workload::long_call("1,024 rules, half-open", &half_open, 200),
     ]
 }
 

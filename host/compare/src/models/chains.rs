@@ -1,6 +1,7 @@
 //! Chains as stations have them: cues pass from station to station, each a coupled component with
 //! a hold in it, some wrapped deeper, with resets from the root and alarms to the root.
 
+use super::readings;
 use crate::random::Random;
 use reference::builder::{phase, rule, Builder, NEVER};
 use reference::limits::UNBOUNDED;
@@ -33,7 +34,9 @@ pub fn chain(random: &mut Random) -> Model {
         previous = Some(station);
     }
     builder.couple(previous.expect("one station at least"), 0, 0, 0);
-    builder.model()
+    let mut model = builder.model();
+    readings::read_in_either_way(random, &mut model);
+    model
 }
 
 /// A hold inside so many coupled components. Answers the outermost.

@@ -1,5 +1,6 @@
 //! Models at each limit and one past it, with the number that each must get.
 
+use super::tails::TAILS;
 use reference::builder::{phase, rule, Builder, NEVER};
 use reference::examples::{
     atomic_behind_rows, dead_ways, dead_ways_up_and_down, last_rule_decides, repeated_way_out,
@@ -9,7 +10,12 @@ use reference::records::Phase;
 /// A name, the number that the model must get, and the model's file.
 pub type Limit = (&'static str, u64, fn() -> Vec<u8>);
 
-pub const LIMITS: [Limit; 30] = [
+/// Every file whose number is known, those that are about their tails among them.
+pub fn all() -> Vec<&'static Limit> {
+    LIMITS.iter().chain(&TAILS).collect()
+}
+
+const LIMITS: [Limit; 29] = [
     ("a lone root", 0, || Builder::new().file()),
     ("64 components", 0, || components(64).file()),
     ("65 components", 3, || components(65).file()),
@@ -42,7 +48,6 @@ pub const LIMITS: [Limit; 30] = [
     }),
     ("root bag of 4,096 from many atomics", 0, || many_at_the_root().file()),
     ("a file of 32,072 bytes", 0, || largest().file()),
-    ("a file of 32,073 bytes", 2, || [largest().file(), vec![0]].concat()),
     ("only empty coupled components", 0, || nested_coupled(3).file()),
 ];
 
@@ -124,8 +129,8 @@ fn many_at_the_root() -> Builder {
     model
 }
 
-/// Every section at its limit: 64 components, 512 phases, 1,024 rules, 1,024 couplings.
-fn largest() -> Builder {
+/// Each of the four sections at its limit: 64 components, 512 phases, 1,024 rules, 1,024 couplings.
+pub fn largest() -> Builder {
     let mut model = Builder::new();
     let innermost = model.coupled_chain(0, 7);
     for number in 0..56u16 {

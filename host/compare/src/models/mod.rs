@@ -4,3 +4,5 @@ pub mod chains;
 pub mod damage;
 pub mod limits;
 pub mod nests;
+pub mod readings;
+pub mod tails;

@@ -1,6 +1,8 @@
 //! Random nests: any depth up to 8, few values and advances so that things meet, repeated couplings,
-//! empty coupled components, and now and then phases that go on without end at one moment.
+//! empty coupled components, either reading of ranges, and now and then phases that go on without end at
+//! one moment.
 
+use super::readings;
 use crate::random::Random;
 use reference::builder::{phase, Builder, NEVER};
 use reference::limits::{ANCESTORS, PHASES, ROUTES, UNBOUNDED};
@@ -105,6 +107,7 @@ pub fn nest(random: &mut Random) -> Model {
     while routes::count(&model) > ROUTES && !may_stay_over {
         model.couplings.retain(|_| random.percent(60));
     }
+    readings::read_in_either_way(random, &mut model);
     model
 }
 
@@ -176,17 +179,18 @@ fn value_range(random: &mut Random) -> (u16, u16) {
 }
 
 /// A range of elapsed times in a phase. Order 1 searches at the end of a stay, with all of the phase's
-/// advance: some ranges begin just there.
+/// advance: some ranges begin or end just there.
 fn elapsed_range(random: &mut Random, style: &Style, advance: u32) -> (u32, u32) {
     let mut end = || random.pick(&style.advances).saturating_sub(random.below(2) as u32);
     let (one, other) = (end(), end());
-    match random.below(10) {
+    match random.below(12) {
         0..=3 => (0, UNBOUNDED),
         4 => (one, one),
         5 => (0, one),
         6 => (one, UNBOUNDED),
         7 => (one.min(other), one.max(other)),
         8 => (advance, advance),
+        9 | 10 => (0, advance),
         _ => (advance, UNBOUNDED),
     }
 }

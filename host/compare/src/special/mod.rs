@@ -3,6 +3,7 @@
 pub mod bags;
 mod edges;
 pub mod lit_rules;
+pub mod ranges;
 mod steps;
 pub mod strays;
 mod ways;
@@ -18,7 +19,7 @@ use reference::Advanced;
 
 pub type Special = fn(&mut Comparison, &mut Random) -> Compared<()>;
 
-pub const CASES: [Special; 21] = [
+pub const CASES: [Special; 22] = [
     bags::largest_atomic_bags,
     bags::atomic_bag_through_levels,
     bags::largest_root_bags,
@@ -29,6 +30,7 @@ pub const CASES: [Special; 21] = [
     edges::given_bags,
     lit_rules::on_each_level,
     lit_rules::positions,
+    ranges::on_each_level,
     steps::zero_stay_steps,
     steps::long_elapsed,
     steps::highest_time,
@@ -44,7 +46,7 @@ pub const CASES: [Special; 21] = [
 
 /// The names of the boundaries that the cases count.
 pub fn names() -> impl Iterator<Item = &'static str> {
-    let rows = lit_rules::names().chain(strays::names());
+    let rows = lit_rules::names().chain(ranges::names()).chain(strays::names());
     bags::NAMES.into_iter().chain(steps::NAMES).chain(rows).chain(ways::NAMES)
 }
 

@@ -1,6 +1,9 @@
 //! Wrong tables of the rules that decided, made of the flat machine, which is right in all else.
 
 use super::stays::advance_by;
+use super::{comparison_with, find_on_random_models, Fault};
+use crate::random::Random;
+use crate::special;
 use reference::decode::decode;
 use reference::flat_machine::{changed, After, Brought};
 use reference::limits::NO_RULE;
@@ -221,4 +224,24 @@ fn ranks_in_tree_order(model: &Model) -> Vec<usize> {
         waiting.extend(model.children(component).into_iter().rev());
     }
     ranks
+}
+
+#[test]
+fn random_models_alone_find_what_is_wrong_about_lit_rules() {
+    for (wrong, _, models) in ALL {
+        let found = find_on_random_models(Fault::AboutLitRules(wrong), models);
+        assert!(found.is_some(), "{wrong:?} was not found");
+    }
+}
+
+#[test]
+fn rows_alone_find_what_is_wrong_about_lit_rules() {
+    for (wrong, row, _) in ALL {
+        let mut comparison = comparison_with(Fault::AboutLitRules(wrong));
+        let mut random = Random::new(1);
+        let found = special::lit_rules::on_each_level(&mut comparison, &mut random)
+            .and_then(|()| special::lit_rules::positions(&mut comparison, &mut random));
+        let difference = found.expect_err("a row tells the fault");
+        assert!(difference.starts_with(&format!("{row}, ")), "{wrong:?} is told by {difference}");
+    }
 }

@@ -1,4 +1,4 @@
-//! Damage to counts, to the length of the file and to the number of routes: 1, 2, 3, 5 and 9.
+//! Damage to counts, to the length of the four sections and to the number of routes: 1, 3, 5 and 9.
 
 use super::{sections, spoilt_from, Damage};
 use crate::random::Random;
@@ -36,7 +36,7 @@ macro_rules! count_over {
     };
 }
 
-pub const DAMAGES: [Damage; 19] = [
+pub const DAMAGES: [Damage; 17] = [
     cut_count!("component count cut off", 0),
     cut_count!("phase count cut off", 1),
     cut_count!("rule count cut off", 2),
@@ -75,24 +75,9 @@ pub const DAMAGES: [Damage; 19] = [
         },
     },
     Damage {
-        name: "bytes left over",
-        number: 2,
-        apply: |random, model| {
-            let mut file = model.encode();
-            let more = random.pick(&[1, 1, 2, 3, 5, 18]);
-            file.extend(if random.percent(50) { vec![0; more] } else { random.bytes(more) });
-            Some(file)
-        },
-    },
-    Damage { name: "too many routes", number: 9, apply: too_many_routes },
-    Damage {
-        name: "bytes left over after too many routes",
-        number: 2,
-        apply: |random, model| {
-            let mut file = too_many_routes(random, model)?;
-            file.push(random.pick(&[0, 0, 1, 255]));
-            Some(file)
-        },
+        name: "too many routes",
+        number: 9,
+        apply: |random, model| Some(with_many_routes(random, model)?.encode()),
     },
 ];
 
@@ -127,7 +112,7 @@ fn with_count(random: &mut Random, model: &Model, section: usize, count: u16) ->
 }
 
 /// Adds an atomic in a coupled component of its own with more than 1,024 ways to the root.
-fn too_many_routes(random: &mut Random, model: &Model) -> Option<Vec<u8>> {
+pub fn with_many_routes(random: &mut Random, model: &Model) -> Option<Model> {
     let (inner, outer) = random.pick(&[(25, 41), (2, 513), (33, 32), (60, 60), (3, 340)]);
     let around = model.components.len();
     let fits = around + 2 <= COMPONENTS
@@ -154,5 +139,5 @@ fn too_many_routes(random: &mut Random, model: &Model) -> Option<Vec<u8>> {
     model.couplings.extend(vec![row(0, around); 5]);
     model.couplings.push(row(around, around + 1));
     model.couplings.sort();
-    Some(model.encode())
+    Some(model)
 }

@@ -7,6 +7,7 @@ mod couplings;
 mod file;
 mod phases;
 mod rules;
+mod tail;
 
 use crate::random::Random;
 use reference::model::Model;
@@ -21,17 +22,18 @@ pub struct Damage {
 
 /// Every kind of damage.
 pub fn all() -> Vec<&'static Damage> {
-    let tables: [&[Damage]; 5] = [
+    let tables: [&[Damage]; 6] = [
         &components::DAMAGES,
         &phases::DAMAGES,
         &rules::DAMAGES,
         &couplings::DAMAGES,
         &file::DAMAGES,
+        &tail::DAMAGES,
     ];
     tables.into_iter().flatten().collect()
 }
 
-/// Where each of the four sections begins in a model's file, and where the last ends.
+/// Where each of the four sections begins in a model's file, and where the last of them ends.
 pub fn sections(model: &Model) -> [usize; 5] {
     let lengths = [
         2 + Component::BYTES * model.components.len(),
