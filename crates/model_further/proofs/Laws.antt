@@ -41,8 +41,14 @@ module _ (rs : List Rule) where
     pub equal-ends : isFifth s ≡ true → all (elapsedFits halfOpen) rs ≡ false → refused 7 ≡ furtherSections rs s
     equal-ends e f = sym (rw (in-order s some, e, f))
 
-    pub left-over : isFifth s ≡ true → all (elapsedFits halfOpen) rs ≡ true → fifthSize < length s → refused 2 ≡ furtherSections rs s
-    left-over e f l = sym (rw (in-order s some, e, f, lt-ltb 0 (length (drop fifthSize s)) (omega (arith, length-drop fifthSize s))))
+  -- a fifth section that no test refuses
+  pub record Present (s : Bytes) : Type 0 where
+    pub some : length s ≡ 0 → ⊥
+    pub fifth : isFifth s ≡ true
+    pub differ : all (elapsedFits halfOpen) rs ≡ true
 
-    pub half-open : isFifth s ≡ true → all (elapsedFits halfOpen) rs ≡ true → length s ≤ fifthSize → ok halfOpen ≡ furtherSections rs s
-    half-open e f l = sym (rw (in-order s some, e, f, le-ltb 0 (length (drop fifthSize s)) (omega (arith, length-drop fifthSize s))))
+  pub left-over : (s : Bytes) → Present s → fifthSize < length s → refused 2 ≡ furtherSections rs s
+  left-over s p l = sym (rw (in-order s (p .some), p .fifth, p .differ, lt-ltb 0 (length (drop fifthSize s)) (omega (arith, length-drop fifthSize s))))
+
+  pub half-open : (s : Bytes) → Present s → length s ≤ fifthSize → ok halfOpen ≡ furtherSections rs s
+  half-open s p l = sym (rw (in-order s (p .some), p .fifth, p .differ, le-ltb 0 (length (drop fifthSize s)) (omega (arith, length-drop fifthSize s))))

@@ -5,7 +5,7 @@ use denote.Ref.{now}
 use Rattle.definition.specs.Bytes.{refused}
 use Rattle.law_base.proofs.Tests.{not-passed, not-failed}
 use Rattle.model_records.specs.Values.{rulesIn}
-use Rattle.model_further.proofs.Laws.{nothing-follows, no-section, equal-ends, left-over, half-open}
+use Rattle.model_further.proofs.Laws.{Present, nothing-follows, no-section, equal-ends, left-over, half-open}
 use Rattle.model_further.proofs.read_further.Statement.{statement}
 use Rattle.model_further.proofs.read_further.Tie as tie
 
@@ -27,20 +27,17 @@ returns-3 c =
     ∙ equal-ends (rulesIn (now (start .args .rules))) (now (start .args .rest-of-file)) (some .if1 .left) (sym (fifth .is-fifth .ensures) ∙ not-failed _ (such .if2 .left))
     (sym (differ .ends-differ .ensures) ∙ not-passed _ (equal .if3 .taken))
 
-returns-4 : tie.Need-returns-4
-returns-4 c =
-    let start : tie.Start = search in let some : tie.Else1 = search in let fifth : tie.After-is-fifth = search in
-    let such : tie.Else2 = search in let differ : tie.After-ends-differ = search in let different : tie.Else3 = search in
-    left-over (rulesIn (now (start .args .rules))) (now (start .args .rest-of-file)) (some .if1 .left) (sym (fifth .is-fifth .ensures) ∙ not-failed _ (such .if2 .left))
-    (sym (differ .ends-differ .ensures) ∙ not-failed _ (different .if3 .left)) (c .if4 .taken)
+-- what is known behind the three tests
+abbrev start-of : tie.Else3 → tie.Start
+start-of c = search
 
-returns-5 : tie.Need-returns-5
-returns-5 c =
-    let start : tie.Start = search in let some : tie.Else1 = search in let fifth : tie.After-is-fifth = search in
-    let such : tie.Else2 = search in let differ : tie.After-ends-differ = search in let different : tie.Else3 = search in
-    half-open (rulesIn (now (start .args .rules))) (now (start .args .rest-of-file)) (some .if1 .left) (sym (fifth .is-fifth .ensures) ∙ not-failed _ (such .if2 .left))
-    (sym (differ .ends-differ .ensures) ∙ not-failed _ (different .if3 .left)) (c .if4 .left)
+passed : (c : tie.Else3) → Present (rulesIn (now (start-of c .args .rules))) (now (start-of c .args .rest-of-file))
+passed c =
+    let some : tie.Else1 = search in let fifth : tie.After-is-fifth = search in let such : tie.Else2 = search in
+    let differ : tie.After-ends-differ = search in
+    record { some = some .if1 .left; fifth = sym (fifth .is-fifth .ensures) ∙ not-failed _ (such .if2 .left); differ = sym (differ .ends-differ .ensures) ∙ not-failed _ (c .if3 .left) }
 
 pub read-further-spec : {M : Type 1} → statement M
 read-further-spec =
-    tie.close (tie.spec returns (λ c κs. search needs) returns-2 (λ c κs. search needs) (λ c κs. search needs) returns-3 returns-4 returns-5)
+    tie.close (tie.spec returns (λ c κs. search needs) returns-2 (λ c κs. search needs) (λ c κs. search needs) returns-3
+    (λ c. let different : tie.Else3 = search in left-over _ _ (passed different) (c .if4 .taken)) (λ c. let different : tie.Else3 = search in half-open _ _ (passed different) (c .if4 .left)))
