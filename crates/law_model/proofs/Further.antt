@@ -1,7 +1,7 @@
 -- What follows the couplings: the bytes of a fifth section are read to the reading that they stand for, and what was read is spelled by them.
 -- Assumes nothing.
 use mathlib.Core.Path.{_≡_, refl, subst}
-use Prim.Native.Nat.{ℕ, _+_, _*_}
+use Prim.Native.Nat.{_+_, _*_}
 use mathlib.Core.List.{List, [], _∷_, _++_}
 use mathlib.Core.Bool.{true, _&&_, not}
 use native.Mathlib.Omega.{arith}
