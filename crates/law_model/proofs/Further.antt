@@ -3,13 +3,13 @@
 use mathlib.Core.Path.{_≡_, refl, subst}
 use Prim.Native.Nat.{_+_, _*_}
 use mathlib.Core.List.{List, [], _∷_, _++_}
-use mathlib.Core.Bool.{true, _&&_, not}
+use mathlib.Core.Bool.{Bool, true, false, _&&_, not}
 use native.Mathlib.Omega.{arith}
 use lib.Dec.{leb, ltb, eqb}
 use lib.ListN.{length, drop}
 use borrow.Author.Tests.{eqb-true, le-leb}
 use Rattle.definition.specs.Lists.{all, concat}
-use Rattle.definition.specs.Bytes.{Bytes, ok, numberAt, littleEndian, bytesOf}
+use Rattle.definition.specs.Bytes.{Bytes, ok, _>>=_, refuseIf, numberAt, littleEndian, bytesOf}
 use Rattle.definition.specs.Limits.{halfOpenByte, countSize, fifthSize}
 use Rattle.definition.specs.Model.{Rule, RangeReading, inclusive, halfOpen}
 use Rattle.definition.specs.File.{sectionBytes, rangesBytes}
@@ -58,3 +58,15 @@ further-given rs s r e =
     let b = refuse-ok (not (all (elapsedFits (a .0 .ranges)) rs)) 7 _ r (a .2) in
     let c = refuse-ok (ltb 0 (length (a .0 .rest))) 2 _ r (b .1) in
     subst (λ (q : RangeReading). all (elapsedFits q) rs ≡ true) (ok-same (a .0 .ranges) r (c .1)) (not-failed (all (elapsedFits (a .0 .ranges)) rs) (b .0))
+
+-- Where something follows the couplings, these tests are made in this order: is it a fifth section, do the ends differ, is a byte left over.
+pub in-order : (rs : List Rule) (s : Bytes) → (length s ≡ 0 → ⊥)
+    → furtherSections rs s ≡ (refuseIf (not (isFifth s)) 20 >>= λ _. refuseIf (not (all (elapsedFits halfOpen) rs)) 7 >>= λ _. endOfFile (drop fifthSize s) >>= λ _. ok halfOpen)
+unfolding furtherSections fifthSection
+in-order rs [] h = absurd (h refl)
+in-order rs (b ∷ s) h = go (isFifth (b ∷ s)) refl
+  where
+    go : (t : Bool) → isFifth (b ∷ s) ≡ t
+        → furtherSections rs (b ∷ s) ≡ (refuseIf (not (isFifth (b ∷ s))) 20 >>= λ _. refuseIf (not (all (elapsedFits halfOpen) rs)) 7 >>= λ _. endOfFile (drop fifthSize (b ∷ s)) >>= λ _. ok halfOpen)
+    go true e = rw e
+    go false e = rw e

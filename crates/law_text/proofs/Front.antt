@@ -16,8 +16,9 @@ use Rattle.definition.specs.Limits.{countSize, maxComponents, maxPhases, maxRul
 use Rattle.definition.specs.Model.{Rule, halfOpen}
 use Rattle.definition.specs.File.{phaseTotal}
 use Rattle.definition.specs.Routes.{routes}
-use Rattle.definition.specs.Pinned.Decoder.{toComponent, componentFits, toPhase, phaseFits, toRule, ruleFits, toCoupling, couplingFits, Section, sectionCount, section, componentCountRefusal, phaseCountRefusal, limitRefusal, componentSection, phaseSection, ruleSection, couplingSection, isFifth, fifthSection, elapsedFits, endOfFile, furtherSections, decode, accepted}
+use Rattle.definition.specs.Pinned.Decoder.{toComponent, componentFits, toPhase, phaseFits, toRule, ruleFits, toCoupling, couplingFits, Section, sectionCount, section, componentCountRefusal, phaseCountRefusal, limitRefusal, componentSection, phaseSection, ruleSection, couplingSection, isFifth, elapsedFits, endOfFile, furtherSections, decode, accepted}
 use Rattle.law_model.proofs.Reading.{most-within, components-within, phases-right}
+use Rattle.law_model.proofs.Further.{in-order}
 
 -- ---- parts of a front
 
@@ -109,15 +110,7 @@ left-over s h = rw (lt-ltb 0 (length s) h)
 -- More bytes behind the couplings than a fifth section has: there is none (20), or a range has equal ends (7), or a byte is left over (2).
 further-long : (rs : List Rule) (s : Bytes) → fifthSize < length s
     → furtherSections rs s ≡ (refuseIf (not (isFifth s)) 20 >>= λ _. refuseIf (not (all (elapsedFits halfOpen) rs)) 7 >>= λ _. refused 2)
-unfolding furtherSections fifthSection
-further-long rs [] h = absurd (omega arith)
-further-long rs (b ∷ s) h = go (isFifth (b ∷ s)) refl (all (elapsedFits halfOpen) rs) refl
-  where
-    go : (t : Bool) → isFifth (b ∷ s) ≡ t → (u : Bool) → all (elapsedFits halfOpen) rs ≡ u
-        → furtherSections rs (b ∷ s) ≡ (refuseIf (not (isFifth (b ∷ s))) 20 >>= λ _. refuseIf (not (all (elapsedFits halfOpen) rs)) 7 >>= λ _. refused 2)
-    go true e true f = rw (e, f, left-over (drop fifthSize (b ∷ s)) (omega (arith, length-drop fifthSize (b ∷ s))))
-    go true e false f = rw (e, f)
-    go false e u f = rw e
+further-long rs s h = in-order rs s (λ e. omega arith) ∙ rw (left-over (drop fifthSize s) (omega (arith, length-drop fifthSize s)))
 
 fifth-front : (k : ℕ) (s : Bytes) → fifthSize ≤ k → k ≤ length s → isFifth (take k s) ≡ isFifth s
 unfolding isFifth numberAt

@@ -2,17 +2,17 @@
 use mathlib.Core.Path.{_≡_, refl, sym}
 use Prim.Native.Nat.{_≤_, _<_}
 use mathlib.Core.List.{List, [], _∷_}
-use mathlib.Core.Bool.{Bool, true, false, not}
+use mathlib.Core.Bool.{true, false}
 use native.Mathlib.Omega.{arith}
-use lib.Dec.{ltb}
 use lib.ListN.{length, drop, length-drop}
 use borrow.Author.Tests.{lt-ltb, le-ltb}
 use Rattle.definition.specs.Lists.{all}
-use Rattle.definition.specs.Bytes.{Bytes, Result, ok, refused, _>>=_, refuseIf}
+use Rattle.definition.specs.Bytes.{Bytes, ok, refused}
 use Rattle.definition.specs.Limits.{fifthSize}
-use Rattle.definition.specs.Model.{Rule, RangeReading, inclusive, halfOpen}
+use Rattle.definition.specs.Model.{Rule, inclusive, halfOpen}
 use Rattle.definition.specs.Pinned.Decoder.{isFifth, fifthSection, elapsedFits, endOfFile, furtherSections}
 use Rattle.law_base.proofs.Lists.{all-every}
+use Rattle.law_model.proofs.Further.{in-order}
 
 module _ (rs : List Rule) where
   -- nothing follows the couplings
@@ -21,25 +21,12 @@ module _ (rs : List Rule) where
   nothing-follows [] e = rw (all-every {A = Rule} (λ k. true) rs (λ k. refl))
   nothing-follows (b ∷ s) e = absurd (omega arith)
 
-  -- something follows: the tests in their order
-  abbrev tested : Bytes → Bool → Bool → Result RangeReading
-  tested s fifth differ = refuseIf (not fifth) 20 >>= λ _. refuseIf (not differ) 7 >>= λ _. refuseIf (ltb 0 (length (drop fifthSize s))) 2 >>= λ _. ok halfOpen
-
-  in-order : (s : Bytes) → (length s ≡ 0 → ⊥) → furtherSections rs s ≡ tested s (isFifth s) (all (elapsedFits halfOpen) rs)
-  unfolding furtherSections fifthSection endOfFile
-  in-order [] h = absurd (h refl)
-  in-order (b ∷ s) h = go (isFifth (b ∷ s)) refl
-    where
-      go : (t : Bool) → isFifth (b ∷ s) ≡ t → furtherSections rs (b ∷ s) ≡ tested (b ∷ s) (isFifth (b ∷ s)) (all (elapsedFits halfOpen) rs)
-      go true e = rw e
-      go false e = rw e
-
   module _ (s : Bytes) (some : length s ≡ 0 → ⊥) where
     pub no-section : isFifth s ≡ false → refused 20 ≡ furtherSections rs s
-    no-section e = sym (rw (in-order s some, e))
+    no-section e = sym (rw (in-order rs s some, e))
 
     pub equal-ends : isFifth s ≡ true → all (elapsedFits halfOpen) rs ≡ false → refused 7 ≡ furtherSections rs s
-    equal-ends e f = sym (rw (in-order s some, e, f))
+    equal-ends e f = sym (rw (in-order rs s some, e, f))
 
   -- a fifth section that no test refuses
   pub record Present (s : Bytes) : Type 0 where
@@ -48,7 +35,9 @@ module _ (rs : List Rule) where
     pub differ : all (elapsedFits halfOpen) rs ≡ true
 
   pub left-over : (s : Bytes) → Present s → fifthSize < length s → refused 2 ≡ furtherSections rs s
-  left-over s p l = sym (rw (in-order s (p .some), p .fifth, p .differ, lt-ltb 0 (length (drop fifthSize s)) (omega (arith, length-drop fifthSize s))))
+  unfolding endOfFile
+  left-over s p l = sym (rw (in-order rs s (p .some), p .fifth, p .differ, lt-ltb 0 (length (drop fifthSize s)) (omega (arith, length-drop fifthSize s))))
 
   pub half-open : (s : Bytes) → Present s → length s ≤ fifthSize → ok halfOpen ≡ furtherSections rs s
-  half-open s p l = sym (rw (in-order s (p .some), p .fifth, p .differ, le-ltb 0 (length (drop fifthSize s)) (omega (arith, length-drop fifthSize s))))
+  unfolding endOfFile
+  half-open s p l = sym (rw (in-order rs s (p .some), p .fifth, p .differ, le-ltb 0 (length (drop fifthSize s)) (omega (arith, length-drop fifthSize s))))
