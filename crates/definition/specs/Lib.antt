@@ -30,5 +30,6 @@ pub mod StrayCue
 pub mod DecidedRules
 pub mod TracesByColumn
 pub mod AtomicBags
+pub mod RootBags
 pub mod Feeds
 pub mod HalfOpenRanges

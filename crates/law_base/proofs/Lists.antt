@@ -175,6 +175,15 @@ module _ {A : Type 0} where
   count-sum p [] = refl
   count-sum p (a ∷ l) = rw (count-sum p l)
 
+  pub count-most : (p : A → Bool) (l : List A) → count p l ≤ length l
+  unfolding count
+  count-most p [] = omega arith
+  count-most p (a ∷ l) = go (p a) (count-most p l)
+    where
+      go : (b : Bool) → count p l ≤ length l → cond b 1 0 + count p l ≤ length (a ∷ l)
+      go true h = omega arith
+      go false h = omega arith
+
 module _ {A B : Type 0} where
   pub all-map : (p : B → Bool) (f : A → B) (l : List A) → all p (map f l) ≡ all (λ a. p (f a)) l
   unfolding all

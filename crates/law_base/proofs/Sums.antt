@@ -4,6 +4,8 @@ use Prim.Native.Nat.{ℕ, _+_, _*_, _≤_}
 use mathlib.Core.List.{List, [], _∷_, _++_, map}
 use mathlib.Core.Bool.{Bool, true, false, _&&_, cond}
 use native.Mathlib.Omega.{arith}
+use native.Mathlib.Nat.{mul-le-mul-right}
+use lib.ListN.{length}
 use Rattle.definition.specs.Lists.{concat, keep}
 
 unfoldable pub sumOf : {A : Type 0} → (A → ℕ) → List A → ℕ
@@ -100,3 +102,16 @@ module _ {A : Type 0} where
   unfolding sumOf keep
   sum-keep f p [] = refl
   sum-keep f p (a ∷ l) = sum-cons f (p a) a (keep p l) ∙ rw (sum-keep f p l)
+
+  -- elements of one weight
+  pub sum-const : (k : ℕ) (l : List A) → sumOf (λ a. k) l ≡ length l * k
+  unfolding sumOf
+  sum-const k [] = omega arith
+  sum-const k (a ∷ l) = let h = sum-const k l in omega arith
+
+  pub sum-ones : (l : List A) → sumOf (λ a. 1) l ≡ length l
+  sum-ones l = let h = sum-const 1 l in omega arith
+
+  -- at most n elements of at most k each
+  pub sum-most : (g : A → ℕ) (n k : ℕ) (l : List A) → length l ≤ n → ((a : A) → g a ≤ k) → sumOf g l ≤ n * k
+  sum-most g n k l few each = omega (arith, sum-le g (λ a. k) l each, sum-const k l, mul-le-mul-right k few)

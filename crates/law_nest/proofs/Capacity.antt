@@ -3,7 +3,7 @@
 -- enough. Assumes nothing.
 use mathlib.Core.Path.{_≡_, refl, ap}
 use Prim.Native.Nat.{ℕ, _+_, _*_, _≤_}
-use mathlib.Core.List.{List, [], _∷_, _++_}
+use mathlib.Core.List.{List, [], _++_}
 use mathlib.Core.Bool.{Bool, true, false, _&&_, cond}
 use native.Mathlib.Omega.{arith}
 use native.Mathlib.Nat.{mul-le-mul-left, mul-le-mul-right}
@@ -17,8 +17,8 @@ use Rattle.definition.specs.Records.{portFits}
 use Rattle.definition.specs.Routes.{Port, endsIn, joinedAll, waysFrom, waysFromAll, rootEnds, routes}
 use Rattle.definition.specs.SavedRun.{Entry}
 use Rattle.definition.specs.AtomicBags.{endingAt}
-use Rattle.law_base.proofs.Sums.{sumOf, sum-le}
-use Rattle.law_base.proofs.Lists.{sum-cong-if, count-sum}
+use Rattle.law_base.proofs.Sums.{sumOf, sum-le, sum-ones, sum-most}
+use Rattle.law_base.proofs.Lists.{sum-cong-if, count-sum, count-most}
 use Rattle.law_base.proofs.Bags.{count-append}
 use Rattle.law_model.proofs.WellFormed.{WellFormed}
 use Rattle.law_model.proofs.PhaseRange.{outputs-fit}
@@ -29,20 +29,6 @@ use Rattle.law_nest.proofs.Paths.{waysSum, waysSumAll, down-tree, up-tr
 use Rattle.law_nest.proofs.Carried.{weight, ways-leaf}
 use Rattle.law_nest.proofs.Carry.{root-hits}
 
--- ---- sums of ones
-
-pub sum-const : {A : Type 0} (k : ℕ) (l : List A) → sumOf (λ a. k) l ≡ length l * k
-unfolding sumOf
-sum-const k [] = omega arith
-sum-const k (a ∷ l) = let h = sum-const k l in omega arith
-
-pub sum-ones : {A : Type 0} (l : List A) → sumOf (λ a. 1) l ≡ length l
-sum-ones l = let h = sum-const 1 l in omega arith
-
--- at most n elements of at most k each
-pub sum-most : {A : Type 0} (g : A → ℕ) (n k : ℕ) (l : List A) → length l ≤ n → ((a : A) → g a ≤ k) → sumOf g l ≤ n * k
-sum-most g n k l few each = omega (arith, sum-le g (λ a. k) l each, sum-const k l, mul-le-mul-right k few)
-
 -- ---- one route
 
 module _ (a : ℕ) where
@@ -52,12 +38,7 @@ module _ (a : ℕ) where
 
   pub ending-most : (ks : List Coupling) → endingAt a ks ≤ length ks
   unfolding endingAt
-  ending-most ks =
-      omega (arith, count-sum (λ k. eqb (k .target) a) ks, sum-le (λ k. cond (eqb (k .target) a) 1 0) (λ k. 1) ks (λ k. at-most (eqb (k .target) a)), sum-ones ks)
-    where
-      at-most : (b : Bool) → cond b 1 0 ≤ 1
-      at-most true = omega arith
-      at-most false = omega arith
+  ending-most ks = count-most (λ k. eqb (k .target) a) ks
 
   -- a message goes once along a coupling that ends at a, and begins at its own port
   pub weight-most : (s : ℕ) (y : Message) (ks : List Coupling) → sumOf (weight a (λ z. 1) s y) ks ≤ endingAt a ks

@@ -15,7 +15,7 @@ use Rattle.definition.specs.Model.{Bag, Coupling, Model, atomics, phaseAt, outp
 use Rattle.definition.specs.SavedRun.{Entry}
 use Rattle.definition.specs.FlatMachine.{Sent, sent, dueNow, putOut, allSent, arriving}
 use Rattle.definition.specs.AtomicBags.{endingAt}
-use Rattle.law_base.proofs.Sums.{sumOf, sum-append, sum-map, sum-cond, sum-zero, sum-le, sum-swap, sum-scale}
+use Rattle.law_base.proofs.Sums.{sumOf, sum-append, sum-map, sum-cond, sum-zero, sum-le, sum-swap, sum-scale, sum-const, sum-ones}
 use Rattle.law_base.proofs.Lists.{count-sum}
 use Rattle.law_model.proofs.WellFormed.{WellFormed}
 use Rattle.law_nest.proofs.Occurs.{occurs}
@@ -23,7 +23,7 @@ use Rattle.law_nest.proofs.Components.{atomic-most}
 use Rattle.law_nest.proofs.Carried.{weight}
 use Rattle.law_nest.proofs.Carry.{root-absent}
 use Rattle.law_nest.proofs.Arrivals.{arriving-sum}
-use Rattle.law_nest.proofs.Capacity.{sum-ones, sum-const, outputs-few}
+use Rattle.law_nest.proofs.Capacity.{outputs-few}
 
 -- what is sent in some steps only
 if-most : (b : Bool) (n k : ℕ) → n ≤ k → cond b n 0 ≤ k

@@ -14,12 +14,12 @@ use Rattle.definition.specs.Routes.{portsTo, Port, endsIn, endsFrom, waysFrom, 
 use Rattle.definition.specs.Devs.{Time, sameTime, Totals, translate, sigma, leastSigma, outputsTo, resultantOut}
 use Rattle.definition.specs.Atomic.{devsOf, partsOf}
 use Rattle.definition.specs.AtomicBags.{endingAt}
-use Rattle.law_base.proofs.Sums.{sumOf}
+use Rattle.law_base.proofs.Sums.{sumOf, sum-ones}
 use Rattle.law_model.proofs.WellFormed.{WellFormed}
 use Rattle.law_model.proofs.PhaseRange.{outputs-fit}
 use Rattle.law_nest.proofs.Hits.{over, translate-cond, hits, Sender, gathered, hits-nil, hits-leaf, hits-down, hits-up}
 use Rattle.law_nest.proofs.Carry.{root-hits}
-use Rattle.law_nest.proofs.Capacity.{sum-ones, ending-append, route-carries, outputs-few, few-if, fit-if}
+use Rattle.law_nest.proofs.Capacity.{ending-append, route-carries, outputs-few, few-if, fit-if}
 
 module _ (m : Model) where
   -- ---- what the parts send

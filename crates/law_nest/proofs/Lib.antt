@@ -22,5 +22,6 @@ pub mod Firsts
 pub mod Stepping
 pub mod Capacity
 pub mod Handed
+pub mod RootBag
 pub mod BagsTold
 pub mod FlatBags

@@ -16,7 +16,6 @@ pub mod Lengths
 pub mod Resuming
 pub mod FeedResumes
 pub mod Header
-pub mod RootBag
 pub mod Shown
 pub mod Standing
 pub mod StandsOnce
@@ -32,6 +31,7 @@ pub mod Spans
 pub mod Joined
 pub mod TracesByColumn
 pub mod AtomicBags
+pub mod RootBags
 pub mod FeedSums
 pub mod Feeds
 pub mod Demand2
