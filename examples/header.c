@@ -1,6 +1,6 @@
 /*
  * What include/pdevs.h names, held against the library: every number has a name and words, and the sizes, places and limits
- * are those of the calls on a small model. It is compiled as C and as C++. The exit status is 0 only where everything held.
+ * are those of the calls on small models. It is compiled as C and as C++. The exit status is 0 only where everything held.
  */
 #include <stdio.h>
 #include <string.h>
@@ -27,7 +27,18 @@ static void holds(int condition, const char *what) {
     failed = 1;
 }
 
-/* The numbers are 0 to one less than there are, each with words that no other has. */
+/* The branches of a program that was written while 14 was a number. */
+static const char *by_old_branches(uint64_t number) {
+    switch (number) {
+    case PDEVS_OK: return "done";
+    case PDEVS_STILL_DUE: return "jams";
+    case PDEVS_ROOT_BAG_LIMIT: return "dead";
+    case PDEVS_BUFFER_TOO_SHORT: return "goes on";
+    default: return number == PDEVS_ROOT_BAG_LIMIT ? "dead" : "refused";
+    }
+}
+
+/* The numbers are 0 to as many as there are, without the retired one, each with words that no other has. */
 static void numbers(void) {
 #define LISTED(number, name, words) name,
     static const uint64_t listed[] = {PDEVS_NUMBERS(LISTED)};
@@ -35,13 +46,15 @@ static void numbers(void) {
     const size_t count = sizeof listed / sizeof *listed;
     size_t one, other;
     for (one = 0; one < count; one++) {
-        holds(listed[one] < count, "the numbers have no gap");
-        for (other = 0; other <= count; other++) {
+        holds(listed[one] <= count && listed[one] != PDEVS_ROOT_BAG_LIMIT, "the numbers have no gap but the retired one");
+        holds(strcmp(by_old_branches(listed[one]), "dead") != 0, "no number reaches the dead branch");
+        for (other = 0; other <= count + 1; other++) {
             int same = strcmp(pdevs_words(listed[one]), pdevs_words(other)) == 0;
             holds(same == (listed[one] == other), "each number has words of its own");
         }
     }
-    holds(pdevs_words(count) == pdevs_words(UINT64_MAX), "no other number has words");
+    holds(pdevs_words(count + 1) == pdevs_words(UINT64_MAX), "no other number has words");
+    holds(PDEVS_ROOT_BAG_LIMIT == 14 && pdevs_words(14) == pdevs_words(UINT64_MAX), "the retired number has no words");
 }
 
 static uint64_t start(void) {
@@ -86,6 +99,29 @@ static uint64_t number_at(const uint8_t *bytes, int width) {
     uint64_t n = 0;
     while (width > 0) n = n * 256 + bytes[--width];
     return n;
+}
+
+/* The longest record: one atomic, due at every moment but 0 with four messages, and 1,024 routes from it to the root. */
+static void by_longest_record(void) {
+    static const uint8_t head[] = {
+        2, 0, /**/ 0, 0, 0, 0, 0, /**/ 1, 0, 1, 0, 0,
+        1, 0, /**/ 1, 0, 0, 0, /**/ 0, 4, /**/ 2, 0, 0, /**/ 2, 1, 0, /**/ 2, 1, 0, /**/ 2, 1, 2,
+        0, 0,
+        0, 4,
+    };
+    static const uint8_t row[] = {1, 2, 0, 3};
+    static uint8_t file[sizeof head + 1024 * sizeof row], record[PDEVS_MAX_RECORD];
+    pdevs_advanced a;
+    size_t at;
+    memcpy(file, head, sizeof head);
+    for (at = sizeof head; at < sizeof file; at += sizeof row) memcpy(file + at, row, sizeof row);
+    holds(pdevs_start(file, sizeof file, run, sizeof run).number == PDEVS_OK, "a start with 1,024 routes to the root");
+    a = pdevs_advance(file, sizeof file, run, sizeof run, 1, row, 0, record, PDEVS_MAX_RECORD - 1, rules, 0);
+    holds(a.number == PDEVS_BUFFER_TOO_SHORT && a.instants == 0, "a trace one byte shorter than the longest record");
+    a = pdevs_advance(file, sizeof file, run, sizeof run, 1, row, 0, record, PDEVS_MAX_RECORD, rules, 0);
+    holds(a.number == PDEVS_OK && a.trace_bytes == PDEVS_MAX_RECORD, "the longest record");
+    holds(number_at(record + PDEVS_RECORD_MESSAGE_COUNT, 2) == PDEVS_MAX_RECORD_MESSAGES, "the most messages of a record");
+    holds(number_at(record + PDEVS_MAX_RECORD - 2, 2) == 513, "the last message of the longest record");
 }
 
 /* Two records by columns, of 1 and 2 messages, and back. */
@@ -171,13 +207,15 @@ static void by_sections(void) {
 int main(void) {
     numbers();
     calls();
+    by_longest_record();
     by_columns();
     by_feed();
     by_sections();
     holds(PDEVS_MAX_MODEL == 32075, "the longest model");
     holds(PDEVS_MAX_FEED == 57002, "the longest feed");
+    holds(PDEVS_MAX_RECORD == 12300, "the longest record in bytes");
     holds(PDEVS_MAX_RUN == 577, "the longest run");
     holds(PDEVS_MAX_RULES_TABLE == 126, "the longest rules table");
-    holds(strcmp(PDEVS_VERSION, "2.3") == 0, "the version");
+    holds(strcmp(PDEVS_VERSION, "2.4") == 0, "the version");
     return failed;
 }

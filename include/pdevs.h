@@ -37,8 +37,10 @@
  * A trace has a record for each step with output at the root: moment (8), step in its instant from 0 (2), message count (2),
  * and 3 bytes for each message, in rising order of port, then value. The pairs of moment and step rise strictly, moment first.
  * The traces of successive advances, each given the run buffer as the one before left it, joined in turn are one trace, up to
- * 4,294,967,295 records, whichever model each of them runs: refused advances add nothing to it, and those that 13, 14 or 15 ended
+ * 4,294,967,295 records, whichever model each of them runs: refused advances add nothing to it, and those that 13 or 15 ended
  * add the instants done. So the trace of a feed is one, and is joined like that of an advance. A start begins another one.
+ * A record that an advance or a feed writes has 1 to 4,096 messages, so that PDEVS_MAX_RECORD bytes, 12,300, hold any one of them;
+ * an instant writes one for each of its steps with output at the root, of which it has 1,024 at most.
  *
  * A trace by columns has the same numbers in another order, for archives, where moments are searched and like stands beside like:
  * record count (4), all moments (8 each), all steps (2), all message counts (2), all ports (1), all values (2). It has
@@ -50,7 +52,7 @@
  * A call answers a number: 0 is success, the others are refusals. PDEVS_NUMBERS below has them all, with names and words, in
  * the order of the checks. Those of a model, which every call gives that takes one, are 1 to 9 and 20. With 1 to 12 and 16 to 20,
  * and with 15 from every call but the two that advance a run, every other number answered is 0 and no byte of any buffer is
- * changed. 13, 14 and 15 from these two keep what was done before: see there.
+ * changed. 13 and 15 from these two keep what was done before: see there.
  *
  * What is asked of the caller:
  *   - a pointer is not null, also where its length is 0, and is valid for its length (readable; writable where not const);
@@ -65,10 +67,11 @@
 #include <stddef.h>
 #include <stdint.h>
 
-/* The version of this interface: the minor number rises where something is added, the major where programs must change. */
+/* The version of this interface: the major number rises where programs must change, the minor where something is added or retired
+   and they may stay as they are. */
 #define PDEVS_VERSION_MAJOR 2
-#define PDEVS_VERSION_MINOR 3
-#define PDEVS_VERSION PDEVS_VERSION_OF(PDEVS_VERSION_MAJOR, PDEVS_VERSION_MINOR) /* the same as a text, "2.3" */
+#define PDEVS_VERSION_MINOR 4
+#define PDEVS_VERSION PDEVS_VERSION_OF(PDEVS_VERSION_MAJOR, PDEVS_VERSION_MINOR) /* the same as a text, "2.4" */
 #define PDEVS_VERSION_OF(major, minor) PDEVS_VERSION_TEXT(major, minor)
 #define PDEVS_VERSION_TEXT(major, minor) #major "." #minor
 
@@ -95,7 +98,6 @@
     ROW(11, PDEVS_BAD_MOMENT, "a moment lies before the open moment or a feed's last bag, or above 1,000,000,000,000")   \
     ROW(12, PDEVS_BAD_BAG, "the bag's length is no multiple of 3, or it has over 16 messages, or a port above 3")        \
     ROW(13, PDEVS_STILL_DUE, "something is still due at a moment after 1,024 steps there")                               \
-    ROW(14, PDEVS_ROOT_BAG_LIMIT, "a step's bag at the root has over 4,096 messages")                                    \
     ROW(17, PDEVS_NOT_A_TRACE, "the bytes to rearrange are no trace")                                                    \
     ROW(18, PDEVS_NOT_COLUMNS, "the columns do not come from a trace")                                                   \
     ROW(15, PDEVS_BUFFER_TOO_SHORT, "the records pass the end of the lent trace, or the lent buffer is too short")       \
@@ -105,6 +107,13 @@
 #define PDEVS_NAMED(number, name, words) name = number,
 enum pdevs_number { PDEVS_NUMBERS(PDEVS_NAMED) };
 #undef PDEVS_NAMED
+
+/*
+ * Retired: 14 said that a step's bag at the root has over 4,096 messages. At most 1,024 routes end there and each brings at most 4
+ * messages in a step, so that no model could ever give it. No call answers it, and no later version gives it another meaning. An
+ * inserter's branch for it is dead and can be taken out; the name stays, so that a branch on a number answered still compiles.
+ */
+#define PDEVS_ROOT_BAG_LIMIT ((enum pdevs_number)14)
 
 /* A message and a record's head: their bytes, and where their fields lie. A record's messages follow its head. */
 #define PDEVS_MESSAGE_SIZE 3
@@ -148,6 +157,11 @@ enum pdevs_number { PDEVS_NUMBERS(PDEVS_NAMED) };
 #define PDEVS_MAX_ATOMICS 63
 #define PDEVS_MAX_RUN PDEVS_RUN_SIZE(PDEVS_MAX_ATOMICS)
 #define PDEVS_MAX_RULES_TABLE PDEVS_RULES_TABLE_SIZE(PDEVS_MAX_ATOMICS)
+
+/* The longest record that an advance or a feed writes, in messages and in bytes. Bytes from elsewhere, which are rearranged all the
+   same where they are a trace, may have up to 65,535 messages in a record. */
+#define PDEVS_MAX_RECORD_MESSAGES 4096
+#define PDEVS_MAX_RECORD (PDEVS_RECORD_HEAD_SIZE + PDEVS_MAX_RECORD_MESSAGES * PDEVS_MESSAGE_SIZE)
 
 /* The longest bag, in messages and in bytes, the longest feed, in bags and in bytes, and the latest moment. */
 #define PDEVS_MAX_BAG_MESSAGES 16
@@ -196,20 +210,20 @@ pdevs_written pdevs_start(const uint8_t *model, size_t model_len, uint8_t *run, 
 
 /*
  * Advances a run to the moment t: does every instant due before t, then t with the messages of the bag given at the root's
- * inputs in its first step. Numbers: those of a model, 10, 11, 12, then for each instant 13, 14, 15.
+ * inputs in its first step. Numbers: those of a model, 10, 11, 12, then for each instant 13, 15.
  *
  * On 0 the open moment of `run` is t + 1, the atomics' phases and last moments are those after the last instant, and the
  * records of all steps with output at the root stand at the front of `trace`, `trace_bytes` long.
  *
- * On 13, 14 or 15 one instant was not done: it left no byte anywhere. The instants before it stand, in `run`, in `trace` and
+ * On 13 or 15 one instant was not done: it left no byte anywhere. The instants before it stand, in `run`, in `trace` and
  * in the numbers answered; the open moment is one past the last of them, or as before if there was none. After 15 the call
  * may be made again with the same t and bag and the trace anew: it goes on where this one stopped (where no instant was done,
- * the next one needs a longer trace). After 13 and 14 the same call is refused so again.
+ * the next one needs a longer trace). After 13 the same call is refused so again.
  *
  * `rules` tells which rules decided, so that they can be lit on a drawing. Where at least one instant was done, the table at
- * its front says for each atomic which rule decided its last external part in the last instant done, also after 13, 14 and
- * 15. An external part is what messages do to an atomic, be it due just then or not. PDEVS_NO_RULE stands where that part had
- * no rule, and where no message reached the atomic in that instant. What the atomic does of itself later in it erases
+ * its front says for each atomic which rule decided its last external part in the last instant done, also after 13 and 15. An
+ * external part is what messages do to an atomic, be it due just then or not. PDEVS_NO_RULE stands where that part had no
+ * rule, and where no message reached the atomic in that instant. What the atomic does of itself later in it erases
  * nothing, and what an earlier instant lit does not last. To see every instant, advance to each next due moment in turn.
  * Where no instant was done, or the table has under 2 bytes an atomic, no byte of it is changed; a short table is no refusal,
  * and one of length 0 is what a caller lends who does not want to know.
@@ -224,7 +238,7 @@ pdevs_advanced pdevs_advance(const uint8_t *model, size_t model_len, uint8_t *ru
  * Runs a feed to an end moment: advances to each bag's moment with that bag, in turn, and then to `end` with an empty bag where
  * it lies past the last bag or there is none. Each of these advances goes on where the one before left `run`, and writes on
  * behind it in `trace`; none has a rules table. The first that is refused stops it. Numbers: those of a model, 10, 19, 11, then
- * for each instant 13, 14, 15.
+ * for each instant 13, 15.
  *
  * 19 says that `feed` is none: it is cut off, has over 1,000 bags or bytes left over, a bag has over 16 messages, a moment does
  * not lie above the one before it or lies above 1,000,000,000,000, or a port is above 3. 11 says that `end` lies before the last
@@ -235,12 +249,12 @@ pdevs_advanced pdevs_advance(const uint8_t *model, size_t model_len, uint8_t *ru
  * are those of all advances together, and their records stand at the front of `trace`, one trace. A bag without messages counts
  * among the bags; the advance to `end` does not.
  *
- * On 13, 14 or 15 one instant was not done: it left no byte anywhere. `bags` bags were done before; the advance that was stopped
+ * On 13 or 15 one instant was not done: it left no byte anywhere. `bags` bags were done before; the advance that was stopped
  * is that of the next bag, or where all were done the one to `end`. All instants before the undone one stand, in `run`, in
  * `trace` and in the numbers answered, also those of the advance that was stopped. After 15 the call may be made again with the
  * bags that are left, that is the feed without its first `bags` bags, the same end and the trace anew: it goes on where this one
- * stopped (where no byte of trace was written, the next instant needs a longer one). After 13 and 14 the advance that was
- * stopped is refused so again.
+ * stopped (where no byte of trace was written, the next instant needs a longer one). After 13 the advance that was stopped is
+ * refused so again.
  *
  * The bytes of `run` beyond the saved run and of `trace` beyond `trace_bytes` stay.
  */

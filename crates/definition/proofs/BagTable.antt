@@ -1,12 +1,14 @@
--- The largest bag of an atomic: 16 given messages along 1,024 routes are 16,384. Rows where a rule wants as many, and one more; and just so many
--- come up from the step and arrive in the flat machine, so that the limit of request (iv) is met. Assumes nothing.
+-- The largest bags. Of an atomic: 16 given messages along 1,024 routes are 16,384. Rows where a rule wants as many, and one more; and just so many
+-- come up from the step and arrive in the flat machine, so that the limit of request (iv) is met. Of the root: 4 messages along 1,024 routes are
+-- 4,096. Rows where the trace just holds their record, and where it does not; and just so many are put out, so that the limit of request (vii) is
+-- met. Assumes nothing.
 use mathlib.Core.Path.{_≡_, refl}
 use Prim.Native.Nat.{ℕ}
 use mathlib.Core.List.{List, [], _∷_, _++_, map}
 use lib.ListN.{length, replicate}
 use Rattle.definition.specs.Lists.{concat}
 use Rattle.definition.specs.Bytes.{Bytes}
-use Rattle.definition.specs.Limits.{neverField, maxAtomicBag}
+use Rattle.definition.specs.Limits.{neverField, maxRootBag, maxAtomicBag}
 use Rattle.definition.specs.Model.{Bag, Model, inclusive, noComponent, tree}
 use Rattle.definition.specs.File.{modelBytes}
 use Rattle.definition.specs.Devs.{Decided, devsStep}
@@ -14,11 +16,14 @@ use Rattle.definition.specs.Step.{load}
 use Rattle.definition.specs.SavedRun.{noEntry}
 use Rattle.definition.specs.Engine.{toBag}
 use Rattle.definition.specs.Flatten.{flat}
-use Rattle.definition.specs.FlatMachine.{allSent, arriving}
+use Rattle.definition.specs.FlatMachine.{allSent, arriving, copied, flatStep}
 use Rattle.definition.specs.Calls.{startCall, startAnswer, engine, flatMachine}
 use Rattle.definition.specs.Carrying.{rootOf}
-use Rattle.definition.proofs.Models.{coupledIn, atomicIn, silent, onValue, link}
+use Rattle.definition.proofs.Models.{message, coupledIn, atomicIn, silent, onValue, link}
 use Rattle.definition.proofs.Table.{Row, zeros, saved, advanceTo, advancedBy, actual, expected, tabled}
+use Rattle.definition.proofs.Literals.{b2, b3, z, literals}
+
+-- ---- an atomic's
 
 -- The root's input leads 32 times to that of the coupled 1, and from there 32 times to the atomic 2: `least` messages 7 lead it to phase 1.
 unfoldable pub hearing : ℕ → Model
@@ -79,3 +84,74 @@ told-largest = refl
 pub arrived-largest : length (arrivedIn (flat (hearing 16384))) ≡ maxAtomicBag
 unfolding bagged
 arrived-largest = refl
+
+-- ---- the root's
+
+-- At 5 the atomic 2 puts out four messages. Its output leads 32 times to that of the coupled 1, and from there 32 times to the root's.
+unfoldable pub telling : Model
+telling = record {
+  components = noComponent ∷ coupledIn 0 ∷ atomicIn 1 2 0 ∷ [];
+  phases =
+      record { advance = 5; next = 1; outputCount = 4; slot0 = message 0 7; slot1 = message 0 7; slot2 = message 0 256; slot3 = message 0 65535 }
+      ∷ silent neverField 1 ∷ [];
+  rules = [];
+  couplings = replicate 32 (link 1 0 0 2) ++ replicate 32 (link 2 0 1 0);
+  ranges = inclusive;
+}
+
+unfoldable pub told : Bytes
+told =
+    5 ∷ z 7 ++ b2 0 0 ++ b2 0 16
+    ++ concat (replicate 2048 (b3 2 7 0)) ++ concat (replicate 1024 (b3 2 0 1)) ++ concat (replicate 1024 (b3 2 255 255))
+
+-- The record just fits into the trace; and one byte is missing, so that nothing is done.
+unfoldable pub wholly : List Row
+wholly = record {
+  model = telling;
+  calls = startCall ∷ advanceTo 5 [] (zeros 12300) ∷ [];
+  answers = startAnswer 0 19 ∷ advancedBy 0 1 1 12300 told ∷ [];
+  run = saved 6 ((1, 5) ∷ []) ++ zeros 9;
+} ∷ []
+
+unfoldable pub tooShort : List Row
+tooShort = record {
+  model = telling;
+  calls = startCall ∷ advanceTo 5 [] (zeros 12299) ∷ [];
+  answers = startAnswer 0 19 ∷ advancedBy 15 0 0 0 (zeros 12299) ∷ [];
+  run = saved 0 ((0, 0) ∷ []) ++ zeros 9;
+} ∷ []
+
+-- The root's bag in the step of the nest, and in that of the flat machine.
+unfoldable pub putOutBy : Model → Bag
+putOutBy m = devsStep (rootOf m) 5 [] (record { state = load m (λ _. noEntry) 5 (tree m); event = 5 }) .0
+
+unfoldable pub flatPutsOut : Model → Bag
+flatPutsOut m = flatStep m 5 [] (copied (noEntry ∷ [])) .0
+
+unfoldable pub rooted : Type 0
+unfolding tabled literals telling told wholly tooShort putOutBy flatPutsOut
+rooted = Unit {0}
+
+pub engine-wholly : map (actual (λ m. engine (modelBytes m))) wholly ≡ map expected wholly
+unfolding rooted
+engine-wholly = refl
+
+pub flat-wholly : map (actual (λ m. flatMachine (modelBytes (flat m)))) wholly ≡ map expected wholly
+unfolding rooted
+flat-wholly = refl
+
+pub engine-too-short : map (actual (λ m. engine (modelBytes m))) tooShort ≡ map expected tooShort
+unfolding rooted
+engine-too-short = refl
+
+pub flat-too-short : map (actual (λ m. flatMachine (modelBytes (flat m)))) tooShort ≡ map expected tooShort
+unfolding rooted
+flat-too-short = refl
+
+pub put-out-largest : length (putOutBy telling) ≡ maxRootBag
+unfolding rooted
+put-out-largest = refl
+
+pub flat-puts-out-largest : length (flatPutsOut (flat telling)) ≡ maxRootBag
+unfolding rooted
+flat-puts-out-largest = refl

@@ -50,7 +50,7 @@ unfolding
     SavedRun.runBytes SavedRun.dueOf SavedRun.lookUp SavedRun.entryOf SavedRun.nextDue SavedRun.notBefore SavedRun.entryFits
     SavedRun.entriesFit SavedRun.runFits SavedRun.dueAt
     Step.elapsed Step.assoc Step.unload Step.decidedOf Step.decidedInFileOrder Step.stepOn Step.step Step.load Step.leavesOf
-    Instant.stepped Instant.isDue Instant.goesOn Instant.stepsAt Instant.instant Instant.over Instant.recordBytes Instant.traceBytes
+    Instant.stepped Instant.isDue Instant.goesOn Instant.stepsAt Instant.instant Instant.recordBytes Instant.traceBytes
     Instant.recordsFrom Instant.instantTrace Instant.lastPart Instant.lastParts Instant.instantParts Instant.instantRules
     Advance.ended Advance.tried Advance.continued Advance.succeeded Advance.isBefore Advance.advancing Advance.advanceFrom
     Engine.wrote Engine.startRun Engine.start Engine.toBag Engine.bagFits Engine.advanceChecks Engine.tableBytes Engine.withRules Engine.advanced Engine.advance

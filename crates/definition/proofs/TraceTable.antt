@@ -3,13 +3,12 @@
 use mathlib.Core.Path.{_≡_, refl}
 use Prim.Native.Nat.{ℕ}
 use mathlib.Core.List.{List, [], _∷_, _++_, map}
-use mathlib.Core.Bool.{true, false}
 use lib.ListN.{replicate}
 use Rattle.definition.specs.Bytes.{Bytes, numberOf}
 use Rattle.definition.specs.Model.{Bag}
 use Rattle.definition.specs.SavedRun.{Entry, noEntry}
 use Rattle.definition.specs.Step.{Output}
-use Rattle.definition.specs.Instant.{done, over, instantTrace}
+use Rattle.definition.specs.Instant.{done, instantTrace}
 use Rattle.definition.specs.Advance.{tried}
 use Rattle.definition.specs.FlatMachine.{recorded, verdictOn}
 use Rattle.definition.proofs.Models.{message, cueSource}
@@ -63,26 +62,17 @@ pub bags-recorded : recorded 300 0 bags ≡ bagsTrace
 unfolding tracing
 bags-recorded = refl
 
--- 4,096 messages are not too many, 4,097 are
-pub not-over : over (map outputOf (large 4096)) ≡ false
-unfolding tracing
-not-over = refl
-
-pub is-over : over (map outputOf (large 4097)) ≡ true
-unfolding tracing
-is-over = refl
-
--- 14 before 15; a record of one message, which has 15 bytes, just fits and just does not
-pub engine-gives : engineGives 0 (large 4097) ∷ engineGives 0 (large 4096) ∷ engineGives 22 (large 1) ∷ engineGives 21 (large 1) ∷ [] ≡ 14 ∷ 15 ∷ 0 ∷ 15 ∷ []
+-- a record of one message, which has 15 bytes, just fits and just does not; so does one of 4,097, more than any step puts out: no number is for that
+pub engine-gives : engineGives 22 (large 1) ∷ engineGives 21 (large 1) ∷ engineGives 12310 (large 4097) ∷ engineGives 12309 (large 4097) ∷ [] ≡ 0 ∷ 15 ∷ 0 ∷ 15 ∷ []
 unfolding tracing
 engine-gives = refl
 
 pub machine-gives :
-    machineGives 0 0 (large 4097) ∷ machineGives 0 0 (large 4096) ∷ machineGives 0 22 (large 1) ∷ machineGives 0 21 (large 1) ∷ [] ≡ 14 ∷ 15 ∷ 0 ∷ 15 ∷ []
+    machineGives 0 22 (large 1) ∷ machineGives 0 21 (large 1) ∷ machineGives 0 12310 (large 4097) ∷ machineGives 0 12309 (large 4097) ∷ [] ≡ 0 ∷ 15 ∷ 0 ∷ 15 ∷ []
 unfolding tracing
 machine-gives = refl
 
--- 13 before 14 and 15
+-- 13 before 15
 pub machine-jams : machineGives 1 99999 (large 4097) ∷ machineGives 1 0 (large 1) ∷ [] ≡ 13 ∷ 13 ∷ []
 unfolding tracing
 machine-jams = refl

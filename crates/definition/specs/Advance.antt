@@ -8,7 +8,7 @@ use Rattle.definition.specs.Bytes.{Bytes, Result, ok, refused, _>>=_, re
 use Rattle.definition.specs.Model.{Bag}
 use Rattle.definition.specs.Devs.{Time, finite, never, ticks}
 use Rattle.definition.specs.Step.{Simulator}
-use Rattle.definition.specs.Instant.{Instant, done, jammed, instant, over, instantTrace, instantRules}
+use Rattle.definition.specs.Instant.{Instant, done, jammed, instant, instantTrace, instantRules}
 
 -- How far a call has come: the open moment, the state, the instants and steps done, the trace bytes written, and the rules that
 -- decided in the last instant done.
@@ -28,14 +28,13 @@ pub record Ended (S : Type 0) : Type 0 where
 unfoldable pub ended : {S : Type 0} → ℕ → Progress S → Ended S
 ended n p = record { number = n; progress = p }
 
--- "13 something still due there after 1,024 steps; then 14 a step's root bag over 4,096 messages; then 15 records pass the end of
--- the lent trace", which has `room` bytes: the progress with the instant at `now`, or the number that leaves it undone.
+-- "13 something still due there after 1,024 steps; .. then 15 records pass the end of the lent trace", which has `room` bytes: the
+-- progress with the instant at `now`, or the number that leaves it undone.
 -- "A moment without a step is no instant and is not counted."
 unfoldable pub tried : {S : Type 0} → ℕ → ℕ → Progress S → Instant S → Result (Progress S)
 tried room now p jammed = refused 13
 tried room now p (done [] s) = ok p
 tried room now p (done (x ∷ xs) s) = do
-  _ ← refuseIf (over (x ∷ xs)) 14
   _ ← refuseIf (ltb room (length (p .trace ++ instantTrace now (x ∷ xs)))) 15
   ok (record {
     opening = suc now;

@@ -9,7 +9,7 @@ use Rattle.definition.specs.Limits.{maxSteps}
 use Rattle.definition.specs.Model.{Bag}
 use Rattle.definition.specs.Devs.{finite}
 use Rattle.definition.specs.Step.{Output, Simulator}
-use Rattle.definition.specs.Instant.{goesOn, over, instantTrace, instantRules}
+use Rattle.definition.specs.Instant.{goesOn, instantTrace, instantRules}
 use Rattle.definition.specs.Advance.{Progress, Ended, ended, succeeded, isBefore}
 use Rattle.definition.specs.Engine.{toBag}
 use Rattle.definition.specs.Feed.{FeedBag}
@@ -45,11 +45,6 @@ module _ {S : Type 0} (k : Simulator S) where
       before : (u : ℕ) → k .next s ≡ finite u → u < t → Next s u []
       at-end : isBefore (k .next s) t ≡ false → Next s t given
 
-    -- The records of the instant pass no end, and no root bag is over its limit.
-    pub record WithinLimits (p : Progress S) (now : ℕ) (xs : List Output) : Type 0 where
-      pub bags : over xs ≡ false
-      pub trace : length (p .trace ++ instantTrace now xs) ≤ room
-
     -- The instant at `now` stands.
     abbrev pub withInstant : Progress S → ℕ → List Output → S → Progress S
     withInstant p now xs s' = record {
@@ -63,18 +58,16 @@ module _ {S : Type 0} (k : Simulator S) where
 
     -- How the call ends from p on.
     pub data Ends : Progress S → Ended S → Type 0 where
-      -- 13, 14 and 15: that instant is left undone whole, and what stood before it stands
+      -- 13 and 15: that instant is left undone whole, and what stood before it stands
       jams : (p : Progress S) (now : ℕ) (x : Bag) → Next (p .state) now x → Jams now x (p .state) → Ends p (ended 13 p)
-      oversize : (p : Progress S) (now : ℕ) (x : Bag) (xs : List Output) (s' : S) → Next (p .state) now x → Whole now x (p .state) xs s'
-          → over xs ≡ true → Ends p (ended 14 p)
       overruns : (p : Progress S) (now : ℕ) (x : Bag) (y : Output) (ys : List Output) (s' : S) → Next (p .state) now x → Whole now x (p .state) (y ∷ ys) s'
-          → over (y ∷ ys) ≡ false → room < length (p .trace ++ instantTrace now (y ∷ ys)) → Ends p (ended 15 p)
-      -- an instant before t is done, and the call goes on
+          → room < length (p .trace ++ instantTrace now (y ∷ ys)) → Ends p (ended 15 p)
+      -- an instant before t is done, its records pass no end, and the call goes on
       goes-on : (p : Progress S) (u : ℕ) (xs : List Output) (s' : S) (e : Ended S) → k .next (p .state) ≡ finite u → u < t → Whole u [] (p .state) xs s'
-          → WithinLimits p u xs → Ends (withInstant p u xs s') e → Ends p e
-      -- the instant at t is done
+          → length (p .trace ++ instantTrace u xs) ≤ room → Ends (withInstant p u xs s') e → Ends p e
+      -- the instant at t is done, and its records pass no end
       succeeds : (p : Progress S) (y : Output) (ys : List Output) (s' : S) → isBefore (k .next (p .state)) t ≡ false → Whole t given (p .state) (y ∷ ys) s'
-          → WithinLimits p t (y ∷ ys) → Ends p (succeeded t (withInstant p t (y ∷ ys) s'))
+          → length (p .trace ++ instantTrace t (y ∷ ys)) ≤ room → Ends p (succeeded t (withInstant p t (y ∷ ys) s'))
       -- nothing happens at t: "A moment without a step is no instant and is not counted."
       idle : (p : Progress S) → isBefore (k .next (p .state)) t ≡ false → goesOn k t given (p .state) ≡ false → Ends p (succeeded t p)
 

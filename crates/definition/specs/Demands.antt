@@ -9,7 +9,7 @@ use mathlib.Core.Bool.{true, false}
 use lib.ListN.{length, take, drop}
 use Rattle.definition.specs.Lists.{Same}
 use Rattle.definition.specs.Bytes.{Bytes, AllBytes, ok, stored}
-use Rattle.definition.specs.Limits.{maxMoment, positionSize, longestModel, longestRun, longestTable, longestFeed}
+use Rattle.definition.specs.Limits.{maxMoment, positionSize, longestModel, longestRun, longestTable, longestRecord, longestFeed}
 use Rattle.definition.specs.Model.{Bag, Model, Tree}
 use Rattle.definition.specs.File.{modelBytes}
 use Rattle.definition.specs.Pinned.Decoder.{accepted, checkModel}
@@ -20,11 +20,12 @@ use Rattle.definition.specs.Atomic.{ruleFor, devsOf}
 use Rattle.definition.specs.SavedRun.{Entry, runLength, atomicCount, runOf, runBytes, nextDue, runFits}
 use Rattle.definition.specs.Clauses.{RunFits, BagFits, Decides}
 use Rattle.definition.specs.Step.{nested}
+use Rattle.definition.specs.Instant.{TraceRecord, recordBytes}
 use Rattle.definition.specs.Advance.{Ended}
 use Rattle.definition.specs.AdvanceRelation.{Ends, EndsInTurn}
 use Rattle.definition.specs.Engine.{Wrote, Advanced, WasRead, startRun, start, toBag, bagFits, withRules, advanced, advance, readAt, reading}
 use Rattle.definition.specs.Flatten.{flat, flatten}
-use Rattle.definition.specs.Columns.{Rearranges}
+use Rattle.definition.specs.Columns.{Recorded, Rearranges}
 use Rattle.definition.specs.Pinned.TraceReader.{traceToColumns, columnsToTrace}
 use Rattle.definition.specs.Feed.{FeedBag, feedBytes, IsFeed, FeedMistimed, FeedTimed, feedCalls}
 use Rattle.definition.specs.FeedCall.{Fed, nothingFed, advanceFeed}
@@ -105,7 +106,7 @@ pub data AdvanceRefusal (file run : Bytes) (t : ℕ) (bag : Bytes) : ℕ → Typ
   advance-refuses-bag : (m : Model) → accepted file ≡ ok m → runFits m run ≡ true → openingOf m run ≤ t → t ≤ maxMoment → bagFits bag ≡ false
       → AdvanceRefusal file run t bag 12
 
--- The number of any advance: that of a row, or the one with which its instants end: 0, 13, 14 or 15, each by its case of `Ends`.
+-- The number of any advance: that of a row, or the one with which its instants end: 0, 13 or 15, each by its case of `Ends`.
 pub data AdvanceNumber (file run : Bytes) (t : ℕ) (bag trace : Bytes) : ℕ → Type 0 where
   by-row : (n : ℕ) → AdvanceRefusal file run t bag n → AdvanceNumber file run t bag trace n
   by-instants : (m : Model) (e : Ended (List Entry)) → accepted file ≡ ok m → MayAdvance m run t bag
@@ -144,7 +145,7 @@ fedAs run trace bs n e =
       trace = stored (p .trace) trace;
     }
 
--- The number of any feed: that of a row, or the one with which its calls end: 0, 13, 14 or 15, each by its case of `Ends`.
+-- The number of any feed: that of a row, or the one with which its calls end: 0, 13 or 15, each by its case of `Ends`.
 pub data FeedNumber (file run : Bytes) (end : ℕ) (feed trace : Bytes) : ℕ → Type 0 where
   feed-by-row : (n : ℕ) → FeedRefusal file run end feed n → FeedNumber file run end feed trace n
   feed-by-calls : (m : Model) (bs : List FeedBag) (n : ℕ) (e : Ended (List Entry)) → accepted file ≡ ok m → MayFeed m run end feed bs
@@ -321,12 +322,21 @@ pub record FedTogether (a b one : Fed) : Type 0 where
   pub run : one .run ≡ b .run
   pub trace : one .trace ≡ take (a .used) (a .trace) ++ b .trace
 
+-- The records that the bytes hold have at most n bytes each.
+abbrev pub RecordsWithin : ℕ → Bytes → Type 0
+RecordsWithin n s = (rs : List TraceRecord) → Recorded s rs → Every (λ r. length (recordBytes r) ≤ n) rs
+
 pub record Header : Type 0 where
   -- PDEVS_MAX_MODEL, PDEVS_MAX_RUN and PDEVS_MAX_RULES_TABLE suffice for every model, flat ones too.
   pub model-length : (file : Bytes) (m : Model) → AllBytes file → accepted file ≡ ok m
       → (length file ≤ longestModel) × (length (modelBytes (flat m)) ≤ longestModel)
   pub run-length : (file : Bytes) (m : Model) → AllBytes file → accepted file ≡ ok m → runLength (atomicCount m) ≤ longestRun
   pub table-length : (file : Bytes) (m : Model) → AllBytes file → accepted file ≡ ok m → positionSize * atomicCount m ≤ longestTable
+  -- PDEVS_MAX_RECORD suffices for every record that an advance or a feed writes, whatever it is given.
+  pub record-length : (file run : Bytes) (t : ℕ) (bag trace table : Bytes) → AllBytes file
+      → RecordsWithin longestRecord (tracedBy (advance file run t bag trace table))
+  pub feed-record-length : (file run : Bytes) (end : ℕ) (feed trace : Bytes) → AllBytes file
+      → RecordsWithin longestRecord (take (advanceFeed file run end feed trace .used) (advanceFeed file run end feed trace .trace))
   -- PDEVS_MAX_FEED suffices for every feed.
   pub feed-length : (feed : Bytes) (bs : List FeedBag) → IsFeed feed bs → length feed ≤ longestFeed
   -- PDEVS_COLUMNS_SIZE: columns are 4 bytes longer than their trace.
@@ -340,10 +350,10 @@ pub record Header : Type 0 where
   pub needs-longer : (file run : Bytes) (t : ℕ) (bag trace table anew lent : Bytes) (m : Model) → AllBytes file → AllBytes run → accepted file ≡ ok m
       → advance file run t bag trace table .number ≡ 15 → advance file run t bag trace table .instants ≡ 0 → length anew ≤ length trace
       → advance file run t bag anew lent ≡ refusedAdvance 15 run anew lent
-  -- After 13 and 14 the same call is refused so again, whatever its trace and its table.
-  pub refused-again : (file run : Bytes) (t : ℕ) (bag trace table anew lent : Bytes) (n : ℕ) (m : Model) → AllBytes file → accepted file ≡ ok m
-      → (n ≡ 13) ⊎ (n ≡ 14) → advance file run t bag trace table .number ≡ n
-      → advance file (advance file run t bag trace table .run) t bag anew lent ≡ refusedAdvance n (advance file run t bag trace table .run) anew lent
+  -- After 13 the same call is refused so again, whatever its trace and its table.
+  pub refused-again : (file run : Bytes) (t : ℕ) (bag trace table anew lent : Bytes) (m : Model) → AllBytes file → accepted file ≡ ok m
+      → advance file run t bag trace table .number ≡ 13
+      → advance file (advance file run t bag trace table .run) t bag anew lent ≡ refusedAdvance 13 (advance file run t bag trace table .run) anew lent
   -- After 15 the feed without the bags whose own calls succeeded, to the same end and with the trace anew, goes on where this one stopped.
   pub feed-resumes : (file run : Bytes) (end : ℕ) (feed trace anew : Bytes) (m : Model) (bs : List FeedBag) → AllBytes file → accepted file ≡ ok m
       → MayFeed m run end feed bs → advanceFeed file run end feed trace .number ≡ 15

@@ -67,9 +67,9 @@ pub record Feeds : Type 0 where
   -- A first call before the open moment is refused by that call itself: 11 says of it what the calls would say.
   pub early-call : (file run : Bytes) (end : ℕ) (trace : Bytes) (m : Model) (bs : List FeedBag) → accepted file ≡ ok m → runFits m run ≡ true
       → firstMoment bs end < openingOf m run → fedInTurn file run trace (feedCalls bs end) ≡ nothingFed 11 run trace
-  -- "The first refused call stops it": only 13, 14 and 15 do.
+  -- "The first refused call stops it": only 13 and 15 do.
   pub stopped-by : (file run : Bytes) (end : ℕ) (feed trace : Bytes) (m : Model) (bs : List FeedBag) → AllBytes file → accepted file ≡ ok m
-      → MayFeed m run end feed bs → (let n = advanceFeed file run end feed trace .number in (n ≡ 0) ⊎ ((n ≡ 13) ⊎ ((n ≡ 14) ⊎ (n ≡ 15))))
+      → MayFeed m run end feed bs → (let n = advanceFeed file run end feed trace .number in (n ≡ 0) ⊎ ((n ≡ 13) ⊎ (n ≡ 15)))
   -- Where it succeeds, all bags' own calls have, and the open moment is one past the end.
   pub to-the-end : (file run : Bytes) (end : ℕ) (feed trace : Bytes) (m : Model) (bs : List FeedBag) → AllBytes file → accepted file ≡ ok m
       → MayFeed m run end feed bs → advanceFeed file run end feed trace .number ≡ 0

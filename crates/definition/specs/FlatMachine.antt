@@ -10,9 +10,9 @@ use mathlib.Core.Option.{Option, none, some}
 use mathlib.Core.Bool.{Bool, true, false, _&&_, _||_, not, cond}
 use lib.Dec.{leb, ltb, eqb}
 use lib.ListN.{length, take, drop, getD}
-use Rattle.definition.specs.Lists.{concat, all, isEmpty}
+use Rattle.definition.specs.Lists.{concat, isEmpty}
 use Rattle.definition.specs.Bytes.{Bytes, Result, ok, refused, _>>=_, bytesOf, stored}
-use Rattle.definition.specs.Limits.{maxSteps, maxRootBag, noPosition, positionSize}
+use Rattle.definition.specs.Limits.{maxSteps, noPosition, positionSize}
 use Rattle.definition.specs.Model.{Message, Bag, Rule, Coupling, Model, noRule, componentAt, atomics, phaseAt, outputs}
 use Rattle.definition.specs.Records.{messageBytes}
 use Rattle.definition.specs.Pinned.Decoder.{accepted}
@@ -201,8 +201,7 @@ unfoldable pub verdictOn : Model → ℕ → Stage → List Bag × Copy → Resu
 verdictOn m now g c =
     cond (anyDue m now (atomics (m .components)) (c .1 .entries)) (refused 13)
     (cond (isEmpty (c .0)) (ok g)
-    (cond (not (all (λ x. leb (length x) maxRootBag) (c .0))) (refused 14)
-    (cond (ltb (length (g .trace)) (g .used + length (recorded now 0 (c .0)))) (refused 15) (ok (standing now g c)))))
+    (cond (ltb (length (g .trace)) (g .used + length (recorded now 0 (c .0)))) (refused 15) (ok (standing now g c))))
 
 -- The copy at the beginning of an instant: no atomic has had an external part.
 unfoldable pub copied : List Entry → Copy

@@ -4,11 +4,10 @@ use Prim.Native.Nat.{ℕ, zero, suc}
 use mathlib.Core.List.{List, [], _∷_, _++_, map}
 use mathlib.Core.Option.{Option, none, some}
 use mathlib.Core.Bool.{Bool, _||_, not, cond}
-use lib.Dec.{leb}
 use lib.ListN.{length}
-use Rattle.definition.specs.Lists.{concat, all, isEmpty, sortBy}
+use Rattle.definition.specs.Lists.{concat, isEmpty, sortBy}
 use Rattle.definition.specs.Bytes.{Bytes, bytesOf}
-use Rattle.definition.specs.Limits.{maxSteps, maxRootBag}
+use Rattle.definition.specs.Limits.{maxSteps}
 use Rattle.definition.specs.Model.{Bag, messageLe}
 use Rattle.definition.specs.Records.{messageBytes}
 use Rattle.definition.specs.Devs.{finite, sameTime}
@@ -44,10 +43,6 @@ module _ {S : Type 0} (k : Simulator S) where
 
   unfoldable pub instant : ℕ → Bag → S → Instant S
   instant now x s = stepsAt maxSteps now x s
-
--- "a step's root bag over 4,096 messages"
-unfoldable pub over : List Output → Bool
-over xs = not (all (λ x. leb (length (x .bag)) maxRootBag) xs)
 
 -- ---- trace records
 

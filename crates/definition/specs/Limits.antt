@@ -93,7 +93,7 @@ maxGiven = 16
 abbrev pub maxSteps : ℕ
 maxSteps = 1024
 
--- "a step's root bag over 4,096 messages"
+-- "a step's root bag over 4,096 messages": it has no more, as is shown (RootBags), and no call tests it
 abbrev pub maxRootBag : ℕ
 maxRootBag = 4096
 
@@ -136,6 +136,10 @@ longestRun = 577
 -- The longest table of deciding rules: that of 63 atomics.
 abbrev pub longestTable : ℕ
 longestTable = 126
+
+-- The longest record that a call writes: its head, and 4,096 messages.
+abbrev pub longestRecord : ℕ
+longestRecord = 12300
 
 -- The longest feed: its count, and 1,000 bags of 16 messages.
 abbrev pub longestFeed : ℕ

@@ -14,9 +14,9 @@ use Rattle.definition.specs.Lists.{concat}
 use Rattle.definition.specs.Limits.{maxSteps}
 use Rattle.definition.specs.Model.{Bag}
 use Rattle.definition.specs.Step.{Output, Simulator}
-use Rattle.definition.specs.Instant.{Instant, done, jammed, stepped, goesOn, stepsAt, instant, traceBytes, recordsFrom, instantTrace, over}
+use Rattle.definition.specs.Instant.{Instant, done, jammed, stepped, goesOn, stepsAt, instant, traceBytes, recordsFrom, instantTrace}
 use Rattle.definition.specs.Advance.{tried}
-use Rattle.law_base.proofs.Turns.{tried-jams, tried-over, tried-full}
+use Rattle.law_base.proofs.Turns.{tried-jams, tried-full}
 use Rattle.run_state.specs.declared.State.{State}
 use Rattle.instant_steps.specs.Verdicts.{ranOf}
 use Rattle.instant_steps.specs.declared.Ran.{Ran}
@@ -73,36 +73,18 @@ record May (now : ℕ) (i : Instant State) (r : Ran) : Type 0 where
   pub outputs : List Output
   pub end : State
   pub same : i ≡ done outputs end
-  pub fit : over outputs ≡ false
   pub steps : r .steps ≡ length outputs
   pub used : r .used ≡ length (instantTrace now outputs)
-
-record Overs (i : Instant State) : Type 0 where
-  pub outputs : List Output
-  pub state : State
-  pub same : i ≡ done outputs state
-  pub unfit : over outputs ≡ true
 
 -- What each verdict says of the instant.
 abbrev Said : ℕ → Instant State → Ran → Verdict → Type 0
 Said now i r VV.Jammed = i ≡ jammed
-Said now i r VV.Over = Overs i
 Said now i r VV.Stands = May now i r
 
 said : (now : ℕ) (i : Instant State) → Said now i (ranOf now 0 i) (ranOf now 0 i .verdict)
 unfolding ranOf
 said now jammed = refl
-said now (done xs s) = go (over xs) refl
-  where
-    unfit : Ran
-    unfit = record { verdict = VV.Over; steps = 0; used = 0 }
-
-    stands : Ran
-    stands = record { verdict = VV.Stands; steps = length xs; used = 0 + length (instantTrace now xs) }
-
-    go : (b : Bool) → over xs ≡ b → Said now (done xs s) (cond b unfit stands) (cond b unfit stands .verdict)
-    go true e = record { outputs = xs; state = s; same = refl; unfit = e }
-    go false e = record { outputs = xs; end = s; same = refl; fit = e; steps = refl; used = omega arith }
+said now (done xs s) = record { outputs = xs; end = s; same = refl; steps = refl; used = omega arith }
 
 told : (now : ℕ) (i : Instant State) (r : Ran) → r ≡ ranOf now 0 i → (v : Verdict) → r .verdict ≡ v → Said now i r v
 told now i r e v h = subst (λ (w : Verdict). Said now i r w) h (subst (λ (q : Ran). Said now i q (q .verdict)) (sym e) (said now i))
@@ -123,9 +105,6 @@ module _ (now : ℕ) (p : Progress) (tables w₀ : List ℕ) (trace : Bytes) (h 
     decided-jams : i ≡ jammed → Decided now p tables w₀ trace i (undone 13)
     decided-jams e = stops 13 (λ z. omega arith) (rw e (sym (tried-jams (length trace) now (progressOf trace tables w₀ p))))
 
-    decided-over : Overs i → Decided now p tables w₀ trace i (undone 14)
-    decided-over o = stops 14 (λ z. omega arith) (rw (o .same) (sym (tried-over (length trace) now (progressOf trace tables w₀ p) (o .outputs) (o .state) (o .unfit))))
-
     sized : (ran : Ran) (m : May now i ran) → length (progressOf trace tables w₀ p .trace ++ instantTrace now (m .outputs)) ≡ p .used + ran .used
     unfolding progressOf
     sized ran m = omega (arith, length-append (take (p .used) trace) (instantTrace now (m .outputs)), length-take-le (p .used) trace h, m .used)
@@ -134,7 +113,7 @@ module _ (now : ℕ) (p : Progress) (tables w₀ : List ℕ) (trace : Bytes) (h 
     decided-full ran m l =
         let some : length (m .outputs) ≡ 0 → ⊥ = λ z. omega (arith, m .used, ap length (no-records now (m .outputs) z)) in
         stops 15 (λ z. omega arith)
-        (rw (m .same) (sym (tried-full (length trace) now (progressOf trace tables w₀ p) (m .outputs) (m .end) (m .fit) some (omega (arith, sized ran m)))))
+        (rw (m .same) (sym (tried-full (length trace) now (progressOf trace tables w₀ p) (m .outputs) (m .end) some (omega (arith, sized ran m)))))
 
     decided-stands : (ran : Ran) → May now i ran → ran .steps ≤ maxSteps → ran .used ≤ left
         → Decided now p tables w₀ trace i (record { number = 0; progress = afterOf now p (ran .steps) (ran .used) })
@@ -144,7 +123,6 @@ module _ (now : ℕ) (p : Progress) (tables w₀ : List ℕ) (trace : Bytes) (h 
         outputs = m .outputs;
         end = m .end;
         same = m .same;
-        fit = m .fit;
         few = omega (arith, m .steps);
         within = omega (arith, m .used);
         progress = rw (m .steps, m .used);
@@ -155,7 +133,6 @@ module _ (now : ℕ) (p : Progress) (tables w₀ : List ℕ) (trace : Bytes) (h 
       by : (v : Verdict) → ran .verdict ≡ v → Decided now p tables w₀ trace i (endedBy left now p ran)
       unfolding endedBy hindranceOf
       by VV.Jammed q = rw q (decided-jams (told now i ran e VV.Jammed q))
-      by VV.Over q = rw q (decided-over (told now i ran e VV.Over q))
       by VV.Stands q = rw q (go (ltb left (ran .used)) refl)
         where
           go : (b : Bool) → ltb left (ran .used) ≡ b
@@ -174,7 +151,6 @@ no-hindrance room ran e = by (ran .verdict) refl
   where
     by : (v : Verdict) → ran .verdict ≡ v → ran .used ≤ room
     by VV.Jammed q = absurd (omega (arith, rw q at e))
-    by VV.Over q = absurd (omega (arith, rw q at e))
     by VV.Stands q = go (ltb room (ran .used)) refl (rw q at e)
       where
         go : (b : Bool) → ltb room (ran .used) ≡ b → _≡_ {A = ℕ} (cond b 15 0) 0 → ran .used ≤ room

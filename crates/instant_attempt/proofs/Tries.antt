@@ -81,17 +81,16 @@ module _ {now : ℕ} {p : Progress} {room : ℕ} {i : Instant State} {q : Progre
   from-scratch scratch₀ scratch e l w =
       let k : length recs ≡ 0 + length recs = omega arith in
       let f : 0 + length recs ≤ length scratch₀ = omega arith in
-      rw (subst (Recorded now 0 scratch₀ scratch) (s .same) w (s .fit) f, k) (take-sets scratch₀ recs 0 f)
+      rw (subst (Recorded now 0 scratch₀ scratch) (s .same) w f, k) (take-sets scratch₀ recs 0 f)
 
   -- The same instant again, into the trace.
   pub again : (trace trace′ : Bytes) → length trace ≡ room → Recorded now (p .used) trace trace′ i → trace′ ≡ sets trace (p .used) recs
-  again trace trace′ e w = subst (Recorded now (p .used) trace trace′) (s .same) w (s .fit) (omega (arith, s .within))
+  again trace trace′ e w = subst (Recorded now (p .used) trace trace′) (s .same) w (omega (arith, s .within))
 
   pub verdict-again : (from : ℕ) (ran : Ran) → ran ≡ ranOf now from i → ran .verdict ≡ VV.Stands
   unfolding ranOf
   verdict-again from ran e =
-      let f : ranOf now from (done (s .outputs) (s .end)) .verdict ≡ VV.Stands = rw (s .fit) in
-      ap (λ (d : Ran). d .verdict) (e ∙ ap (λ (j : Instant State). ranOf now from j) (s .same)) ∙ f
+      ap (λ (d : Ran). d .verdict) (e ∙ ap (λ (j : Instant State). ranOf now from j) (s .same))
 
 pub decided-more : {now : ℕ} {p : Progress} {tables w₀ : List ℕ} {trace : Bytes} {i : Instant State} {r : Ended} → Decided now p tables w₀ trace i r → p .used ≤ r .progress .used
 decided-more {p = p} {r = r} e = go (eqb (r .number) 0) refl
@@ -158,7 +157,7 @@ module _ {now : ℕ} {p : Progress} (tables w₀ w : List ℕ) (trace trace′ :
       let one : eqb (suc (p .instants)) 0 ≡ false = ne-eqb (suc (p .instants)) 0 (λ e. omega arith) in
       let told = rules-some (atomicsIn tables) w₀ w (s .outputs) (s .end) left-rules z in
       ok-as ∙ rw (q, left, o, j, one, told, put, take-sets trace ys (p .used) (s .within), s .same)
-      (sym (tried-stands (length trace) now (progressOf trace tables w₀ p) (s .outputs) (s .end) (s .fit) z (omega (arith, front, s .within))))
+      (sym (tried-stands (length trace) now (progressOf trace tables w₀ p) (s .outputs) (s .end) z (omega (arith, front, s .within))))
 
   same : triedOf trace′ tables w r ≡ tried (length trace) now (progressOf trace tables w₀ p) i
   same = go (eqb (length (s .outputs)) 0) refl

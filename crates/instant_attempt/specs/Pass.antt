@@ -8,7 +8,7 @@ use lib.ListN.{length}
 use Rattle.definition.specs.Bytes.{Bytes, refused}
 use Rattle.definition.specs.Limits.{maxSteps}
 use Rattle.definition.specs.Step.{Output}
-use Rattle.definition.specs.Instant.{Instant, done, over, instantTrace}
+use Rattle.definition.specs.Instant.{Instant, done, instantTrace}
 use Rattle.definition.specs.Advance.{tried}
 use Rattle.run_state.specs.declared.State.{State}
 use Rattle.run_state.specs.Held.{heldIn}
@@ -27,11 +27,10 @@ use Rattle.instant_attempt.specs.declared.Ended.{Ended}
 
 abbrev pub numberOf : ℕ → ℕ → Verdict → ℕ
 numberOf room used VV.Jammed = 13
-numberOf room used VV.Over = 14
 numberOf room used VV.Stands = cond (ltb room used) 15 0
 
--- "13 something still due there after 1,024 steps; then 14 a step's root bag over 4,096 messages; then 15 records pass the end of
--- the lent trace", of which `room` bytes are left; 0 where nothing hinders the instant.
+-- "13 something still due there after 1,024 steps; .. then 15 records pass the end of the lent trace", of which `room` bytes are left; 0 where
+-- nothing hinders the instant.
 unfoldable pub hindranceOf : ℕ → Ran → ℕ
 hindranceOf room ran = numberOf room (ran .used) (ran .verdict)
 
@@ -57,7 +56,6 @@ pub record Stands (now : ℕ) (p : Progress) (room : ℕ) (i : Instant State) (q
   pub outputs : List Output
   pub end : State
   pub same : i ≡ done outputs end
-  pub fit : over outputs ≡ false
   pub few : length outputs ≤ maxSteps
   pub within : p .used + length (instantTrace now outputs) ≤ room
   pub progress : q ≡ afterOf now p (length outputs) (length (instantTrace now outputs))

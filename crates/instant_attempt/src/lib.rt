@@ -10,7 +10,6 @@ use instant_steps::Ran;
 use instant_steps::Verdict;
 use instant_steps::instant;
 use limits::BUFFER_TOO_SHORT;
-use limits::ROOT_BAG_LIMIT;
 use limits::STILL_DUE;
 use little_endian::front;
 use little_endian::put_bytes;
@@ -44,7 +43,6 @@ fn hindrance(room: usize, ran: Ran) -> u64
     let verdict = ran.verdict;
     match verdict {
         Verdict::Jammed => STILL_DUE,
-        Verdict::Over => ROOT_BAG_LIMIT,
         Verdict::Stands => if room < ran.used { BUFFER_TOO_SHORT } else { 0 },
     }
 }

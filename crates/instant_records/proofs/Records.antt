@@ -1,7 +1,7 @@
 -- The bytes of a record piece by piece: what each store adds, how long the pieces are, and the buffer after a step. Assumes nothing.
 use mathlib.Core.Path.{_≡_, refl, _∙_, sym, ap}
 use mathlib.Core.List.{List, [], _∷_, _++_, map}
-use mathlib.Core.Bool.{Bool, true, false, _&&_, cond}
+use mathlib.Core.Bool.{Bool, true, false, cond}
 use Prim.Native.Nat.{ℕ, zero, suc, _+_, _*_, _/_, _%_, _≤_, _<_}
 use native.Mathlib.Omega.{arith}
 use lib.Dec.{leb}
@@ -10,7 +10,6 @@ use lib.Seq.{sets, length-take-le, slice, slice-cons, slice-empty}
 use borrow.Author.Tests.{le-leb, lt-leb}
 use Rattle.definition.specs.Bytes.{Bytes, bytesOf, laidOut}
 use Rattle.definition.specs.Lists.{concat}
-use Rattle.definition.specs.Limits.{maxRootBag}
 use Rattle.definition.specs.Model.{Message}
 use Rattle.definition.specs.Records.{messageBytes}
 use Rattle.definition.specs.Instant.{recordBytes}
@@ -112,7 +111,7 @@ length-step now k count ks h = size-of now k (take count ks) ∙ ap stepSize (le
 -- A step without messages stores nothing.
 pub put-none : (now k count used : ℕ) (ks out : List ℕ) → count ≡ 0 → out ≡ stepPut now k ks count used out
 unfolding stepPut stepBytes
-put-none now k count used ks out e = rw e (go (leb 0 maxRootBag && leb (used + stepSize 0) (length out)))
+put-none now k count used ks out e = rw e (go (leb (used + stepSize 0) (length out)))
   where
     go : (b : Bool) → out ≡ cond b out out
     go true = refl
@@ -120,24 +119,20 @@ put-none now k count used ks out e = rw e (go (leb 0 maxRootBag && leb (used + s
 
 module _ (now k count used : ℕ) (ks out : List ℕ) where
   -- Where it fits its record is stored.
-  pub put-fits : (count ≡ 0 → ⊥) → count ≤ maxRootBag → count ≤ length ks → used + 12 + 3 * count ≤ length out
+  pub put-fits : (count ≡ 0 → ⊥) → count ≤ length ks → used + 12 + 3 * count ≤ length out
       → sets out used (recordBytes (recordOf now k (take count ks))) ≡ stepPut now k ks count used out
   unfolding stepPut stepBytes
-  put-fits z h l f =
+  put-fits z l f =
       let e = size-some count z in
-      rw (le-leb count maxRootBag h, le-leb (used + stepSize count) (length out) (omega arith)) (go (take count ks) (length-take-le count ks l))
+      rw (le-leb (used + stepSize count) (length out) (omega arith)) (go (take count ks) (length-take-le count ks l))
     where
       go : (xs : List ℕ) → length xs ≡ count → sets out used (recordBytes (recordOf now k xs)) ≡ sets out used (stepBytes now k xs)
       go [] e = absurd (z (sym e))
       go (x ∷ xs) e = refl
 
   -- Where it does not, nothing is.
-  pub put-out : (count ≡ 0 → ⊥) → count ≤ maxRootBag → length out < used + 12 + 3 * count → out ≡ stepPut now k ks count used out
+  pub put-out : (count ≡ 0 → ⊥) → length out < used + 12 + 3 * count → out ≡ stepPut now k ks count used out
   unfolding stepPut
-  put-out z h f =
+  put-out z f =
       let e = size-some count z in
-      rw (le-leb count maxRootBag h, lt-leb (used + stepSize count) (length out) (omega arith))
-
-  pub put-over : maxRootBag < count → out ≡ stepPut now k ks count used out
-  unfolding stepPut
-  put-over h = rw (lt-leb count maxRootBag h)
+      rw (lt-leb (used + stepSize count) (length out) (omega arith))

@@ -1,12 +1,12 @@
 -- The record of a step whose messages stand as keys in a buffer, its size, and a buffer with it. Assumes nothing.
 use Prim.Native.Nat.{ℕ, zero, suc, _+_, _*_}
 use mathlib.Core.List.{List, [], _∷_, map}
-use mathlib.Core.Bool.{_&&_, cond}
+use mathlib.Core.Bool.{cond}
 use lib.Dec.{leb}
 use lib.ListN.{length, take}
 use lib.Seq.{sets}
 use Rattle.definition.specs.Bytes.{Bytes}
-use Rattle.definition.specs.Limits.{messageSize, maxRootBag}
+use Rattle.definition.specs.Limits.{messageSize}
 use Rattle.definition.specs.Instant.{TraceRecord, recordBytes}
 use Rattle.law_base.specs.Keys.{messageOf}
 
@@ -32,7 +32,6 @@ unfoldable pub stepSize : ℕ → ℕ
 stepSize zero = 0
 stepSize (suc n) = recordHead + messageSize * suc n
 
--- A buffer after a step: the step's bytes stand at `used` where its bag is in bounds and they fit.
+-- A buffer after a step: the step's bytes stand at `used` where they fit.
 unfoldable pub stepPut : ℕ → ℕ → List ℕ → ℕ → ℕ → Bytes → Bytes
-stepPut now k keys count used out =
-    cond (leb count maxRootBag && leb (used + stepSize count) (length out)) (sets out used (stepBytes now k (take count keys))) out
+stepPut now k keys count used out = cond (leb (used + stepSize count) (length out)) (sets out used (stepBytes now k (take count keys))) out

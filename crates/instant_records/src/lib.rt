@@ -5,13 +5,12 @@ ghost use Prim.Native.Nat.{_+_, _*_, _≤_};
 ghost use lib.ListN.{length, take};
 ghost use lib.Seq.{sets};
 ghost use Rattle.definition.specs.Lists.{concat};
-ghost use Rattle.definition.specs.Limits.{messageSize, maxRootBag};
+ghost use Rattle.definition.specs.Limits.{messageSize};
 ghost use Rattle.definition.specs.Records.{messageBytes};
 ghost use Rattle.definition.specs.Instant.{recordBytes};
 ghost use Rattle.law_base.specs.Keys.{messageOf};
 ghost use Rattle.instant_records.specs.Written.{recordHead, recordOf, stepSize, stepPut, wordMax};
 use clock::Moment;
-use limits::MAX_ROOT_BAG;
 use limits::MESSAGE_SIZE;
 use limits::RECORD_COUNT_AT;
 use limits::RECORD_HEAD;
@@ -53,17 +52,15 @@ pub fn put_step(
     keys: &[u32],
     count: usize,
 ) -> usize
-    requires { ⌜ (count ≤ maxRootBag → count ≤ length (now keys)) × (used + recordHead + messageSize * count ≤ wordMax) ⌝ }
+    requires { ⌜ (count ≤ length (now keys)) × (used + recordHead + messageSize * count ≤ wordMax) ⌝ }
     ensures { λ r. ⌜ (r ≡ used + stepSize count) × (now (out .exit) ≡ stepPut (moment .0) step (now (keys .entry)) count used (now (out .entry))) ⌝ }
 {
     if count == 0 {
         return used;
     }
     let end = used + RECORD_HEAD + MESSAGE_SIZE * count;
-    if count <= MAX_ROOT_BAG {
-        if end <= out.len() {
-            put_record(out, used, moment, step, keys, count);
-        }
+    if end <= out.len() {
+        put_record(out, used, moment, step, keys, count);
     }
     end
 }

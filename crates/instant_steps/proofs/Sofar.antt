@@ -1,22 +1,21 @@
--- What the loop over an instant's steps holds: the bags of the steps taken, in front of what is left, are the whole instant; while no bag
--- was over the limit, their records are counted, and stand in the buffer while they fit there. Assumes nothing.
+-- What the loop over an instant's steps holds: the bags of the steps taken, in front of what is left, are the whole instant; their records are
+-- counted, and stand in the buffer while they fit there. Assumes nothing.
 use mathlib.Core.Path.{_≡_, refl, _∙_, sym, ap, ap₂, subst}
 use mathlib.Core.List.{List, [], _∷_, _++_, map}
-use mathlib.Core.Bool.{Bool, true, false, _&&_, _||_, not}
+use mathlib.Core.Bool.{true, false, _||_, not}
 use Prim.Native.Nat.{ℕ, zero, suc, _+_, _-_, _*_, _≤_, _<_}
 use native.Mathlib.Omega.{arith}
 use lib.ListN.{length, length-append, length-map, length-take, take}
-use lib.Dec.{ltb, leb, eqb}
+use lib.Dec.{eqb}
 use lib.Seq.{sets}
-use borrow.Author.Tests.{ltb-false, ne-eqb, le-ltb, lt-ltb, le-leb, leb-true, leb-false}
-use Rattle.definition.specs.Lists.{concat, all, isEmpty, sortBy}
+use borrow.Author.Tests.{ne-eqb, le-leb}
+use Rattle.definition.specs.Lists.{concat, isEmpty, sortBy}
 use Rattle.definition.specs.Bytes.{Bytes}
-use Rattle.definition.specs.Limits.{maxSteps, maxRootBag, maxComponents}
+use Rattle.definition.specs.Limits.{maxSteps, maxComponents}
 use Rattle.definition.specs.Model.{Bag, messageLe}
 use Rattle.definition.specs.Step.{Output, Simulator}
-use Rattle.definition.specs.Instant.{Instant, done, jammed, stepped, isDue, goesOn, stepsAt, instant, over, traceBytes, recordsFrom, instantTrace}
+use Rattle.definition.specs.Instant.{Instant, done, jammed, stepped, isDue, goesOn, stepsAt, instant, traceBytes, recordsFrom, instantTrace}
 use Rattle.definition.specs.Engine.{toBag}
-use Rattle.law_base.proofs.Tests.{clash}
 use Rattle.clock.specs.Times.{latest}
 use Rattle.model_records.specs.Values.{phasesIn}
 use Rattle.spec_step.specs.Carried.{nextEnd}
@@ -58,35 +57,20 @@ module _ {S : Type 0} where
   after-jammed [] = refl
   after-jammed (x ∷ xs) = rw (after-jammed xs)
 
-over-snoc : (xs : List Output) (x : Output) → over (xs ++ (x ∷ [])) ≡ (over xs || ltb maxRootBag (length (x .bag)))
-unfolding over all
-over-snoc [] x = go (leb (length (x .bag)) maxRootBag) refl
-  where
-    go : (b : Bool) → leb (length (x .bag)) maxRootBag ≡ b → not (leb (length (x .bag)) maxRootBag && true) ≡ ltb maxRootBag (length (x .bag))
-    go true e = rw e (sym (le-ltb maxRootBag (length (x .bag)) (leb-true _ _ e)))
-    go false e = rw e (sym (lt-ltb maxRootBag (length (x .bag)) (leb-false _ _ e)))
-over-snoc (y ∷ xs) x = go (leb (length (y .bag)) maxRootBag) (over-snoc xs x)
-  where
-    go : (b : Bool) → not (all (λ z. leb (length (z .bag)) maxRootBag) (xs ++ (x ∷ []))) ≡ (not (all (λ z. leb (length (z .bag)) maxRootBag) xs) || ltb maxRootBag (length (x .bag)))
-        → not (b && all (λ z. leb (length (z .bag)) maxRootBag) (xs ++ (x ∷ []))) ≡ (not (b && all (λ z. leb (length (z .bag)) maxRootBag) xs) || ltb maxRootBag (length (x .bag)))
-    go true e = e
-    go false e = refl
-
 -- ---- what the loop holds
 
 -- and something that is kept of the steps taken: `Kept`
-pub record Sofar {S : Type 0} (Kept : List Output → Type 0) (whole rest : Instant S) (now from : ℕ) (out₀ out : Bytes) (k used : ℕ) (flag : Bool) : Type 0 where
+pub record Sofar {S : Type 0} (Kept : List Output → Type 0) (whole rest : Instant S) (now from : ℕ) (out₀ out : Bytes) (k used : ℕ) : Type 0 where
   pub outputs : List Output
   pub count : k ≡ length outputs
   pub split : whole ≡ after outputs rest
   pub kept : Kept outputs
-  pub overs : flag ≡ over outputs
-  pub sized : flag ≡ false → used ≡ from + length (instantTrace now outputs)
-  pub put : flag ≡ false → used ≤ length out₀ → out ≡ sets out₀ from (instantTrace now outputs)
+  pub sized : used ≡ from + length (instantTrace now outputs)
+  pub put : used ≤ length out₀ → out ≡ sets out₀ from (instantTrace now outputs)
 
-pub sofar-none : {S : Type 0} (Kept : List Output → Type 0) → Kept [] → (i : Instant S) (now from : ℕ) (out : Bytes) → Sofar Kept i i now from out out 0 from false
-unfolding after over all instantTrace recordsFrom traceBytes concat
-sofar-none Kept none i now from out = record { outputs = []; count = refl; split = refl; kept = none; overs = refl; sized = λ h. omega arith; put = λ h l. refl }
+pub sofar-none : {S : Type 0} (Kept : List Output → Type 0) → Kept [] → (i : Instant S) (now from : ℕ) (out : Bytes) → Sofar Kept i i now from out out 0 from
+unfolding after instantTrace recordsFrom traceBytes concat
+sofar-none Kept none i now from out = record { outputs = []; count = refl; split = refl; kept = none; sized = omega arith; put = λ l. refl }
 
 -- The keys of a bag stand in the buffer.
 pub keys-hold : (count : ℕ) (ks : List ℕ) (x : Bag) → count ≡ length x → map messageOf (take count ks) ≡ sortBy messageLe x → count ≤ length ks
@@ -94,59 +78,44 @@ keys-hold count ks x e f =
     let l : length (take count ks) ≡ length x = sym (length-map (take count ks) messageOf) ∙ ap length f ∙ length-sort x in
     omega (arith, length-take count ks)
 
-or-false : (a b : Bool) → (a || b) ≡ false → (a ≡ false) × (b ≡ false)
-or-false false b e = (refl, e)
-or-false true b e = absurd (let z : _≡_ {A = ℕ} 0 1 = cc in omega arith)
-
-put-when : (now k count used : ℕ) (ks out : List ℕ) → count ≤ maxRootBag → used + stepSize count ≤ length out
+put-when : (now k count used : ℕ) (ks out : List ℕ) → used + stepSize count ≤ length out
     → stepPut now k ks count used out ≡ sets out used (stepBytes now k (take count ks))
 unfolding stepPut
-put-when now k count used ks out h l = rw (le-leb count maxRootBag h, le-leb (used + stepSize count) (length out) l)
+put-when now k count used ks out l = rw (le-leb (used + stepSize count) (length out) l)
 
 -- One step more.
-module _ {S : Type 0} (Kept Kept′ : List Output → Type 0) (whole rest : Instant S) (now from : ℕ) (out₀ out out′ : Bytes) (k used used′ : ℕ) (flag : Bool) (x : Output) (ks : List ℕ) (count : ℕ)
+module _ {S : Type 0} (Kept Kept′ : List Output → Type 0) (whole rest : Instant S) (now from : ℕ) (out₀ out out′ : Bytes) (k used used′ : ℕ) (x : Output) (ks : List ℕ) (count : ℕ)
     (more : (xs : List Output) → Kept xs → Kept′ (xs ++ (x ∷ [])))
     (lo : length out ≡ length out₀) (ec : count ≡ length (x .bag)) (em : map messageOf (take count ks) ≡ sortBy messageLe (x .bag))
-    (eu : used′ ≡ used + stepSize count) (eo : out′ ≡ stepPut now k ks count used out) (s : Sofar Kept whole (stepped x rest) now from out₀ out k used flag) where
+    (eu : used′ ≡ used + stepSize count) (eo : out′ ≡ stepPut now k ks count used out) (s : Sofar Kept whole (stepped x rest) now from out₀ out k used) where
   abbrev xs : List Output
   xs = s .outputs ++ (x ∷ [])
 
   abbrev new : Bytes
   new = stepBytes now k (take count ks)
 
-  same-test : ltb maxRootBag count ≡ ltb maxRootBag (length (x .bag))
-  same-test = ap (ltb maxRootBag) ec
+  on : instantTrace now xs ≡ instantTrace now (s .outputs) ++ new
+  on = records-snoc now (s .outputs) x (take count ks) em ∙ rw (← s .count)
 
-  module _ (h : (flag || ltb maxRootBag count) ≡ false) where
-    before : flag ≡ false
-    before = or-false flag (ltb maxRootBag count) h .0
+  size : length new ≡ stepSize count
+  size = length-step now k count ks (keys-hold count ks (x .bag) ec em)
 
-    bounded : count ≤ maxRootBag
-    bounded = ltb-false maxRootBag count (or-false flag (ltb maxRootBag count) h .1)
+  sized-more : used′ ≡ from + length (instantTrace now xs)
+  sized-more = rw on (omega (arith, eu, length-append (instantTrace now (s .outputs)) new, size, s .sized))
 
-    on : instantTrace now xs ≡ instantTrace now (s .outputs) ++ new
-    on = records-snoc now (s .outputs) x (take count ks) em ∙ rw (← s .count)
+  put-more : used′ ≤ length out₀ → out′ ≡ sets out₀ from (instantTrace now xs)
+  put-more l =
+      let u : used ≤ length out₀ = omega (arith, eu) in
+      let f : out ≡ sets out₀ from (instantTrace now (s .outputs)) = s .put u in
+      eo ∙ put-when now k count used ks out (omega (arith, eu, lo)) ∙ ap₂ (λ (b : Bytes) (n : ℕ). sets b n new) f (s .sized)
+      ∙ sym (sets-append (instantTrace now (s .outputs)) new out₀ from) ∙ ap (sets out₀ from) (sym on)
 
-    size : length new ≡ stepSize count
-    size = length-step now k count ks (keys-hold count ks (x .bag) ec em)
-
-    sized-more : used′ ≡ from + length (instantTrace now xs)
-    sized-more = rw on (omega (arith, eu, length-append (instantTrace now (s .outputs)) new, size, s .sized before))
-
-    put-more : used′ ≤ length out₀ → out′ ≡ sets out₀ from (instantTrace now xs)
-    put-more l =
-        let u : used ≤ length out₀ = omega (arith, eu) in
-        let f : out ≡ sets out₀ from (instantTrace now (s .outputs)) = s .put before u in
-        eo ∙ put-when now k count used ks out bounded (omega (arith, eu, lo)) ∙ ap₂ (λ (b : Bytes) (n : ℕ). sets b n new) f (s .sized before)
-        ∙ sym (sets-append (instantTrace now (s .outputs)) new out₀ from) ∙ ap (sets out₀ from) (sym on)
-
-  pub sofar-more : Sofar Kept′ whole rest now from out₀ out′ (k + 1) used′ (flag || ltb maxRootBag count)
+  pub sofar-more : Sofar Kept′ whole rest now from out₀ out′ (k + 1) used′
   sofar-more = record {
     outputs = xs;
     count = omega (arith, s .count, length-append (s .outputs) (x ∷ []));
     split = s .split ∙ sym (after-snoc (s .outputs) x rest);
     kept = more (s .outputs) (s .kept);
-    overs = ap₂ _||_ (s .overs) same-test ∙ sym (over-snoc (s .outputs) x);
     sized = sized-more;
     put = put-more;
   }
@@ -201,14 +170,14 @@ ready-next phases tables w₀ w due f h e p =
 
 -- What holds after k steps: the sizes of what is lent, a bound on the bytes counted, the due moments, and what is left of the instant.
 pub record Stepping (phases rules tables : List ℕ) (now : ℕ) (given : Bytes) (w₀ work₀ : List ℕ) (out₀ : Bytes) (from : ℕ)
-    (w work : List ℕ) (out : Bytes) (used : ℕ) (flag : Bool) (k : ℕ) : Type 0 where
+    (w work : List ℕ) (out : Bytes) (used : ℕ) (k : ℕ) : Type 0 where
   pub few : k ≤ maxSteps
   pub words : length work ≡ length work₀
   pub size : length out ≡ length out₀
   pub bound : used ≤ from + 12300 * k
   pub ready : Ready phases tables w
   pub sofar : Sofar (RulesOver (atomicsIn tables) w₀ w) (instantOf phases rules tables (length work₀) now given w₀)
-      (stepsAt (simOf phases rules tables (length work₀)) (maxSteps - k) now (toBag (givenAt given k)) (heldIn w)) now from out₀ out k used flag
+      (stepsAt (simOf phases rules tables (length work₀)) (maxSteps - k) now (toBag (givenAt given k)) (heldIn w)) now from out₀ out k used
   pub rules-size : length (lastRulesIn w) ≡ maxComponents
 
 -- ---- the verdicts
@@ -216,17 +185,13 @@ pub record Stepping (phases rules tables : List ℕ) (now : ℕ) (given : Bytes)
 -- Something is said of an instant that stands, and of no other.
 abbrev Standing : Verdict → Type 0
 Standing VV.Jammed = ⊥
-Standing VV.Over = ⊥
 Standing VV.Stands = Unit {0}
 
 not-jams : VV.Jammed ≡ VV.Stands → ⊥
 not-jams e = subst Standing (sym e) tt
 
-not-over : VV.Over ≡ VV.Stands → ⊥
-not-over e = subst Standing (sym e) tt
-
-module _ (phases tables : List ℕ) {Kept : List Output → Type 0} {whole rest : Instant State} {now from : ℕ} {out₀ out : Bytes} {k used : ℕ} {flag : Bool}
-    (sofar : Sofar Kept whole rest now from out₀ out k used flag) (w : List ℕ) where
+module _ (phases tables : List ℕ) {Kept : List Output → Type 0} {whole rest : Instant State} {now from : ℕ} {out₀ out : Bytes} {k used : ℕ}
+    (sofar : Sofar Kept whole rest now from out₀ out k used) (w : List ℕ) where
   abbrev Verdicts : Instant State → Verdict → ℕ → ℕ → Type 0
   Verdicts i v steps used = Judged phases tables now from out₀ out w i (record { verdict = v; steps = steps; used = used })
 
@@ -239,19 +204,11 @@ module _ (phases tables : List ℕ) {Kept : List Output → Type 0} {whole rest 
   ends : rest ≡ done [] (heldIn w) → done (sofar .outputs) (heldIn w) ≡ whole
   ends e = sym (sofar .split ∙ ap (after (sofar .outputs)) e ∙ after-done (sofar .outputs) (heldIn w))
 
-  pub judged-over : rest ≡ done [] (heldIn w) → flag ≡ true → Verdicts whole VV.Over 0 from
+  pub judged-stands : rest ≡ done [] (heldIn w) → k ≤ maxSteps → Ready phases tables w → Verdicts whole VV.Stands k used
   unfolding ranOf
-  judged-over e f =
-      let o : over (sofar .outputs) ≡ true = sym (sofar .overs) ∙ f in
-      subst (λ (i : Instant State). Verdicts i VV.Over 0 from) (ends e)
-      (record { answer = rw o; few = omega arith; recorded = λ h. absurd (clash o h); left = refl; ready = λ h. absurd (not-over h) })
-
-  pub judged-stands : rest ≡ done [] (heldIn w) → flag ≡ false → k ≤ maxSteps → Ready phases tables w → Verdicts whole VV.Stands k used
-  unfolding ranOf
-  judged-stands e f most r =
-      let o : over (sofar .outputs) ≡ false = sym (sofar .overs) ∙ f in
+  judged-stands e most r =
       subst (λ (i : Instant State). Verdicts i VV.Stands k used) (ends e)
-      (record { answer = rw (o, sofar .count, sofar .sized f); few = most; recorded = λ h l. sofar .put f (rw (sofar .sized f) l); left = refl; ready = λ h. r })
+      (record { answer = rw (sofar .count, sofar .sized); few = most; recorded = λ l. sofar .put (rw (sofar .sized) l); left = refl; ready = λ h. r })
 
   -- the rules that decided in the steps taken
   pub overlays-jams : (n : ℕ) (w₀ : List ℕ) → rest ≡ jammed → Overlays n w₀ w whole

@@ -1,6 +1,5 @@
 -- What the code's pass over an instant answers, by what the definition says that the instant leaves. Assumes nothing.
 use mathlib.Core.Path.{_≡_}
-use mathlib.Core.Bool.{false, cond}
 use mathlib.Core.Logic.{_⊎_}
 use mathlib.Core.List.{List, [], _∷_}
 use Prim.Native.Nat.{ℕ, _+_, _≤_}
@@ -9,7 +8,7 @@ use lib.Seq.{sets}
 use Rattle.definition.specs.Bytes.{Bytes}
 use Rattle.definition.specs.Limits.{maxSteps}
 use Rattle.definition.specs.Step.{Output}
-use Rattle.definition.specs.Instant.{Instant, done, jammed, over, instantTrace, instantParts, instantRules}
+use Rattle.definition.specs.Instant.{Instant, done, jammed, instantTrace, instantParts, instantRules}
 use Rattle.law_base.specs.Overlaid.{overlaid}
 use Rattle.run_state.specs.declared.State.{State}
 use Rattle.run_state.specs.Held.{heldIn}
@@ -17,18 +16,16 @@ use Rattle.instant_steps.specs.Sim.{Ready, rulesShown}
 use Rattle.instant_steps.specs.declared.Ran.{Ran}
 use Rattle.instant_steps.specs.declared.Verdict.the-variants as VV
 
--- 13 goes before 14: the verdict, and for an instant that may stand its steps and where its records end.
+-- The verdict, and for an instant that may stand its steps and where its records end.
 unfoldable pub ranOf : ℕ → ℕ → Instant State → Ran
 ranOf now from jammed = record { verdict = VV.Jammed; steps = 0; used = from }
-ranOf now from (done xs s) =
-    cond (over xs) (record { verdict = VV.Over; steps = 0; used = from })
-    (record { verdict = VV.Stands; steps = length xs; used = from + length (instantTrace now xs) })
+ranOf now from (done xs s) = record { verdict = VV.Stands; steps = length xs; used = from + length (instantTrace now xs) }
 
 -- The records of an instant that may stand are in the buffer from `from` on, where all of them fit there. Otherwise its content
 -- behind `from` is left open.
 abbrev pub Recorded : ℕ → ℕ → Bytes → Bytes → Instant State → Type 0
 Recorded now from out₀ out jammed = Unit {0}
-Recorded now from out₀ out (done xs s) = over xs ≡ false → from + length (instantTrace now xs) ≤ length out₀ → out ≡ sets out₀ from (instantTrace now xs)
+Recorded now from out₀ out (done xs s) = from + length (instantTrace now xs) ≤ length out₀ → out ≡ sets out₀ from (instantTrace now xs)
 
 -- The state is the one that the instant leaves; where it never ends, nothing is said.
 abbrev pub Left : Instant State → State → Type 0

@@ -12,7 +12,6 @@ ghost use Rattle.instant_steps.specs.Sim.{instantOf, stepOf, givenAt, Fi
 ghost use Rattle.instant_steps.specs.Verdicts.{Judged, RulesLeft};
 use clock::Moment;
 use instant_records::put_step;
-use limits::MAX_ROOT_BAG;
 use limits::MAX_STEPS;
 use limits::MESSAGE_SIZE;
 use run_state::STATE_SIZE;
@@ -21,29 +20,17 @@ use step_simulator::step_once;
 use table_words::TABLE_SIZE;
 use table_words::atomics_in;
 
-// Something still due after all steps; a step's root bag over the limit; or neither, so that the instant may stand.
+// Something still due after all steps; or nothing, so that the instant may stand.
 pub enum Verdict {
     Jammed,
-    Over,
     Stands,
 }
 
-// The verdict on an instant; where it stands its steps, and where its records end.
+// The verdict on an instant; where it stands its steps, and where its records end. One that does not stand counts nothing.
 pub struct Ran {
     pub verdict: Verdict,
     pub steps: u64,
     pub used: usize,
-}
-
-// An instant that does not stand counts nothing.
-fn undone(verdict: Verdict, from: usize) -> Ran
-    ensures { λ r. ⌜ r ≡ record { verdict = verdict; steps = 0; used = from } ⌝ }
-{
-    Ran {
-        verdict,
-        steps: 0,
-        used: from,
-    }
 }
 
 // "A step is taken if something is due or the given bag is not empty"
@@ -122,20 +109,19 @@ pub fn instant(
     run_state::whole(state);
     begin(at, given, state);
     let mut used = from;
-    let mut over = false;
     let mut k: u64 = 0;
     while goes_on(run_state::next_due(state), at, given_at(given, k)) {
         if k == MAX_STEPS {
-            return undone(Verdict::Jammed, from);
+            return Ran {
+                verdict: Verdict::Jammed,
+                steps: 0,
+                used: from,
+            };
         }
         let part = given_at(given, k);
         let count = take_step(phases, rules, tables, state, at, part, work);
-        over = over | (MAX_ROOT_BAG < count);
         used = put_step(out, used, at, k, work, count);
         k = k + 1;
-    }
-    if over {
-        return undone(Verdict::Over, from);
     }
     Ran {
         verdict: Verdict::Stands,

@@ -7,14 +7,12 @@ use mathlib.Core.Bool.{true, false}
 use native.Mathlib.Omega.{arith}
 use lib.ListN.{length}
 use borrow.Author.Tests.{lt-ltb, le-ltb}
-use Rattle.definition.specs.Lists.{all}
 use Rattle.definition.specs.Bytes.{ok, refused}
 use Rattle.definition.specs.Model.{Bag}
 use Rattle.definition.specs.Devs.{ticks}
 use Rattle.definition.specs.Step.{Output, Simulator}
-use Rattle.definition.specs.Instant.{jammed, done, instant, TraceRecord, recordBytes, traceBytes, instantTrace, instantRules, over}
+use Rattle.definition.specs.Instant.{jammed, done, instant, TraceRecord, recordBytes, traceBytes, instantTrace, instantRules}
 use Rattle.definition.specs.Advance.{Progress, ended, isBefore, tried, continued, succeeded, advancing}
-use Rattle.law_base.proofs.Tests.{clash}
 use Rattle.law_base.proofs.Lists.{concat-append}
 
 pub traces-append : (rs qs : List TraceRecord) → traceBytes (rs ++ qs) ≡ traceBytes rs ++ traceBytes qs
@@ -26,21 +24,16 @@ module _ {S : Type 0} (room now : ℕ) (p : Progress S) where
   unfolding tried
   tried-jams = refl
 
-  pub tried-over : (xs : List Output) (s : S) → over xs ≡ true → tried room now p (done xs s) ≡ refused 14
-  unfolding tried over all
-  tried-over [] s e = absurd (clash e refl)
-  tried-over (x ∷ xs) s e = rw e
-
   pub tried-none : (xs : List Output) (s : S) → length xs ≡ 0 → tried room now p (done xs s) ≡ ok p
   unfolding tried
   tried-none [] s e = refl
   tried-none (x ∷ xs) s e = absurd (omega arith)
 
-  pub tried-full : (xs : List Output) (s : S) → over xs ≡ false → (length xs ≡ 0 → ⊥) → room < length (p .trace ++ instantTrace now xs)
+  pub tried-full : (xs : List Output) (s : S) → (length xs ≡ 0 → ⊥) → room < length (p .trace ++ instantTrace now xs)
       → tried room now p (done xs s) ≡ refused 15
   unfolding tried
-  tried-full [] s o z l = absurd (z refl)
-  tried-full (x ∷ xs) s o z l = rw (o, lt-ltb room (length (p .trace ++ instantTrace now (x ∷ xs))) l)
+  tried-full [] s z l = absurd (z refl)
+  tried-full (x ∷ xs) s z l = rw (lt-ltb room (length (p .trace ++ instantTrace now (x ∷ xs))) l)
 
   -- what stands once the instant does
   abbrev pub stood : List Output → S → Progress S
@@ -53,11 +46,11 @@ module _ {S : Type 0} (room now : ℕ) (p : Progress S) where
     rules = instantRules xs;
   }
 
-  pub tried-stands : (xs : List Output) (s : S) → over xs ≡ false → (length xs ≡ 0 → ⊥) → length (p .trace ++ instantTrace now xs) ≤ room
+  pub tried-stands : (xs : List Output) (s : S) → (length xs ≡ 0 → ⊥) → length (p .trace ++ instantTrace now xs) ≤ room
       → tried room now p (done xs s) ≡ ok (stood xs s)
   unfolding tried
-  tried-stands [] s o z l = absurd (z refl)
-  tried-stands (x ∷ xs) s o z l = rw (o, le-ltb room (length (p .trace ++ instantTrace now (x ∷ xs))) l)
+  tried-stands [] s z l = absurd (z refl)
+  tried-stands (x ∷ xs) s z l = rw (le-ltb room (length (p .trace ++ instantTrace now (x ∷ xs))) l)
 
 module _ {S : Type 0} (k : Simulator S) (room t : ℕ) (x : Bag) where
   pub last-turn : (m : ℕ) (p : Progress S) → isBefore (k .next (p .state)) t ≡ false

@@ -1,7 +1,7 @@
 -- A call that goes on from what was done before is the call by itself, with the counts, the trace and the rules of before in front. By the cases
 -- of `Ends`, over anything that takes steps. Assumes nothing.
 use mathlib.Core.Path.{_≡_, refl, sym, ap, _∙_, subst}
-use Prim.Native.Nat.{ℕ, suc, _+_}
+use Prim.Native.Nat.{ℕ, suc, _+_, _≤_}
 use mathlib.Core.List.{List, _∷_, _++_, append-assoc, append-nil}
 use mathlib.Core.Bool.{cond}
 use native.Mathlib.Omega.{arith}
@@ -13,7 +13,7 @@ use Rattle.definition.specs.Model.{Bag}
 use Rattle.definition.specs.Step.{Output, Simulator}
 use Rattle.definition.specs.Instant.{instantTrace, instantRules}
 use Rattle.definition.specs.Advance.{Progress, Ended, ended, succeeded, isBefore}
-use Rattle.definition.specs.AdvanceRelation.{Next, before, at-end, WithinLimits, withInstant, Ends, jams, oversize, overruns, goes-on, succeeds, idle}
+use Rattle.definition.specs.AdvanceRelation.{Next, before, at-end, withInstant, Ends, jams, overruns, goes-on, succeeds, idle}
 use Rattle.definition.specs.Carrying.{begins}
 
 module _ {S : Type 0} (k : Simulator S) (t : ℕ) (x : Bag) where
@@ -53,15 +53,14 @@ module _ {S : Type 0} (k : Simulator S) (t : ℕ) (x : Bag) where
     longer : (r : ℕ) (p : Progress S) (now : ℕ) (xs : List Output) → length ((tr ++ p .trace) ++ instantTrace now xs) ≡ length tr + length (p .trace ++ instantTrace now xs)
     longer r p now xs = omega (arith, length-append (tr ++ p .trace) (instantTrace now xs), length-append tr (p .trace), length-append (p .trace) (instantTrace now xs))
 
-    within : (r : ℕ) (p : Progress S) (now : ℕ) (xs : List Output) → WithinLimits k r t x p now xs → WithinLimits k (length tr + r) t x (counted p) now xs
-    within r p now xs v = record { bags = v .bags; trace = omega (arith, longer r p now xs, v .trace) }
+    within : (r : ℕ) (p : Progress S) (now : ℕ) (xs : List Output) → length (p .trace ++ instantTrace now xs) ≤ r → length ((tr ++ p .trace) ++ instantTrace now xs) ≤ length tr + r
+    within r p now xs v = omega (arith, longer r p now xs, v)
 
     pub counted-ends : (r : ℕ) {p : Progress S} {e : Ended S} → Ends k r t x p e → Ends k (length tr + r) t x (counted p) (countedEnd e)
     unfolding ended succeeded
     counted-ends r (jams p now y next v) = jams (counted p) now y (next-same r (length tr + r) (p .state) (p .state) now y refl next) v
-    counted-ends r (oversize p now y xs s′ next w v) = oversize (counted p) now y xs s′ (next-same r (length tr + r) (p .state) (p .state) now y refl next) w v
-    counted-ends r (overruns p now y z zs s′ next w v l) =
-        overruns (counted p) now y z zs s′ (next-same r (length tr + r) (p .state) (p .state) now y refl next) w v (omega (arith, longer r p now (z ∷ zs), l))
+    counted-ends r (overruns p now y z zs s′ next w l) =
+        overruns (counted p) now y z zs s′ (next-same r (length tr + r) (p .state) (p .state) now y refl next) w (omega (arith, longer r p now (z ∷ zs), l))
     counted-ends r (goes-on p u xs s′ e f g w v rest) =
         goes-on (counted p) u xs s′ (countedEnd e) f g w (within r p u xs v)
         (subst (λ q. Ends k (length tr + r) t x q (countedEnd e)) (sym (counted-with r p u xs s′)) (counted-ends r rest))

@@ -14,11 +14,11 @@ use Rattle.definition.specs.Model.{Bag}
 use Rattle.definition.specs.Devs.{Time, finite, never, sameTime, ticks}
 use Rattle.definition.specs.SavedRun.{notBefore}
 use Rattle.definition.specs.Step.{Output, Simulator}
-use Rattle.definition.specs.Instant.{Instant, done, jammed, isDue, goesOn, instant, over, instantTrace}
+use Rattle.definition.specs.Instant.{Instant, done, jammed, isDue, goesOn, instant, instantTrace}
 use Rattle.definition.specs.Advance.{Progress, Ended, ended, tried, continued, succeeded, isBefore, advancing}
-use Rattle.definition.specs.AdvanceRelation.{Whole, Next, before, at-end, withInstant, Ends, jams, oversize, overruns, goes-on, succeeds, idle}
+use Rattle.definition.specs.AdvanceRelation.{Whole, Next, before, at-end, withInstant, Ends, jams, overruns, goes-on, succeeds, idle}
 use Rattle.law_base.proofs.Tests.{clash}
-use Rattle.law_base.proofs.Turns.{tried-jams, tried-over, tried-full, tried-stands, last-turn}
+use Rattle.law_base.proofs.Turns.{tried-jams, tried-full, tried-stands, last-turn}
 use Rattle.law_calls.proofs.Lift.{before-t, Agree, SameInstant, instant-same}
 use Rattle.law_calls.proofs.Instants.{Settled, settled, whole-instant, jams-instant}
 
@@ -88,22 +88,19 @@ module _ {S : Type 0} {At Between : ℕ → S → S → Type 0} {Fine : Bag → 
   ends-before n p u b l f g ih jammed q h =
       subst (Ends k room t x p) (sym (turn-next k room t x n p u [] (before u f g) 13 (ap (tried room u p) q ∙ tried-jams room u p))) (jams p u [] (before u f g) h)
   ends-before n p u b l f g ih (done [] s′) q h = absurd (some-step k u (p .state) s′ f h)
-  ends-before n p u b l f g ih (done (y ∷ ys) s′) q h = go (over (y ∷ ys)) refl (ltb room (length (p .trace ++ instantTrace u (y ∷ ys)))) refl
+  ends-before n p u b l f g ih (done (y ∷ ys) s′) q h = go (ltb room (length (p .trace ++ instantTrace u (y ∷ ys)))) refl
     where
-      go : (c : Bool) → over (y ∷ ys) ≡ c → (d : Bool) → ltb room (length (p .trace ++ instantTrace u (y ∷ ys))) ≡ d → Ends k room t x p (advancing k room t x (suc n) p)
-      go true c d r =
-          subst (Ends k room t x p) (sym (turn-next k room t x n p u [] (before u f g) 14 (ap (tried room u p) q ∙ tried-over room u p (y ∷ ys) s′ c)))
-          (oversize p u [] (y ∷ ys) s′ (before u f g) h c)
-      go false c true r =
+      go : (d : Bool) → ltb room (length (p .trace ++ instantTrace u (y ∷ ys))) ≡ d → Ends k room t x p (advancing k room t x (suc n) p)
+      go true r =
           let v = ltb-true room _ r in
-          subst (Ends k room t x p) (sym (turn-next k room t x n p u [] (before u f g) 15 (ap (tried room u p) q ∙ tried-full room u p (y ∷ ys) s′ c (λ z. omega arith) v)))
-          (overruns p u [] y ys s′ (before u f g) h c v)
-      go false c false r =
+          subst (Ends k room t x p) (sym (turn-next k room t x n p u [] (before u f g) 15 (ap (tried room u p) q ∙ tried-full room u p (y ∷ ys) s′ (λ z. omega arith) v)))
+          (overruns p u [] y ys s′ (before u f g) h v)
+      go false r =
           let v = ltb-false room _ r in
           let o = kept-on p u s′ (y ∷ ys) b f h in
           let next = withInstant k room t x p u (y ∷ ys) s′ in
-          subst (Ends k room t x p) (sym (turn-before k room t x n p u f g ∙ ok-ends k room t x _ p next _ (ap (tried room u p) q ∙ tried-stands room u p (y ∷ ys) s′ c (λ z. omega arith) v)))
-          (goes-on p u (y ∷ ys) s′ _ f g h (record { bags = c; trace = v }) (ih next (o .1) g (omega (arith, o .0))))
+          subst (Ends k room t x p) (sym (turn-before k room t x n p u f g ∙ ok-ends k room t x _ p next _ (ap (tried room u p) q ∙ tried-stands room u p (y ∷ ys) s′ (λ z. omega arith) v)))
+          (goes-on p u (y ∷ ys) s′ _ f g h v (ih next (o .1) g (omega (arith, o .0))))
 
   -- and where t is next
   ends-last : (n : ℕ) (p : Progress S) → isBefore (k .next (p .state)) t ≡ false
@@ -114,21 +111,18 @@ module _ {S : Type 0} {At Between : ℕ → S → S → Type 0} {Fine : Bag → 
   ends-last n p f (done [] s′) q h =
       subst (Ends k room t x p) (sym (last-turn k room t x n p f ∙ ok-ends k room t x (succeeded t) p p _ (ap (tried room t p) q)))
       (idle p f (ap (goesOn k t x) (h .steps) ∙ h .finished))
-  ends-last n p f (done (y ∷ ys) s′) q h = go (over (y ∷ ys)) refl (ltb room (length (p .trace ++ instantTrace t (y ∷ ys)))) refl
+  ends-last n p f (done (y ∷ ys) s′) q h = go (ltb room (length (p .trace ++ instantTrace t (y ∷ ys)))) refl
     where
-      go : (c : Bool) → over (y ∷ ys) ≡ c → (d : Bool) → ltb room (length (p .trace ++ instantTrace t (y ∷ ys))) ≡ d → Ends k room t x p (advancing k room t x (suc n) p)
-      go true c d r =
-          subst (Ends k room t x p) (sym (turn-next k room t x n p t x (at-end f) 14 (ap (tried room t p) q ∙ tried-over room t p (y ∷ ys) s′ c)))
-          (oversize p t x (y ∷ ys) s′ (at-end f) h c)
-      go false c true r =
+      go : (d : Bool) → ltb room (length (p .trace ++ instantTrace t (y ∷ ys))) ≡ d → Ends k room t x p (advancing k room t x (suc n) p)
+      go true r =
           let v = ltb-true room _ r in
-          subst (Ends k room t x p) (sym (turn-next k room t x n p t x (at-end f) 15 (ap (tried room t p) q ∙ tried-full room t p (y ∷ ys) s′ c (λ z. omega arith) v)))
-          (overruns p t x y ys s′ (at-end f) h c v)
-      go false c false r =
+          subst (Ends k room t x p) (sym (turn-next k room t x n p t x (at-end f) 15 (ap (tried room t p) q ∙ tried-full room t p (y ∷ ys) s′ (λ z. omega arith) v)))
+          (overruns p t x y ys s′ (at-end f) h v)
+      go false r =
           let v = ltb-false room _ r in
           subst (Ends k room t x p)
-          (sym (last-turn k room t x n p f ∙ ok-ends k room t x (succeeded t) p _ _ (ap (tried room t p) q ∙ tried-stands room t p (y ∷ ys) s′ c (λ z. omega arith) v)))
-          (succeeds p y ys s′ f h (record { bags = c; trace = v }))
+          (sym (last-turn k room t x n p f ∙ ok-ends k room t x (succeeded t) p _ _ (ap (tried room t p) q ∙ tried-stands room t p (y ∷ ys) s′ (λ z. omega arith) v)))
+          (succeeds p y ys s′ f h v)
 
   pub ends : (n : ℕ) (p : Progress S) → Between (p .opening) (p .state) (p .state) → p .opening ≤ t → t < p .opening + n → Ends k room t x p (advancing k room t x n p)
   ends zero p b o l = absurd (omega arith)
@@ -160,21 +154,19 @@ module _ {S : Type 0} {At Between : ℕ → S → S → Type 0} {Fine : Bag → 
   unfolding tried
   only (jams p now y next v) n b o l =
       one-turn n p _ o l (λ j f. turn-next k room t x j p now y next 13 (ap (tried room now p) (jams-instant k now y (p .state) v) ∙ tried-jams room now p))
-  only (oversize p now y xs s′ next w v) n b o l =
-      one-turn n p _ o l (λ j f. turn-next k room t x j p now y next 14 (ap (tried room now p) (whole-instant k now y (p .state) s′ xs w) ∙ tried-over room now p xs s′ v))
-  only (overruns p now y z zs s′ next w v r) n b o l =
-      one-turn n p _ o l (λ j f. turn-next k room t x j p now y next 15 (ap (tried room now p) (whole-instant k now y (p .state) s′ (z ∷ zs) w) ∙ tried-full room now p (z ∷ zs) s′ v (λ z. omega arith) r))
+  only (overruns p now y z zs s′ next w r) n b o l =
+      one-turn n p _ o l (λ j f. turn-next k room t x j p now y next 15 (ap (tried room now p) (whole-instant k now y (p .state) s′ (z ∷ zs) w) ∙ tried-full room now p (z ∷ zs) s′ (λ z. omega arith) r))
   only (goes-on p u [] s′ e f g w v rest) n b o l = absurd (some-step k u (p .state) s′ f w)
   only (goes-on p u (y ∷ ys) s′ e f g w v rest) n b o l =
       let c = kept-on p u s′ (y ∷ ys) b f w in
       one-turn n p e o l (λ j q.
       turn-before k room t x j p u f g
-      ∙ ok-ends k room t x _ p _ _ (ap (tried room u p) (whole-instant k u [] (p .state) s′ (y ∷ ys) w) ∙ tried-stands room u p (y ∷ ys) s′ (v .bags) (λ z. omega arith) (v .trace))
+      ∙ ok-ends k room t x _ p _ _ (ap (tried room u p) (whole-instant k u [] (p .state) s′ (y ∷ ys) w) ∙ tried-stands room u p (y ∷ ys) s′ (λ z. omega arith) v)
       ∙ only rest j (c .1) g (omega (arith, c .0, l, q)))
   only (succeeds p y ys s′ f w v) n b o l =
       one-turn n p _ o l (λ j q.
       last-turn k room t x j p f
-      ∙ ok-ends k room t x (succeeded t) p _ _ (ap (tried room t p) (whole-instant k t x (p .state) s′ (y ∷ ys) w) ∙ tried-stands room t p (y ∷ ys) s′ (v .bags) (λ z. omega arith) (v .trace)))
+      ∙ ok-ends k room t x (succeeded t) p _ _ (ap (tried room t p) (whole-instant k t x (p .state) s′ (y ∷ ys) w) ∙ tried-stands room t p (y ∷ ys) s′ (λ z. omega arith) v))
   only (idle p f g) n b o l =
       one-turn n p _ o l (λ j q.
       last-turn k room t x j p f
@@ -186,8 +178,7 @@ module _ {S : Type 0} {k : Simulator S} {room t : ℕ} {x : Bag} where
       → (e .number ≡ 0) ⊎ ((e .progress ≡ p) ⊎ (p .instants < e .progress .instants))
   unfolding ended succeeded
   undone (jams p now y next v) = inr (inl refl)
-  undone (oversize p now y xs s′ next w v) = inr (inl refl)
-  undone (overruns p now y z zs s′ next w v r) = inr (inl refl)
+  undone (overruns p now y z zs s′ next w r) = inr (inl refl)
   undone (goes-on p u xs s′ e f g w v rest) = go (undone rest)
     where
       go : (e .number ≡ 0) ⊎ ((e .progress ≡ withInstant k room t x p u xs s′) ⊎ (suc (p .instants) < e .progress .instants)) → (e .number ≡ 0) ⊎ ((e .progress ≡ p) ⊎ (p .instants < e .progress .instants))

@@ -15,10 +15,10 @@ use Rattle.definition.specs.Model.{Bag}
 use Rattle.definition.specs.Devs.{Time, finite, never, sameTime, ticks}
 use Rattle.definition.specs.SavedRun.{notBefore}
 use Rattle.definition.specs.Step.{Output, Simulator}
-use Rattle.definition.specs.Instant.{Instant, done, jammed, stepped, isDue, goesOn, stepsAt, instant, over, instantTrace}
+use Rattle.definition.specs.Instant.{Instant, done, jammed, stepped, isDue, goesOn, stepsAt, instant, instantTrace}
 use Rattle.definition.specs.Advance.{Progress, Ended, ended, tried, continued, succeeded, isBefore, advancing, advanceFrom}
 use Rattle.law_base.proofs.Tests.{clash}
-use Rattle.law_calls.proofs.SameBags.{SameOutput, SameAll, rules-same, records-same, over-same, length-same}
+use Rattle.law_calls.proofs.SameBags.{SameOutput, SameAll, rules-same, records-same, length-same}
 
 -- ---- the next moment: where it lies before t, and where it does not
 
@@ -140,8 +140,8 @@ module _ {S₁ S₂ : Type 0} where
     tried-alike room now p q (done (x ∷ xs) s) (done (y ∷ ys) s′) a o h =
         let tail = ap₂ _++_ (a .trace) (records-same now (x ∷ xs) (y ∷ ys) (h .0)) in
         let b = k .closes now s s′ (h .1) (h .2) in
-        rw (← over-same (x ∷ xs) (y ∷ ys) (h .0), ← tail)
-        (go (over (x ∷ xs)) (ltb room (length (p .trace ++ instantTrace now (x ∷ xs)))) _ _ (
+        rw (← tail)
+        (go (ltb room (length (p .trace ++ instantTrace now (x ∷ xs)))) _ _ (
           record {
             opening = refl;
             state = b;
@@ -154,11 +154,10 @@ module _ {S₁ S₂ : Type 0} where
           b,
         ))
       where
-        go : (b c : Bool) (p : Progress S₁) (q : Progress S₂) → Alike Between p q × (p .opening ≤ suc now) × Between (suc now) (p .state) (q .state)
-            → AlikeAfter now (refuseIf b 14 >>= λ _. refuseIf c 15 >>= λ _. ok p) (refuseIf b 14 >>= λ _. refuseIf c 15 >>= λ _. ok q)
-        go true c p q h = refl
-        go false true p q h = refl
-        go false false p q h = h
+        go : (c : Bool) (p : Progress S₁) (q : Progress S₂) → Alike Between p q × (p .opening ≤ suc now) × Between (suc now) (p .state) (q .state)
+            → AlikeAfter now (refuseIf c 15 >>= λ _. ok p) (refuseIf c 15 >>= λ _. ok q)
+        go true p q h = refl
+        go false p q h = h
 
     -- ---- the instants of a call
 

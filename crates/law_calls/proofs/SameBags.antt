@@ -3,16 +3,13 @@
 use mathlib.Core.Path.{_≡_, refl, ap, ap₂}
 use Prim.Native.Nat.{ℕ, suc}
 use mathlib.Core.List.{List, [], _∷_, map}
-use mathlib.Core.Bool.{not}
 use native.Mathlib.Omega.{arith}
-use lib.Dec.{leb}
 use lib.ListN.{length}
-use Rattle.definition.specs.Lists.{all, count, isEmpty, Same}
-use Rattle.definition.specs.Limits.{maxRootBag}
+use Rattle.definition.specs.Lists.{count, isEmpty, Same}
 use Rattle.definition.specs.Model.{Bag}
 use Rattle.definition.specs.Atomic.{toldAs}
 use Rattle.definition.specs.Step.{Output}
-use Rattle.definition.specs.Instant.{over, traceBytes, recordsFrom, instantTrace, lastParts, instantParts, instantRules}
+use Rattle.definition.specs.Instant.{traceBytes, recordsFrom, instantTrace, lastParts, instantParts, instantRules}
 use Rattle.law_base.proofs.Bags.{sort-same, same-length}
 
 pub empty-same : (x y : Bag) → Same x y → isEmpty x ≡ isEmpty y
@@ -57,17 +54,6 @@ records-from now k (x ∷ xs) (y ∷ ys) h = rw (empty-same (x .bag) (y .bag) (h
 pub records-same : (now : ℕ) (xs ys : List Output) → SameAll xs ys → instantTrace now xs ≡ instantTrace now ys
 unfolding instantTrace
 records-same now xs ys h = ap traceBytes (records-from now 0 xs ys h)
-
-all-same : (xs ys : List Output) → SameAll xs ys → all (λ x. leb (length (x .bag)) maxRootBag) xs ≡ all (λ x. leb (length (x .bag)) maxRootBag) ys
-unfolding all
-all-same [] [] h = refl
-all-same [] (y ∷ ys) h = absurd h
-all-same (x ∷ xs) [] h = absurd h
-all-same (x ∷ xs) (y ∷ ys) h = rw (same-length (x .bag) (y .bag) (h .0 .0), all-same xs ys (h .1))
-
-pub over-same : (xs ys : List Output) → SameAll xs ys → over xs ≡ over ys
-unfolding over
-over-same xs ys h = ap not (all-same xs ys h)
 
 pub length-same : (xs ys : List Output) → SameAll xs ys → length xs ≡ length ys
 length-same [] [] h = refl

@@ -13,7 +13,7 @@ use Rattle.definition.specs.Limits.{maxSteps}
 use Rattle.definition.specs.Model.{Bag}
 use Rattle.definition.specs.Devs.{ticks}
 use Rattle.definition.specs.Step.{Output, Simulator}
-use Rattle.definition.specs.Instant.{Instant, done, jammed, instant, over, instantTrace}
+use Rattle.definition.specs.Instant.{Instant, done, jammed, instant, instantTrace}
 use Rattle.definition.specs.Advance.{Progress, Ended, ended, tried, continued, succeeded, isBefore, advancing}
 use Rattle.law_base.proofs.Turns.{stood}
 use Rattle.law_calls.proofs.Instants.{Settled, settled}
@@ -33,13 +33,12 @@ module _ {S : Type 0} (k : Simulator S) (room : ℕ) where
   unfolding tried
   tried-keeps P now y p h f jammed d = tt
   tried-keeps P now y p h f (done [] s) d = h
-  tried-keeps P now y p h f (done (z ∷ zs) s) d = go (over (z ∷ zs)) (ltb room (length (p .trace ++ instantTrace now (z ∷ zs)))) refl
+  tried-keeps P now y p h f (done (z ∷ zs) s) d = go (ltb room (length (p .trace ++ instantTrace now (z ∷ zs)))) refl
     where
-      go : (b c : Bool) → ltb room (length (p .trace ++ instantTrace now (z ∷ zs))) ≡ c
-          → IfDone P (refuseIf b 14 >>= λ _. refuseIf c 15 >>= λ _. ok (stood room now p (z ∷ zs) s))
-      go true c e = tt
-      go false true e = tt
-      go false false e = f (z ∷ zs) s (d .few) (ltb-false room _ e)
+      go : (c : Bool) → ltb room (length (p .trace ++ instantTrace now (z ∷ zs))) ≡ c
+          → IfDone P (refuseIf c 15 >>= λ _. ok (stood room now p (z ∷ zs) s))
+      go true e = tt
+      go false e = f (z ∷ zs) s (d .few) (ltb-false room _ e)
 
   -- and then the call goes on, or ends where it was
   continued-keeps : (P Q : Progress S → Type 0) (f : Progress S → Ended S) (p : Progress S) (r : Result (Progress S)) → Q p → IfDone P r

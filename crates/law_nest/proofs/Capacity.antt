@@ -1,6 +1,5 @@
 -- A route carries no more messages than its source sends: from the root at most as many as are given, 16, and from an atomic at most 4. So an
--- atomic's bag has at most 16 messages a route and the root's output bag at most 4 (number 14 is never given), and the code's buffers are long
--- enough. Assumes nothing.
+-- atomic's bag has at most 16 messages a route, and the code's buffer for it is long enough; of the root's bag `RootBag` speaks. Assumes nothing.
 use mathlib.Core.Path.{_≡_, refl, ap}
 use Prim.Native.Nat.{ℕ, _+_, _*_, _≤_}
 use mathlib.Core.List.{List, [], _++_}
@@ -22,12 +21,11 @@ use Rattle.law_base.proofs.Lists.{sum-cong-if, count-sum, count-most}
 use Rattle.law_base.proofs.Bags.{count-append}
 use Rattle.law_model.proofs.WellFormed.{WellFormed}
 use Rattle.law_model.proofs.PhaseRange.{outputs-fit}
-use Rattle.law_nest.proofs.Components.{partsOfRoot, root, shape}
-use Rattle.law_nest.proofs.Nest.{Ready, due, outTo, bagAt, outDue, out-due}
+use Rattle.law_nest.proofs.Components.{root, shape}
+use Rattle.law_nest.proofs.Nest.{Ready, due, bagAt}
 use Rattle.law_nest.proofs.Hits.{hits}
 use Rattle.law_nest.proofs.Paths.{waysSum, waysSumAll, down-tree, up-tree}
 use Rattle.law_nest.proofs.Carried.{weight, ways-leaf}
-use Rattle.law_nest.proofs.Carry.{root-hits}
 
 -- ---- one route
 
@@ -111,16 +109,6 @@ module _ (m : Model) (w : WellFormed m) (at : ℕ → Entry) (now : ℕ) where
         )
 
   module _ (ready : Ready m at now (root m)) where
-    -- at most 4 messages a route
-    pub root-bag : length (outTo m at now (partsOfRoot m) 0) ≤ maxOutputs * length (routes m)
-    root-bag =
-        let out = outTo m at now (partsOfRoot m) 0 in
-        let u = up-tree m at now 0 (λ z. 1) (root m) rootEnds ready in
-        let h = root-hits 0 (λ z. 1) (outDue m at now (root m)) in
-        let o = ap (sumOf (λ z. 1)) (out-due m at now 0 (partsOfRoot m) ready) in
-        let c = routes-carry m 0 maxOutputs 0 (waysSum m at now 0 (λ z. 1) rootEnds (root m)) (omega arith) (omega arith) (rw (shape m w) (ways-carry-few 0 rootEnds (root m))) in
-        omega (arith, u, h, o, c, sum-ones out, mul-le-mul-left maxOutputs (ending-most 0 (routes m)))
-
     -- at most n messages a route, where the given bag has at most n
     module _ (x : Bag) (n : ℕ) (given : length x ≤ n) (ports : all portFits x ≡ true) (most : maxOutputs ≤ n) where
       pub atomic-bag : (a : ℕ) → length (bagAt m at now a (root m) x) ≤ n * length (routes m)

@@ -4,13 +4,14 @@ use Prim.Native.Nat.{ℕ, _*_, _≤_}
 use mathlib.Core.List.{List, [], _∷_}
 use mathlib.Core.Bool.{Bool, true, false}
 use native.Mathlib.Omega.{arith}
+use native.Mathlib.Nat.{mul-le-mul-left}
 use lib.ListN.{length}
 use Rattle.definition.specs.Limits.{maxOutputs, maxRoutes, maxRootBag}
-use Rattle.definition.specs.Model.{Bag, Model}
+use Rattle.definition.specs.Model.{Bag, Model, tree}
 use Rattle.definition.specs.Routes.{routes}
-use Rattle.definition.specs.Devs.{Since, transition, devsStep}
-use Rattle.definition.specs.SavedRun.{Entry}
-use Rattle.definition.specs.Step.{stepOn, step}
+use Rattle.definition.specs.Devs.{transition, devsStep}
+use Rattle.definition.specs.SavedRun.{Entry, entryOf}
+use Rattle.definition.specs.Step.{load, stepOn, step}
 use Rattle.definition.specs.Carrying.{rootOf}
 use Rattle.definition.specs.AtomicBags.{endingAt}
 use Rattle.definition.specs.RootBags.{NestPutsOut}
@@ -29,11 +30,14 @@ module _ (m : Model) (w : WellFormed m) where
   unfolding devsStep
   put-out-few now x q = transition-few _ _ x _
 
+  -- of a step from saved entries
+  pub step-few : (now : ℕ) (x : Bag) (rs : List Entry) → length (step m now x rs .out .bag) ≤ maxOutputs * length (routes m)
+  unfolding step stepOn
+  step-few now x rs = omega (arith, put-out-few now x (record { state = load m (entryOf m rs) now (tree m); event = now }), mul-le-mul-left maxOutputs (ending-most 0 (routes m)))
+
   module _ (few : length (routes m) ≤ maxRoutes) where
     pub put-out-most : NestPutsOut m maxRootBag
     put-out-most now x q = omega (arith, put-out-few now x q, ending-most 0 (routes m), few)
 
-    -- of a step from saved entries
     pub step-most : (now : ℕ) (x : Bag) (rs : List Entry) → length (step m now x rs .out .bag) ≤ maxRootBag
-    unfolding step stepOn
-    step-most now x rs = put-out-most now x _
+    step-most now x rs = omega (arith, step-few now x rs, few)

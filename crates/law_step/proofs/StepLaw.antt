@@ -31,7 +31,8 @@ use Rattle.law_nest.proofs.Parts.{part}
 use Rattle.law_nest.proofs.Leaves.{moved-same, part-of-same}
 use Rattle.law_nest.proofs.StepOf.{entryAfter, step-moved, partAfter, step-decided, step-out}
 use Rattle.law_nest.proofs.Stepping.{Good, ready}
-use Rattle.law_nest.proofs.Capacity.{atomic-bag, root-bag}
+use Rattle.law_nest.proofs.Capacity.{atomic-bag}
+use Rattle.law_nest.proofs.RootBag.{step-few}
 use Rattle.clock.specs.Times.{latest}
 use Rattle.run_state.specs.declared.State.{State}
 use Rattle.run_state.specs.Held.{entriesOf}
@@ -202,8 +203,7 @@ module _ (m : Model) (w : WellFormed m) (t : List ℕ) (h : Tabled m t) (st : St
             arith,
             length-map (rootKeys (m .phases) t marked flags) messageOf,
             same-length (map messageOf (rootKeys (m .phases) t marked flags)) (step m now x (entries m w st) .out .bag) root-whole,
-            ap length (step-out m w now x (entries m w st) is-ready),
-            root-bag m w at now is-ready,
+            step-few m w now x (entries m w st),
           )
 
       pub table-out : Same (after .out .bag) (step m now x (entries m w st) .out .bag)
@@ -215,13 +215,3 @@ module _ (m : Model) (w : WellFormed m) (t : List ℕ) (h : Tabled m t) (st : St
       pub table-room : SameRoom (after .state) st
       unfolding tableStep
       table-room = all-room m w t h now _ _ room x (length (atomics (m .components))) 0 st
-
-      -- the root's bag has at most 4 messages a route
-      pub table-few : length (after .out .bag) ≤ maxOutputs * length (routes m)
-      table-few =
-          omega (
-            arith,
-            same-length (after .out .bag) (step m now x (entries m w st) .out .bag) table-out,
-            ap length (step-out m w now x (entries m w st) is-ready),
-            root-bag m w at now is-ready,
-          )

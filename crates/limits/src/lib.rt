@@ -75,8 +75,6 @@ pub const MAX_GIVEN: usize = 16;
 
 pub const MAX_STEPS: u64 = 1024;
 
-pub const MAX_ROOT_BAG: usize = 4096;
-
 pub const MAX_MOMENT: u64 = 1000000000000;
 
 // The latest open moment: one past the latest moment to which a run is advanced.
@@ -136,7 +134,7 @@ pub const BAD_BAG: u64 = 12;
 
 pub const STILL_DUE: u64 = 13;
 
-pub const ROOT_BAG_LIMIT: u64 = 14;
+// 14 is retired: no call gives it, and it is given to nothing else.
 
 pub const BUFFER_TOO_SHORT: u64 = 15;
 

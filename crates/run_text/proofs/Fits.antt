@@ -124,33 +124,33 @@ last-fits refusal run steps = go (eqb refusal 0)
 
 -- ---- a run
 
-advanced-fits : (file run : Bytes) (t : ℕ) (bag trace table : Bytes) → length (advancedText (advance file run t bag trace table)) ≤ longestLine * (length trace / messageSize) + longestLast
+advanced-fits : (file run : Bytes) (t : ℕ) (bag trace table : Bytes) → AllBytes file → length (advancedText (advance file run t bag trace table)) ≤ longestLine * (length trace / messageSize) + longestLast
 unfolding advancedText
-advanced-fits file run t bag trace table =
+advanced-fits file run t bag trace table b =
     let a = advance file run t bag trace table in
-    let body = trace-fits (length trace) (written a) (advance-traced file run t bag trace table) in
+    let body = trace-fits (length trace) (written a) (advance-traced file run t bag trace table b) in
     rw length-append (omega (arith, last-fits (a .number) (a .run) (a .steps)))
 
-started-fits : (model : Bytes) (end : ℕ) (trace : Bytes) (w : Wrote) → length (startedText model end trace w) ≤ longestLine * (length trace / messageSize) + longestLast
+started-fits : (model : Bytes) (end : ℕ) (trace : Bytes) (w : Wrote) → AllBytes model → length (startedText model end trace w) ≤ longestLine * (length trace / messageSize) + longestLast
 unfolding startedText
-started-fits model end trace w = go (eqb (w .number) 0)
+started-fits model end trace w bytes = go (eqb (w .number) 0)
   where
     go : (b : Bool) → length (cond b (advancedText (advance model (w .buffer) end [] trace [])) (refusedLine (w .number))) ≤ longestLine * (length trace / messageSize) + longestLast
-    go true = advanced-fits model (w .buffer) end [] trace []
+    go true = advanced-fits model (w .buffer) end [] trace [] bytes
     go false = omega (arith, refused-fits (w .number))
 
-input-fits : (input run trace : Bytes) → length trace ≡ traceRoom → length (inputText input run trace) ≤ textRoom
+input-fits : (input run trace : Bytes) → AllBytes input → length trace ≡ traceRoom → length (inputText input run trace) ≤ textRoom
 unfolding inputText
-input-fits input run trace e = go (ltb (length input) momentSize)
+input-fits input run trace bytes e = go (ltb (length input) momentSize)
   where
     started : Bytes
     started = startedText (drop momentSize input) (numberAt momentSize 0 input) trace (start (drop momentSize input) run)
 
     go : (b : Bool) → length (firstLine ++ cond b (refusedLine 1) started) ≤ textRoom
     go true = omega (arith, refused-fits 1)
-    go false = omega (arith, e, started-fits (drop momentSize input) (numberAt momentSize 0 input) trace (start (drop momentSize input) run))
+    go false = omega (arith, e, started-fits (drop momentSize input) (numberAt momentSize 0 input) trace (start (drop momentSize input) run) (drop-bytes momentSize bytes))
 
 -- The text of every input fits in its room.
-pub text-fits : (input : Bytes) → length (runText input) ≤ textRoom
+pub text-fits : (input : Bytes) → AllBytes input → length (runText input) ≤ textRoom
 unfolding runText
-text-fits input = input-fits input (replicate runRoom 0) (replicate traceRoom 0) (length-replicate {A = ℕ} traceRoom 0)
+text-fits input bytes = input-fits input (replicate runRoom 0) (replicate traceRoom 0) bytes (length-replicate {A = ℕ} traceRoom 0)

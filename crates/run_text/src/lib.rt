@@ -1,6 +1,6 @@
 // The text that the printing program writes: the lines of a run, put into a lent buffer.
 ghost use mathlib.Core.Path.{_≡_};
-ghost use Prim.Native.Nat.{_<_};
+ghost use Prim.Native.Nat.{_≤_, _<_};
 ghost use mathlib.Core.List.{[]};
 ghost use lib.ListN.{length};
 ghost use Rattle.definition.specs.Engine.{start, advance};
@@ -250,7 +250,7 @@ fn put_input(out: &mut [u8], input: &[u8], run: &mut [u8], trace: &mut [u8]) -> 
 
 // The lines of the run for an end moment and a model file, at the front of the lent buffer as far as it goes; answers their length.
 fn run_text(input: &[u8], out: &mut [u8]) -> usize
-    ensures { λ r. ⌜ (now (out .exit), r) ≡ put (runText (now (input .entry))) (now (out .entry), 0) ⌝ }
+    ensures { λ r. ⌜ ((now (out .exit), r) ≡ put (runText (now (input .entry))) (now (out .entry), 0)) × (length (runText (now (input .entry))) ≤ textRoom) ⌝ }
 {
     let mut run = [0u8; RUN_ROOM];
     let mut trace = [0u8; TRACE_ROOM];

@@ -11,7 +11,7 @@ use Rattle.definition.specs.Bytes.{Bytes, Result, ok, refused, _>>=_, refuseIf}
 use Rattle.definition.specs.Model.{Bag, Model, atomics}
 use Rattle.definition.specs.SavedRun.{Entry, atomicCount}
 use Rattle.definition.specs.Step.{Output, Simulator, unload, decidedInFileOrder, stepOn, step, nested}
-use Rattle.definition.specs.Instant.{Instant, done, jammed, instant, over, instantTrace}
+use Rattle.definition.specs.Instant.{Instant, done, jammed, instant, instantTrace}
 use Rattle.definition.specs.Advance.{Progress, Ended, ended, tried, continued, succeeded, isBefore, advancing, advanceFrom}
 use Rattle.definition.specs.AdvanceRelation.{Steps, withInstant}
 use Rattle.definition.specs.Engine.{toBag}
@@ -52,7 +52,7 @@ module _ (m : Model) where
     unfolding tried
     tried-each now x p h jammed e = tt
     tried-each now x p h (done [] s) e = h
-    tried-each now x p h (done (y ∷ ys) s) e = go (over (y ∷ ys)) (ltb room (length (p .trace ++ instantTrace now (y ∷ ys))))
+    tried-each now x p h (done (y ∷ ys) s) e = go (ltb room (length (p .trace ++ instantTrace now (y ∷ ys))))
       where
         stands : ForEach (withInstant k room t given p now (y ∷ ys) s)
         stands = (
@@ -60,10 +60,9 @@ module _ (m : Model) where
           inr (long-instant k (atomicCount m) decided-each now x (p .state) y ys s e),
         )
 
-        go : (c d : Bool) → ForEachIf (refuseIf c 14 >>= λ _. refuseIf d 15 >>= λ _. ok (withInstant k room t given p now (y ∷ ys) s))
-        go true d = tt
-        go false true = tt
-        go false false = stands
+        go : (d : Bool) → ForEachIf (refuseIf d 15 >>= λ _. ok (withInstant k room t given p now (y ∷ ys) s))
+        go true = tt
+        go false = stands
 
     continued-each : (on : Reached → Ended (List Entry)) → ((q : Reached) → ForEach q → ForEach (on q .progress)) → (p : Reached) → ForEach p
         → (r : Result Reached) → ForEachIf r → ForEach (continued on p r .progress)

@@ -14,7 +14,7 @@ use Rattle.definition.specs.Limits.{maxMoment}
 use Rattle.definition.specs.Model.{Bag}
 use Rattle.definition.specs.Step.{Simulator}
 use Rattle.definition.specs.Advance.{Progress, Ended, ended, succeeded, advancing}
-use Rattle.definition.specs.AdvanceRelation.{Ends, jams, oversize, overruns, goes-on, succeeds, idle, EndsInTurn, all-succeed, stops, then}
+use Rattle.definition.specs.AdvanceRelation.{Ends, jams, overruns, goes-on, succeeds, idle, EndsInTurn, all-succeed, stops, then}
 use Rattle.definition.specs.Engine.{toBag, bagFits}
 use Rattle.definition.specs.Feed.{FeedBag}
 use Rattle.law_calls.proofs.Lift.{Agree, Alike, EndsAlike, advancing-alike}
@@ -124,17 +124,23 @@ module _ {S : Type 0} {At Between : ℕ → S → S → Type 0} {Fine : Bag → 
 
 -- The numbers with which a call may end, and the open moment where it succeeds.
 abbrev pub Ending : ℕ → ℕ → ℕ → Type 0
-Ending t n opening = ((n ≡ 0) × (opening ≡ suc t)) ⊎ ((n ≡ 13) ⊎ ((n ≡ 14) ⊎ (n ≡ 15)))
+Ending t n opening = ((n ≡ 0) × (opening ≡ suc t)) ⊎ ((n ≡ 13) ⊎ (n ≡ 15))
 
 module _ {S : Type 0} {k : Simulator S} {room : ℕ} where
   pub ending : {t : ℕ} {x : Bag} {p : Progress S} {e : Ended S} → Ends k room t x p e → Ending t (e .number) (e .progress .opening)
   unfolding ended succeeded
   ending (jams p now y next v) = inr (inl refl)
-  ending (oversize p now y xs s′ next w v) = inr (inr (inl refl))
-  ending (overruns p now y z zs s′ next w v r) = inr (inr (inr refl))
+  ending (overruns p now y z zs s′ next w r) = inr (inr refl)
   ending (goes-on p u xs s′ e f g w v rest) = ending rest
   ending (succeeds p y ys s′ f w v) = inl (refl, refl)
   ending (idle p f g) = inl (refl, refl)
+
+  pub ending-number : {t : ℕ} {x : Bag} {p : Progress S} {e : Ended S} → Ends k room t x p e → (e .number ≡ 0) ⊎ ((e .number ≡ 13) ⊎ (e .number ≡ 15))
+  ending-number {t = t} {e = e} h = go (ending h)
+    where
+      go : Ending t (e .number) (e .progress .opening) → (e .number ≡ 0) ⊎ ((e .number ≡ 13) ⊎ (e .number ≡ 15))
+      go (inl z) = inl (z .0)
+      go (inr z) = inr z
 
   -- a call that succeeds leaves the moment past its own open
   pub opens : {t : ℕ} {x : Bag} {p : Progress S} {e : Ended S} → Ends k room t x p e → e .number ≡ 0 → e .progress .opening ≡ suc t
@@ -143,19 +149,14 @@ module _ {S : Type 0} {k : Simulator S} {room : ℕ} where
       go : Ending t (e .number) (e .progress .opening) → e .progress .opening ≡ suc t
       go (inl y) = y .1
       go (inr (inl y)) = absurd (omega (arith, y))
-      go (inr (inr (inl y))) = absurd (omega (arith, y))
-      go (inr (inr (inr y))) = absurd (omega (arith, y))
+      go (inr (inr y)) = absurd (omega (arith, y))
 
   -- "The first refused call stops it"
   pub turns-number : {cs : List FeedBag} {p : Progress S} {n : ℕ} {e : Ended S} → EndsInTurn k room cs p n e
-      → (e .number ≡ 0) ⊎ ((e .number ≡ 13) ⊎ ((e .number ≡ 14) ⊎ (e .number ≡ 15)))
+      → (e .number ≡ 0) ⊎ ((e .number ≡ 13) ⊎ (e .number ≡ 15))
   unfolding ended
   turns-number (all-succeed p) = inl refl
-  turns-number (stops c cs p e h l) = go (ending h)
-    where
-      go : Ending (c .moment) (e .number) (e .progress .opening) → (e .number ≡ 0) ⊎ ((e .number ≡ 13) ⊎ ((e .number ≡ 14) ⊎ (e .number ≡ 15)))
-      go (inl z) = inl (z .0)
-      go (inr z) = inr z
+  turns-number (stops c cs p e h l) = ending-number h
   turns-number (then c cs p e n d h z rest) = turns-number rest
 
   -- where they all succeed, the open moment is one past the last of them

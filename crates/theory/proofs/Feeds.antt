@@ -1,4 +1,4 @@
--- Request (v): a feed is its calls in turn, is stopped by 13, 14 and 15 alone, leaves the moment past its end open, and writes one trace.
+-- Request (v): a feed is its calls in turn, is stopped by 13 and 15 alone, leaves the moment past its end open, and writes one trace.
 -- Assumes nothing.
 use mathlib.Core.Path.{_≡_, refl, sym, ap, _∙_, subst}
 use mathlib.Core.Logic.{_⊎_, inl}
@@ -9,6 +9,7 @@ use native.Mathlib.Omega.{arith}
 use lib.ListN.{length, take}
 use Rattle.definition.specs.Lists.{isEmpty}
 use Rattle.definition.specs.Bytes.{Bytes, AllBytes, Result, ok, refused}
+use Rattle.definition.specs.Limits.{longestRecord}
 use Rattle.definition.specs.Model.{Model}
 use Rattle.definition.specs.Pinned.Decoder.{accepted}
 use Rattle.definition.specs.Sound.{Every}
@@ -17,8 +18,8 @@ use Rattle.definition.specs.Advance.{Ended}
 use Rattle.definition.specs.Feed.{FeedBag, firstMoment, feedCalls}
 use Rattle.definition.specs.FeedCall.{Fed, nothingFed, stoppedBy, fedInTurn, advanceFeed}
 use Rattle.definition.specs.Calls.{AdvanceCall, advanceCall, runCalls, engine}
-use Rattle.definition.specs.TracesByColumn.{joinedTraces, OneTrace}
-use Rattle.definition.specs.Demands.{openingOf, MayFeed, FeedEnds, fedAs}
+use Rattle.definition.specs.TracesByColumn.{joinedTraces}
+use Rattle.definition.specs.Demands.{openingOf, MayFeed, FeedEnds, fedAs, RecordsWithin}
 use Rattle.definition.specs.Feeds.{AsCalls, Feeds, madeCalls}
 use Rattle.law_model.proofs.Reading.{accepted-sound}
 use Rattle.law_model.proofs.Answers.{advance-time}
@@ -27,7 +28,7 @@ use Rattle.theory.proofs.WrittenRuns.{read-back}
 use Rattle.theory.proofs.FeedRows.{feed-model, feed-done, by-checks}
 use Rattle.theory.proofs.FeedEnds.{turns-number, all-done}
 use Rattle.theory.proofs.FeedCalls.{calls-length, onward, onward-ends, onward-kept, feed-only}
-use Rattle.theory.proofs.Joined.{joined-trace}
+use Rattle.theory.proofs.Joined.{Traces, one-of, short-of, joined-traces}
 use Rattle.theory.proofs.FeedSums.{in-calls}
 
 -- ---- a first call before the open moment
@@ -60,8 +61,8 @@ module _ (file run : Bytes) (end : ℕ) (feed trace : Bytes) (m : Model) (bs : L
   told : advanceFeed file run end feed trace ≡ fedAs run trace bs n last
   told = feed-only file m b e run trace end feed bs h n last ends
 
-  stopped-by : (let i = advanceFeed file run end feed trace .number in (i ≡ 0) ⊎ ((i ≡ 13) ⊎ ((i ≡ 14) ⊎ (i ≡ 15))))
-  stopped-by = subst (λ (f : Fed). (f .number ≡ 0) ⊎ ((f .number ≡ 13) ⊎ ((f .number ≡ 14) ⊎ (f .number ≡ 15)))) (sym told) (turns-number ends)
+  stopped-by : (let i = advanceFeed file run end feed trace .number in (i ≡ 0) ⊎ ((i ≡ 13) ⊎ (i ≡ 15)))
+  stopped-by = subst (λ (f : Fed). (f .number ≡ 0) ⊎ ((f .number ≡ 13) ⊎ (f .number ≡ 15))) (sym told) (turns-number ends)
 
   to-the-end : advanceFeed file run end feed trace .number ≡ 0
       → (advanceFeed file run end feed trace .bags ≡ length bs) × (openingOf m (advanceFeed file run end feed trace .run) ≡ suc end)
@@ -77,29 +78,33 @@ module _ (file run : Bytes) (end : ℕ) (feed trace : Bytes) (m : Model) (bs : L
 -- ---- its trace
 
 module _ (file run : Bytes) (end : ℕ) (feed trace : Bytes) (b : AllBytes file) where
-  abbrev OneFrom : Fed → Type 0
-  OneFrom f = OneTrace (take (f .used) (f .trace))
+  abbrev TracesOf : Fed → Type 0
+  TracesOf f = Traces (take (f .used) (f .trace))
 
   -- of calls by this file
-  calls-trace : (calls : List AdvanceCall) → OneTrace (joinedTraces run (map (λ c. (engine file, c)) calls))
-  calls-trace calls = subst (λ l. OneTrace (joinedTraces run l)) (map-map _ (λ c. (file, c)) calls) (joined-trace run (map (λ c. (file, c)) calls) (of-bytes calls))
+  calls-trace : (calls : List AdvanceCall) → Traces (joinedTraces run (map (λ c. (engine file, c)) calls))
+  calls-trace calls = subst (λ l. Traces (joinedTraces run l)) (map-map _ (λ c. (file, c)) calls) (joined-traces run (map (λ c. (file, c)) calls) (of-bytes calls))
     where
       of-bytes : (calls : List AdvanceCall) → Every (λ (c : Bytes × AdvanceCall). AllBytes (c .0)) (map (λ c. (file, c)) calls)
       of-bytes [] = tt
       of-bytes (c ∷ cs) = (b, of-bytes cs)
 
-  nothing-traced : (n : ℕ) → OneFrom (nothingFed n run trace)
+  nothing-traced : (n : ℕ) → TracesOf (nothingFed n run trace)
   unfolding joinedTraces nothingFed
   nothing-traced n = calls-trace []
 
-  one-trace : OneFrom (advanceFeed file run end feed trace)
-  one-trace = go (accepted file) refl
+  traces : TracesOf (advanceFeed file run end feed trace)
+  traces = go (accepted file) refl
     where
-      go : (r : Result Model) → accepted file ≡ r → OneFrom (advanceFeed file run end feed trace)
-      go (refused n) e = subst OneFrom (sym (feed-model file run end feed trace n e)) (nothing-traced n)
+      go : (r : Result Model) → accepted file ≡ r → TracesOf (advanceFeed file run end feed trace)
+      go (refused n) e = subst TracesOf (sym (feed-model file run end feed trace n e)) (nothing-traced n)
       go (ok m) e =
-          by-checks file run end feed trace m e OneFrom nothing-traced
-          (λ bs h. subst OneTrace (sym (in-calls file run trace bs end .written)) (calls-trace (madeCalls (engine file) run trace (feedCalls bs end))))
+          by-checks file run end feed trace m e TracesOf nothing-traced
+          (λ bs h. subst Traces (sym (in-calls file run trace bs end .written)) (calls-trace (madeCalls (engine file) run trace (feedCalls bs end))))
+
+pub feed-short : (file run : Bytes) (end : ℕ) (feed trace : Bytes) → AllBytes file
+    → RecordsWithin longestRecord (take (advanceFeed file run end feed trace .used) (advanceFeed file run end feed trace .trace))
+feed-short file run end feed trace b = short-of _ (traces file run end feed trace b)
 
 pub feeds : Feeds
 feeds = record {
@@ -110,5 +115,5 @@ feeds = record {
   early-call = early-call;
   stopped-by = stopped-by;
   to-the-end = to-the-end;
-  one-trace = one-trace;
+  one-trace = λ file run end feed trace b. one-of _ (traces file run end feed trace b);
 }

@@ -4,21 +4,21 @@ use mathlib.Core.Path.{_≡_, refl, sym, ap, _∙_, subst}
 use mathlib.Core.Logic.{_⊎_, inl, inr}
 use Prim.Native.Nat.{ℕ, zero, suc, _+_, _≤_}
 use mathlib.Core.List.{List, [], _∷_, _++_, map}
-use mathlib.Core.Bool.{Bool, true, false, not, cond}
+use mathlib.Core.Bool.{Bool, true, false, cond}
 use native.Mathlib.Omega.{arith}
-use lib.Dec.{leb, ltb}
+use lib.Dec.{ltb}
 use lib.ListN.{length, drop, length-append, length-drop, length-map}
 use borrow.Author.Tests.{ltb-false}
 use Rattle.definition.specs.Lists.{all, isEmpty}
 use Rattle.definition.specs.Bytes.{Bytes, Result, ok, refused, refuseIf, _>>=_, stored}
-use Rattle.definition.specs.Limits.{maxMoment, maxSteps, maxRootBag, noPosition}
+use Rattle.definition.specs.Limits.{maxMoment, maxSteps, noPosition}
 use Rattle.definition.specs.Model.{Bag, Model, atomics}
 use Rattle.definition.specs.Records.{portFits}
 use Rattle.definition.specs.Devs.{Time, finite, never, ticks}
 use Rattle.definition.specs.SavedRun.{Entry, Run, runLength, runBytes, notBefore, nextDue}
 use Rattle.definition.specs.Atomic.{toldAs}
 use Rattle.definition.specs.Step.{Output, nested}
-use Rattle.definition.specs.Instant.{Instant, done, jammed, instant, over, instantTrace, instantParts, instantRules}
+use Rattle.definition.specs.Instant.{Instant, done, jammed, instant, instantTrace, instantParts, instantRules}
 use Rattle.definition.specs.Advance.{Progress, Ended, ended, tried, continued, succeeded, isBefore, advancing}
 use Rattle.definition.specs.Engine.{withRules}
 use Rattle.definition.specs.Flatten.{flat}
@@ -30,7 +30,6 @@ use Rattle.law_calls.proofs.Lift.{before-t, not-before-t, Agree, AlikeAfter, tr
 use Rattle.law_calls.proofs.Kept.{Kept, Fit, AtSame, BetweenSame, fit-opens, fit-early}
 use Rattle.theory.proofs.Agreement.{levelled, OnPorts}
 use Rattle.law_base.proofs.Turns.{stood}
-use Rattle.law_base.proofs.Lists.{all-map}
 use Rattle.theory.proofs.RuleTables.{Long, written, with-written, over-written}
 use Rattle.theory.proofs.Buffers.{stored-again, written-on}
 use Rattle.theory.proofs.FlatTrace.{written-trace}
@@ -96,17 +95,17 @@ module _ (m : Model) (w : WellFormed m) (self : flat m ≡ m) (run₀ trace₀ t
   judged-tried : (now : ℕ) (p : Progress (List Entry)) (c : List Output × List Entry) → length (c .1) ≡ length (p .state) → length (p .trace) ≤ room
       → Long (length (p .state)) p → RowOf (c .0) (length (p .state))
       → verdictOn m now (toStage p) (copy (p .state) c) ≡ staged (tried room now p (settled (anyDue m now (atomics (m .components)) (c .1)) c))
-  unfolding verdictOn tried settled toStage isEmpty over
-  judged-tried now p c e l long row = rw (same-room p l, written-trace now (c .0), all-map (λ y. leb (length y) maxRootBag) (λ x. x .bag) (c .0)) (go (anyDue m now (atomics (m .components)) (c .1)) (c .0) row)
+  unfolding verdictOn tried settled toStage isEmpty
+  judged-tried now p c e l long row = rw (same-room p l, written-trace now (c .0)) (go (anyDue m now (atomics (m .components)) (c .1)) (c .0) row)
     where
       go : (b : Bool) (xs : List Output) → RowOf xs (length (p .state))
           → (let d : List Output × List Entry = (xs, c .1) in
-          cond b (refused 13) (cond (isEmpty (map (λ x. x .bag) xs)) (ok (toStage p)) (cond (not (all (λ x. leb (length (x .bag)) maxRootBag) xs)) (refused 14)
-          (cond (ltb room (length (p .trace) + length (instantTrace now xs))) (refused 15) (ok (standing now (toStage p) (copy (p .state) d))))))
+          cond b (refused 13) (cond (isEmpty (map (λ x. x .bag) xs)) (ok (toStage p))
+          (cond (ltb room (length (p .trace) + length (instantTrace now xs))) (refused 15) (ok (standing now (toStage p) (copy (p .state) d)))))
           ≡ staged (tried room now p (cond b jammed (done xs (c .1)))))
       go true xs row = refl
       go false [] row = refl
-      go false (x ∷ xs) row = rw (length-append (p .trace) (instantTrace now (x ∷ xs))) (ends (over (x ∷ xs)) (ltb room (length (p .trace) + length (instantTrace now (x ∷ xs)))))
+      go false (x ∷ xs) row = rw (length-append (p .trace) (instantTrace now (x ∷ xs))) (ends (ltb room (length (p .trace) + length (instantTrace now (x ∷ xs)))))
         where
           new : Progress (List Entry)
           new = stood room now p (x ∷ xs) (c .1)
@@ -129,11 +128,9 @@ module _ (m : Model) (w : WellFormed m) (self : flat m ≡ m) (run₀ trace₀ t
             used = sym (length-append (p .trace) (instantTrace now (x ∷ xs))) i;
           }))
 
-          ends : (a b : Bool) → cond a (refused 14) (cond b (refused 15) (ok (standing now (toStage p) (copy (p .state) (x ∷ xs, c .1)))))
-              ≡ staged (refuseIf a 14 >>= λ _. refuseIf b 15 >>= λ _. ok new)
-          ends true b = refl
-          ends false true = refl
-          ends false false = ap ok same
+          ends : (b : Bool) → cond b (refused 15) (ok (standing now (toStage p) (copy (p .state) (x ∷ xs, c .1)))) ≡ staged (refuseIf b 15 >>= λ _. ok new)
+          ends true = refl
+          ends false = ap ok same
 
   -- ---- what stands between instants
 
@@ -157,13 +154,12 @@ module _ (m : Model) (w : WellFormed m) (self : flat m ≡ m) (run₀ trace₀ t
     unfolding tried
     in-room now p jammed l = tt
     in-room now p (done [] s) l = l
-    in-room now p (done (x ∷ xs) s) l = go (over (x ∷ xs)) (ltb room (length (p .trace ++ instantTrace now (x ∷ xs)))) refl
+    in-room now p (done (x ∷ xs) s) l = go (ltb room (length (p .trace ++ instantTrace now (x ∷ xs)))) refl
       where
-        go : (b c : Bool) → ltb room (length (p .trace ++ instantTrace now (x ∷ xs))) ≡ c
-            → InRoom (refuseIf b 14 >>= λ _. refuseIf c 15 >>= λ _. ok (stood room now p (x ∷ xs) s))
-        go true c e = tt
-        go false true e = tt
-        go false false e = ltb-false room _ e
+        go : (c : Bool) → ltb room (length (p .trace ++ instantTrace now (x ∷ xs))) ≡ c
+            → InRoom (refuseIf c 15 >>= λ _. ok (stood room now p (x ∷ xs) s))
+        go true e = tt
+        go false e = ltb-false room _ e
 
     abbrev LongAfter : Result (Progress (List Entry)) → Type 0
     LongAfter (ok p) = Long (length (p .state)) p
@@ -174,15 +170,14 @@ module _ (m : Model) (w : WellFormed m) (self : flat m ≡ m) (run₀ trace₀ t
     unfolding tried settled
     long-tried now p b c e row h = go b (c .0) row
       where
-        stands : (xs : List Output) → length (instantParts xs) ≡ length (p .state) → (a b : Bool) → LongAfter (refuseIf a 14 >>= λ _. refuseIf b 15 >>= λ _. ok (stood room now p xs (c .1)))
-        stands xs row true b = tt
-        stands xs row false true = tt
-        stands xs row false false = inr (rules-length xs (length (p .state)) row ∙ sym e)
+        stands : (xs : List Output) → length (instantParts xs) ≡ length (p .state) → (b : Bool) → LongAfter (refuseIf b 15 >>= λ _. ok (stood room now p xs (c .1)))
+        stands xs row true = tt
+        stands xs row false = inr (rules-length xs (length (p .state)) row ∙ sym e)
 
         go : (b : Bool) (xs : List Output) → RowOf xs (length (p .state)) → LongAfter (tried room now p (cond b jammed (done xs (c .1))))
         go true xs row = tt
         go false [] row = h
-        go false (x ∷ xs) row = stands (x ∷ xs) row (over (x ∷ xs)) (ltb room (length (p .trace ++ instantTrace now (x ∷ xs))))
+        go false (x ∷ xs) row = stands (x ∷ xs) row (ltb room (length (p .trace ++ instantTrace now (x ∷ xs))))
 
     module _ (now : ℕ) (y : Bag) (p : Progress (List Entry)) (ports : all portFits y ≡ true) (h : Sits (suc t) p) (o : p .opening ≤ now) (kept : Kept m now (p .state)) where
       -- the progress with the instant at `now`, or its number

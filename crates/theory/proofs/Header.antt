@@ -1,7 +1,7 @@
--- What the C header says of lengths and of a call made again: the longest model file and run, columns, an advance after 13, 14 or 15, and a feed
+-- What the C header says of lengths and of a call made again: the longest model file, run and record, columns, an advance after 13 or 15, and a feed
 -- after 15 (`FeedResumes`). What the first call left is read back by the second (`Fitting`), and the instants are those of `Resuming`. Assumes nothing.
 use mathlib.Core.Path.{_≡_, refl, sym, ap, ap₂, _∙_, subst}
-use mathlib.Core.Logic.{_⊎_, inl, inr}
+use mathlib.Core.Logic.{inl, inr}
 use Prim.Native.Nat.{ℕ, _+_, _≤_, _<_}
 use mathlib.Core.List.{List, _++_}
 use mathlib.Core.Bool.{Bool, true, false}
@@ -30,6 +30,8 @@ use Rattle.law_columns.proofs.ColumnPlaces.{four-longer}
 use Rattle.theory.proofs.Buffers.{stored-again, stored-front, stored-behind}
 use Rattle.law_calls.proofs.Fitting.{FitRun, fits-run, fit-written, advance-fit}
 use Rattle.law_model.proofs.Answers.{endOf, advance-done}
+use Rattle.theory.proofs.Joined.{advance-short}
+use Rattle.theory.proofs.Feeds.{feed-short}
 use Rattle.theory.proofs.RuleTables.{same-rules, Long, written, with-written, with-none, over-written, long-ends}
 use Rattle.theory.proofs.CallRows.{advance-refused}
 use Rattle.theory.proofs.Demand1.{advance-ends, advance-only}
@@ -139,17 +141,15 @@ module _ (file run : Bytes) (t : ℕ) (bag trace table : Bytes) (m : Model) (b :
     same-run : stored (runBytes left) (a .run) ≡ a .run
     same-run = ap (stored (runBytes left)) run-is ∙ stored-again (runBytes left) (runBytes left) run refl ∙ sym run-is
 
-    -- ---- after 13 and 14
+    -- ---- after 13
 
-    pub refused-again : (n : ℕ) → (n ≡ 13) ⊎ (n ≡ 14) → a .number ≡ n → 0 < n → (next lent : Bytes)
-        → advance file (a .run) t bag next lent ≡ refusedAdvance n (a .run) next lent
+    pub refused-again : a .number ≡ 13 → (next lent : Bytes) → advance file (a .run) t bag next lent ≡ refusedAdvance 13 (a .run) next lent
     unfolding advanced stored ended withRules
-    refused-again n u q l next lent =
-        let k : end .number ≡ n = sym number-is ∙ q in
-        second (omega (arith, k)) next lent (ended n (begins (left .opening) (left .entries)))
-        (subst (λ i. Ends (nested m) (length next) t (toBag bag) (begins (left .opening) (left .entries)) (ended i (begins (left .opening) (left .entries)))) k
-        (undone-again (nested m) t (toBag bag) (length trace) ends (subst (λ i. (i ≡ 13) ⊎ (i ≡ 14)) (sym k) u) (length next) (begins (left .opening) (left .entries)) refl))
-        ∙ ap (λ (s : Bytes). refusedAdvance n s next lent) same-run
+    refused-again q next lent =
+        let k : end .number ≡ 13 = sym number-is ∙ q in
+        second (omega (arith, k)) next lent (ended 13 (begins (left .opening) (left .entries)))
+        (undone-again (nested m) t (toBag bag) (length trace) ends k (length next) (begins (left .opening) (left .entries)) refl)
+        ∙ ap (λ (s : Bytes). refusedAdvance 13 s next lent) same-run
 
     -- ---- after 15
 
@@ -264,18 +264,15 @@ header = record {
       (subst (λ (z : Bytes). length z ≤ longestModel) (sym (sound-of file m b e .1)) (model-long m (s .sound)), model-long (flat m) (flat-sound m (s .sound) (s .few-routes)));
   run-length = λ file m b e. run-long m (accepted-sound file m b e .sound);
   table-length = λ file m b e. table-long m (accepted-sound file m b e .sound);
+  record-length = advance-short;
+  feed-record-length = feed-short;
   feed-length = feed-long;
   columns-length = λ trace columns r.
       ap length (r .its-columns) ∙ four-longer (r .records) ∙ ap (λ (s : Bytes). length s + 4) (sym (r .is-trace .recorded .whole));
   resumes = λ file run t bag trace table next m b e q. resumes file run t bag trace table m b e (may file run t bag trace table m b e (omega arith)) q next;
   needs-longer = λ file run t bag trace table next lent m b r e q i l.
       needs-longer file run t bag trace table m b e (may file run t bag trace table m b e (omega arith)) q i r next lent l;
-  refused-again = λ file run t bag trace table next lent n m b e u q.
-      let l : 12 < n = go n u in
-      refused-again file run t bag trace table m b e (may file run t bag trace table m b e (omega (arith, q))) n u q (omega arith) next lent;
+  refused-again = λ file run t bag trace table next lent m b e q.
+      refused-again file run t bag trace table m b e (may file run t bag trace table m b e (omega arith)) q next lent;
   feed-resumes = feed-resumes;
 }
-  where
-    go : (n : ℕ) → (n ≡ 13) ⊎ (n ≡ 14) → 12 < n
-    go n (inl e) = omega arith
-    go n (inr e) = omega arith

@@ -8,6 +8,7 @@ use native.Mathlib.Omega.{arith}
 use lib.ListN.{length}
 use Rattle.definition.specs.Lists.{concat}
 use Rattle.definition.specs.Bytes.{Bytes, AllBytes, Result, ok, refused, _>>=_, stored}
+use Rattle.definition.specs.Limits.{longestRecord}
 use Rattle.definition.specs.Model.{Model}
 use Rattle.definition.specs.Pinned.Decoder.{accepted}
 use Rattle.definition.specs.Sound.{Every}
@@ -15,17 +16,21 @@ use Rattle.definition.specs.SavedRun.{Run, openMoment, toRun, runOf}
 use Rattle.definition.specs.Instant.{TraceRecord, traceBytes}
 use Rattle.definition.specs.Engine.{Advanced, toBag, advanceChecks, advanced, advance}
 use Rattle.definition.specs.Calls.{AdvanceCall, answers, engine}
-use Rattle.definition.specs.Demands.{MayAdvance, tracedBy, refusedAdvance}
+use Rattle.definition.specs.Demands.{MayAdvance, tracedBy, refusedAdvance, RecordsWithin}
+use Rattle.definition.specs.Columns.{Recorded}
 use Rattle.definition.specs.TracesByColumn.{joinedTraces, OneTrace}
-use Rattle.law_model.proofs.WellFormed.{WellFormed}
+use Rattle.law_base.proofs.Everys.{every-if}
+use Rattle.law_model.proofs.WellFormed.{WellFormed, Accepted}
 use Rattle.law_model.proofs.Reading.{accepted-sound}
 use Rattle.law_model.proofs.Answers.{endOf}
 use Rattle.law_flat.proofs.Checks.{advance-ok}
+use Rattle.law_text.proofs.Records.{record-length}
+use Rattle.law_columns.proofs.WholeTraces.{one-reading}
 use Rattle.law_calls.proofs.Fitting.{fits-run, fit-written}
 use Rattle.theory.proofs.Buffers.{stored-front}
 use Rattle.theory.proofs.Demand1.{advance-ends}
 use Rattle.theory.proofs.Shown.{runAfter, after-fits}
-use Rattle.theory.proofs.Spans.{Span, span-recorded, trace-append, span-none, span-append, nest-adds}
+use Rattle.theory.proofs.Spans.{Small, Span, span-recorded, trace-append, span-none, span-append, nest-adds}
 
 -- ---- one advance
 
@@ -40,7 +45,10 @@ passed-refused : (run trace table : Bytes) (n : ℕ) → Passed run (refusedAdva
 unfolding traceBytes concat
 passed-refused run trace table n = record { new = []; bytes = refl; span = span-none (openMoment run) (openMoment run); onward = omega arith }
 
-module _ (run : Bytes) (t : ℕ) (bag trace table : Bytes) (m : Model) (w : WellFormed m) (may : MayAdvance m run t bag) where
+module _ (run : Bytes) (t : ℕ) (bag trace table : Bytes) (m : Model) (a : Accepted m) (may : MayAdvance m run t bag) where
+  abbrev w : WellFormed m
+  w = a .sound
+
   -- the open moment that is stored
   stored-opening : openMoment (advanced run trace table (ok (endOf m run t bag trace)) .run) ≡ endOf m run t bag trace .progress .opening
   unfolding advanced stored runOf toRun
@@ -50,12 +58,12 @@ module _ (run : Bytes) (t : ℕ) (bag trace table : Bytes) (m : Model) (w : Well
   unfolding advanced runOf toRun
   passed-done =
       let ends = advance-ends run t bag trace m w (may .run-fits) (may .not-early) in
-      let a = nest-adds m w (length trace) t (may .not-late) (toBag bag) ends (fits-run m run (may .run-fits) .0 .0) (may .not-early) in
+      let n = nest-adds m a (length trace) t (may .not-late) (toBag bag) ends (fits-run m run (may .run-fits) .0 .0) (may .not-early) in
       record {
-        new = a .new;
-        bytes = stored-front (endOf m run t bag trace .progress .trace) trace ∙ a .trace;
-        span = subst (λ n. Span (openMoment run) n (a .new)) (sym stored-opening) (a .span);
-        onward = omega (arith, stored-opening, a .onward);
+        new = n .new;
+        bytes = stored-front (endOf m run t bag trace .progress .trace) trace ∙ n .trace;
+        span = subst (λ o. Span (openMoment run) o (n .new)) (sym stored-opening) (n .span);
+        onward = omega (arith, stored-opening, n .onward);
       }
 
 -- Whatever it is given.
@@ -66,7 +74,7 @@ passes file run c b = model (accepted file) refl
     checks : (m : Model) → accepted file ≡ ok m → (r : Result (Unit {0})) → advanceChecks m run (c .moment) (c .bag) ≡ r
         → Passed run (advanced run (c .trace) (c .table) (advanceChecks m run (c .moment) (c .bag) >>= λ _. ok (endOf m run (c .moment) (c .bag) (c .trace))))
     checks m e (refused n) f = rw f (unfold advanced in passed-refused run (c .trace) (c .table) n)
-    checks m e (ok u) f = rw f (passed-done run (c .moment) (c .bag) (c .trace) (c .table) m (accepted-sound file m b e .sound) (advance-ok m run (c .moment) (c .bag) f))
+    checks m e (ok u) f = rw f (passed-done run (c .moment) (c .bag) (c .trace) (c .table) m (accepted-sound file m b e) (advance-ok m run (c .moment) (c .bag) f))
 
     model : (r : Result Model) → accepted file ≡ r → Passed run (advance file run (c .moment) (c .bag) (c .trace) (c .table))
     model (refused n) e = rw e (unfold advanced in passed-refused run (c .trace) (c .table) n)
@@ -97,15 +105,29 @@ joins run (c ∷ cs) b =
       onward = omega (arith, p .onward, q .onward);
     }
 
+-- The bytes are records in a row, in order, each of them small.
+abbrev pub Traces : Bytes → Type 0
+Traces s = (rs : List TraceRecord) × Recorded s rs × Every Small rs
+
+pub one-of : (s : Bytes) → Traces s → OneTrace s
+one-of s t = (t .0, t .1, λ few. record { recorded = t .1; few = few })
+
+-- whatever records the bytes are read as, since they are read in one way
+pub short-of : (s : Bytes) → Traces s → RecordsWithin longestRecord s
+short-of s t rs r = every-if Small _ (λ q h. omega (arith, record-length q)) rs (subst (Every Small) (one-reading s (t .0) rs (t .1) r) (t .2))
+
 -- Any advances, from any run buffer.
-pub joined-trace : (run : Bytes) (calls : List (Bytes × AdvanceCall)) → Every (λ c. AllBytes (c .0)) calls
-    → OneTrace (joinedTraces run (map (λ c. (engine (c .0), c .1)) calls))
-joined-trace run calls b =
+pub joined-traces : (run : Bytes) (calls : List (Bytes × AdvanceCall)) → Every (λ c. AllBytes (c .0)) calls
+    → Traces (joinedTraces run (map (λ c. (engine (c .0), c .1)) calls))
+joined-traces run calls b =
     let j = joins run calls b in
-    let r = span-recorded (openMoment run) (j .until) _ (j .new) (j .bytes) (j .span) in
-    (j .new, r, λ few. record { recorded = r; few = few })
+    (j .new, span-recorded (openMoment run) (j .until) _ (j .new) (j .bytes) (j .span), j .span .small)
 
 -- One advance is a list of one.
-pub advance-trace : (file run : Bytes) (c : AdvanceCall) → AllBytes file → OneTrace (tracedBy (answers (engine file) run c))
+pub advance-traces : (file run : Bytes) (c : AdvanceCall) → AllBytes file → Traces (tracedBy (answers (engine file) run c))
 unfolding joinedTraces
-advance-trace file run c b = subst OneTrace (append-nil (tracedBy (answers (engine file) run c))) (joined-trace run ((file, c) ∷ []) (b, tt))
+advance-traces file run c b = subst Traces (append-nil (tracedBy (answers (engine file) run c))) (joined-traces run ((file, c) ∷ []) (b, tt))
+
+pub advance-short : (file run : Bytes) (t : ℕ) (bag trace table : Bytes) → AllBytes file → RecordsWithin longestRecord (tracedBy (advance file run t bag trace table))
+unfolding engine
+advance-short file run t bag trace table b = short-of _ (advance-traces file run (record { moment = t; bag = bag; trace = trace; table = table }) b)

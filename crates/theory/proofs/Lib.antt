@@ -15,7 +15,6 @@ pub mod Demand1
 pub mod Lengths
 pub mod Resuming
 pub mod FeedResumes
-pub mod Header
 pub mod Shown
 pub mod Standing
 pub mod StandsOnce
@@ -34,6 +33,7 @@ pub mod AtomicBags
 pub mod RootBags
 pub mod FeedSums
 pub mod Feeds
+pub mod Header
 pub mod Demand2
 pub mod FlatTrace
 pub mod FlatLoops

@@ -1,31 +1,24 @@
 -- Request (vii): a route from an atomic carries at most 4 messages in a step, and an accepted model has at most 1,024 routes, so the root's output
 -- bag has at most 4,096, in the nest from any state and in the flat machine from any entries; and no call gives number 14. Assumes nothing.
-use mathlib.Core.Path.{_≡_, refl, sym, ap, _∙_}
+use mathlib.Core.Path.{_≡_, refl, sym, _∙_}
 use mathlib.Core.Logic.{_⊎_, inl, inr}
-use Prim.Native.Nat.{ℕ, suc, _+_, _*_, _≤_}
-use mathlib.Core.List.{List, [], _∷_}
-use mathlib.Core.Bool.{Bool, true, false, _&&_, _||_, not, cond}
+use Prim.Native.Nat.{ℕ, _*_, _≤_}
+use mathlib.Core.List.{List, []}
+use mathlib.Core.Bool.{Bool, true, false, _&&_, _||_, cond}
 use native.Mathlib.Omega.{arith}
-use lib.Dec.{leb, eqb}
+use lib.Dec.{eqb}
 use lib.ListN.{length}
-use borrow.Author.Tests.{eqb-true, eqb-false, le-leb}
-use Rattle.definition.specs.Lists.{all}
+use borrow.Author.Tests.{eqb-true, eqb-false}
 use Rattle.definition.specs.Bytes.{Bytes}
-use Rattle.definition.specs.Limits.{maxOutputs, maxRoutes, maxRootBag}
+use Rattle.definition.specs.Limits.{maxOutputs}
 use Rattle.definition.specs.Model.{Message, Bag, Coupling, Model, atomics}
 use Rattle.definition.specs.Routes.{routes}
 use Rattle.definition.specs.Pinned.Decoder.{couplingFields}
 use Rattle.definition.specs.SavedRun.{Entry}
-use Rattle.definition.specs.Step.{Output, step, nested}
-use Rattle.definition.specs.Instant.{over}
-use Rattle.definition.specs.Advance.{Progress, Ended, ended, succeeded}
-use Rattle.definition.specs.AdvanceRelation.{Steps, Whole, Ends, jams, oversize, overruns, goes-on, succeeds, idle, EndsInTurn, all-succeed, stops, then}
-use Rattle.definition.specs.Feed.{FeedBag}
 use Rattle.definition.specs.FlatMachine.{Sent, sent, putOut, allSent, arriving, flatStep}
 use Rattle.definition.specs.AtomicBags.{endingAt}
 use Rattle.definition.specs.Demands.{WriterRefusal, writer-refuses-model, writer-refuses-buffer, RearrangingRefusal, nothing-to-make, rearranging-refuses-buffer, ReadingRefusal, reading-refuses-model, reading-refuses-run, reading-refuses-position, AdvanceRefusal, advance-refuses-model, advance-refuses-run, advance-refuses-time, advance-refuses-bag, AdvanceNumber, by-row, by-instants, FeedRefusal, feed-refuses-model, feed-refuses-run, feed-refuses-feed, feed-refuses-time, FeedNumber, feed-by-row, feed-by-calls}
 use Rattle.definition.specs.RootBags.{FlatPutsOut, Given, by-check, by-start, by-advance, by-feed, by-reading, by-flatten, by-columns, by-trace, RootBags}
-use Rattle.law_base.proofs.Tests.{clash, and-true}
 use Rattle.law_base.proofs.Sums.{sumOf, sum-append, sum-map, sum-zero, sum-cong, sum-ones}
 use Rattle.law_base.proofs.Lists.{sum-cong-if, count-most}
 use Rattle.law_model.proofs.WellFormed.{WellFormed, couplings-fit}
@@ -34,9 +27,10 @@ use Rattle.law_nest.proofs.Components.{rooted}
 use Rattle.law_nest.proofs.Carried.{weight}
 use Rattle.law_nest.proofs.Arrivals.{arriving-sum}
 use Rattle.law_nest.proofs.Capacity.{ending-most}
-use Rattle.law_nest.proofs.RootBag.{put-out-few, put-out-most, step-most}
+use Rattle.law_nest.proofs.RootBag.{put-out-few, put-out-most}
 use Rattle.law_nest.proofs.FlatBags.{flat-bag}
 use Rattle.law_flat.proofs.Couplings.{not-self}
+use Rattle.theory.proofs.FeedEnds.{ending-number, turns-number}
 use Rattle.theory.proofs.Demand1.{demand1}
 
 -- ---- the flat machine
@@ -80,36 +74,8 @@ flat-puts-out : (m : Model) → WellFormed m → FlatPutsOut m (maxOutputs * end
 unfolding flatStep
 flat-puts-out m w now x k = flat-few m w now x (k .entries)
 
--- ---- number 14
+-- ---- the numbers of calls
 
-module _ (m : Model) (w : WellFormed m) (few : length (routes m) ≤ maxRoutes) where
-  bags-low : (now : ℕ) (x : Bag) (rs qs : List Entry) (xs : List Output) → Steps (nested m) now x rs xs qs → all (λ y. leb (length (y .bag)) maxRootBag) xs ≡ true
-  unfolding all
-  bags-low now x rs qs [] h = refl
-  bags-low now x rs qs (y ∷ ys) h =
-      let low : length (y .bag) ≤ maxRootBag = omega (arith, ap (λ (o : Output). length (o .bag)) (h .1), step-most m w few now x rs) in
-      and-true _ _ (le-leb (length (y .bag)) maxRootBag low) (bags-low now [] (step m now x rs .state) qs ys (h .2))
-
-  not-over : (now : ℕ) (x : Bag) (rs qs : List Entry) (xs : List Output) → Whole (nested m) now x rs xs qs → over xs ≡ true → ⊥
-  unfolding over
-  not-over now x rs qs xs h e = clash e (ap not (bags-low now x rs qs xs (h .steps)))
-
-  ends-without : (room t : ℕ) (x : Bag) {p : Progress (List Entry)} {e : Ended (List Entry)} → Ends (nested m) room t x p e → e .number ≡ 14 → ⊥
-  unfolding succeeded ended
-  ends-without room t x (jams p now y next v) h = omega arith
-  ends-without room t x (oversize p now y xs s′ next v r) h = not-over now y (p .state) s′ xs v r
-  ends-without room t x (overruns p now y z zs s′ next v r l) h = omega arith
-  ends-without room t x (goes-on p u xs s′ e n l v r rest) h = ends-without room t x rest h
-  ends-without room t x (succeeds p y ys s′ n v r) h = omega arith
-  ends-without room t x (idle p n g) h = omega arith
-
-  turns-without : (room : ℕ) {cs : List FeedBag} {p : Progress (List Entry)} {n : ℕ} {e : Ended (List Entry)} → EndsInTurn (nested m) room cs p n e → e .number ≡ 14 → ⊥
-  unfolding ended
-  turns-without room (all-succeed p) h = omega arith
-  turns-without room (stops c cs p e d l) h = ends-without room _ _ d h
-  turns-without room (then c cs p e n d g z rest) h = turns-without room rest h
-
--- the rows of each call
 not-model : (n : ℕ) → (n ≤ 9) ⊎ (n ≡ 20) → n ≡ 14 → ⊥
 not-model n (inl l) e = omega arith
 not-model n (inr f) e = omega arith
@@ -139,6 +105,11 @@ not-feed (feed-refuses-run m a f) e = omega arith
 not-feed (feed-refuses-feed m a f g) e = omega arith
 not-feed (feed-refuses-time m bs a f g l) e = omega arith
 
+ended-otherwise : (n : ℕ) → (n ≡ 0) ⊎ ((n ≡ 13) ⊎ (n ≡ 15)) → n ≡ 14 → ⊥
+ended-otherwise n (inl f) e = omega arith
+ended-otherwise n (inr (inl f)) e = omega arith
+ended-otherwise n (inr (inr f)) e = omega arith
+
 never : (n : ℕ) → Given n → n ≡ 14 → ⊥
 never n (by-check file b) e = not-model n (demand1 .model-numbers file n (demand1 .model-judged file b)) e
 never n (by-start file buffer b) e = not-writer (demand1 .start-number file buffer b (omega arith)) e
@@ -146,12 +117,12 @@ never n (by-advance file run t bag trace table b) e = go (demand1 .advance-numbe
   where
     go : {n : ℕ} → AdvanceNumber file run t bag trace n → n ≡ 14 → ⊥
     go (by-row n r) f = not-advance r f
-    go (by-instants m d a h g) f = let s = accepted-sound file m b a in ends-without m (s .sound) (s .few-routes) _ _ _ g f
+    go (by-instants m d a h g) f = ended-otherwise (d .number) (ending-number g) f
 never n (by-feed file run end feed trace b c) e = go (demand1 .feed-number file run end feed trace b c) e
   where
     go : {n : ℕ} → FeedNumber file run end feed trace n → n ≡ 14 → ⊥
     go (feed-by-row n r) f = not-feed r f
-    go (feed-by-calls m bs k d a h g) f = let s = accepted-sound file m b a in turns-without m (s .sound) (s .few-routes) _ g f
+    go (feed-by-calls m bs k d a h g) f = ended-otherwise (d .number) (turns-number g) f
 never n (by-reading file run position b) e = not-reading (demand1 .reading-number file run position b (omega arith)) e
 never n (by-flatten file buffer b) e = not-writer (demand1 .flatten-number file buffer b (omega arith)) e
 never n (by-columns trace buffer b) e = not-rearranging (λ f. omega arith) (demand1 .columns-number trace buffer b (omega arith)) e

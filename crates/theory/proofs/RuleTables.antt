@@ -16,7 +16,7 @@ use Rattle.definition.specs.Atomic.{toldAs}
 use Rattle.definition.specs.Step.{Output, Simulator}
 use Rattle.definition.specs.Instant.{Instant, done, jammed, stepped, goesOn, stepsAt, instant, instantParts, instantRules}
 use Rattle.definition.specs.Advance.{Progress, Ended, ended, succeeded}
-use Rattle.definition.specs.AdvanceRelation.{Ends, jams, oversize, overruns, goes-on, succeeds, idle}
+use Rattle.definition.specs.AdvanceRelation.{Ends, jams, overruns, goes-on, succeeds, idle}
 use Rattle.definition.specs.Engine.{tableBytes, withRules}
 use Rattle.law_base.proofs.Overlaid.{parts-length}
 use Rattle.law_model.proofs.RuleBytes.{table-size}
@@ -110,8 +110,7 @@ module _ {S : Type 0} (k : Simulator S) (n : ℕ) (each : (now : ℕ) (x : Bag) 
   pub long-ends : (room t : ℕ) (x : Bag) {p : Progress S} {e : Ended S} → Ends k room t x p e → Long n p → Long n (e .progress)
   unfolding ended succeeded
   long-ends room t x (jams p now y next v) h = h
-  long-ends room t x (oversize p now y xs s′ next w v) h = h
-  long-ends room t x (overruns p now y z zs s′ next w v l) h = h
+  long-ends room t x (overruns p now y z zs s′ next w l) h = h
   long-ends room t x (goes-on p u [] s′ e f g w v rest) h = absurd (some-step k u (p .state) s′ f w)
   long-ends room t x (goes-on p u (y ∷ ys) s′ e f g w v rest) h = long-ends room t x rest (inr (long-instant u [] (p .state) y ys s′ (whole-instant k u [] (p .state) s′ (y ∷ ys) w)))
   long-ends room t x (succeeds p y ys s′ f w v) h = inr (long-instant t x (p .state) y ys s′ (whole-instant k t x (p .state) s′ (y ∷ ys) w))

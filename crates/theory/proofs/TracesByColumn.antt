@@ -16,7 +16,7 @@ use Rattle.definition.specs.TracesByColumn.{TracesByColumn}
 use Rattle.law_columns.proofs.WholeTraces.{one-reading}
 use Rattle.theory.proofs.Spans.{Within, span-recorded}
 use Rattle.theory.proofs.ColumnRows.{columns-done, columns-made, trace-done, trace-made}
-use Rattle.theory.proofs.Joined.{passes, joined-trace, advance-trace}
+use Rattle.theory.proofs.Joined.{passes, one-of, joined-traces, advance-traces}
 
 -- ---- there and back, back and there
 
@@ -45,7 +45,7 @@ traces-by-column = record {
   back = trace-made;
   inverse = inverse;
   only = only;
-  advance-trace = advance-trace;
+  advance-trace = λ file run c b. one-of _ (advance-traces file run c b);
   advance-span = advance-span;
-  joined-trace = joined-trace;
+  joined-trace = λ run calls b. one-of _ (joined-traces run calls b);
 }

@@ -34,8 +34,8 @@ const REFUSED: [&str; 13] = [
     "rules: table stays, refused by 20",
 ];
 
-/// The same without a refusal of the call, and tables that were written though an instant was left undone.
-/// 14 is not among them: no accepted model meets it.
+/// The same without a refusal of the call, and tables that were written though an instant was left undone,
+/// by 13 or by 15: 14 is retired.
 const INSTANTS: [&str; 5] = [
     "rules: table stays, success without an instant",
     "rules: table stays, 13 without an instant",

@@ -5,6 +5,7 @@ mod counts;
 mod feeds;
 mod lit_rules;
 mod ranges;
+mod root_bags;
 mod stays;
 
 use crate::cases;
@@ -47,6 +48,8 @@ enum Fault {
     AboutFeeds(feeds::Wrong),
     AboutLitRules(lit_rules::Wrong),
     AboutRanges(ranges::Wrong),
+    AboutRootBags(root_bags::Wrong),
+    AboutRootBagsOfFeeds(root_bags::Wrong),
 }
 
 const FAULTS: [Fault; 19] = [
@@ -159,6 +162,9 @@ impl Engine for Faulty {
                 wrong.advance(model, run, t, &given, trace, rules)
             }
             (None, Fault::AboutRanges(wrong)) => wrong.advance(model, run, t, &given, trace, rules),
+            (None, Fault::AboutRootBags(wrong)) => {
+                wrong.advance(model, run, t, &given, trace, rules)
+            }
             (None, _) => reference::advance(model, run, t, &given, trace, rules),
         };
         let used = answer.trace_bytes as usize;
@@ -190,6 +196,7 @@ impl Engine for Faulty {
     ) -> Fed {
         match self.0 {
             Fault::AboutFeeds(wrong) => wrong.advance_feed(model, run, end, feed, trace),
+            Fault::AboutRootBagsOfFeeds(wrong) => wrong.advance_feed(model, run, end, feed, trace),
             _ => reference::advance_feed(model, run, end, feed, trace),
         }
     }
@@ -282,7 +289,8 @@ fn rows_alone_find_what_is_wrong_about_stays() {
 #[test]
 fn the_reference_itself_has_none() {
     let in_counts = Fault::AboutCounts(counts::Wrong::Nothing);
-    for none in [Fault::None, Fault::NoneInTheFlatMachine, in_counts] {
+    let in_root_bags = Fault::AboutRootBags(root_bags::Wrong::Nothing);
+    for none in [Fault::None, Fault::NoneInTheFlatMachine, in_counts, in_root_bags] {
         assert_eq!(find(none, 0..150), None);
         assert_eq!(find_on_random_models(none, 150), None);
     }

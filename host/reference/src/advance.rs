@@ -1,13 +1,13 @@
 //! Advance and reading on the nest, on whole buffers.
 
-use crate::answers::{Advanced, Reading, BAD_POSITION, BUFFER_TOO_SHORT, SUCCESS};
+use crate::answers::{Advanced, Reading, BAD_POSITION, BUFFER_TOO_SHORT, STILL_DUE, SUCCESS};
 use crate::checks;
 use crate::limits;
 use crate::lit_rules::{LastInstant, LitRules};
 use crate::nest::{self, DeadWays};
 use crate::observed::Observed;
 use crate::records::Message;
-use crate::root_coordinator::RootCoordinator;
+use crate::root_coordinator::{Instant, RootCoordinator};
 
 /// The buffers that an advance writes beside the run: the trace, and the table of rules that decided.
 pub struct Lent<'l> {
@@ -54,6 +54,17 @@ struct Ran {
     lit: Option<LitRules>,
 }
 
+/// The row "each instant", over the whole instant: first 13, then 15 where the trace has only so much room.
+fn judge(instant: &Instant, room: usize) -> u64 {
+    if instant.still_due {
+        STILL_DUE
+    } else if instant.records.len() > room {
+        BUFFER_TOO_SHORT
+    } else {
+        SUCCESS
+    }
+}
+
 /// Does the instants due before t, then t with the bag.
 fn run_to(
     coordinator: &mut RootCoordinator,
@@ -73,10 +84,7 @@ fn run_to(
             let instant = coordinator.instant(now, bag, observed);
             let room = &mut trace[ran.answer.trace_bytes as usize..];
             let length = instant.records.len();
-            ran.answer.number = match instant.number {
-                SUCCESS if length > room.len() => BUFFER_TOO_SHORT,
-                number => number,
-            };
+            ran.answer.number = judge(&instant, room.len());
             if ran.answer.number != SUCCESS {
                 if let Some(last) = &ran.lit {
                     observed.last_instant.left_undone(last, &instant.lit);

@@ -14,7 +14,7 @@ pub const RUN_DOES_NOT_FIT: u64 = 10;
 pub const BAD_TIME: u64 = 11;
 pub const BAD_BAG: u64 = 12;
 pub const STILL_DUE: u64 = 13;
-pub const ROOT_BAG_LIMIT: u64 = 14;
+// 14 is retired: no call answers it, and it is not to be given again.
 pub const BUFFER_TOO_SHORT: u64 = 15;
 pub const BAD_POSITION: u64 = 16;
 pub const NOT_A_TRACE: u64 = 17;

@@ -2,7 +2,7 @@
 
 use crate::builder::{phase, rule, Builder, NEVER};
 use crate::limits::UNBOUNDED;
-use crate::records::Rule;
+use crate::records::{Phase, Rule};
 
 /// "The two-phase cue source": component 2 with the given order, and the first coupling so many times.
 pub fn cue_source(order_of_second: u8, first_coupling: usize) -> Builder {
@@ -113,12 +113,33 @@ pub fn dead_ways_up_and_down(levels: usize, times: usize) -> Builder {
 /// An atomic two levels deep, each of the two links to the root repeated: inner × outer routes.
 /// It puts out four messages at moment 3, so the root bag has four for each route.
 pub fn repeated_way_out(inner: usize, outer: usize) -> Builder {
+    let outputs = [(0, 9), (0, 256), (0, 256), (0, 300)];
+    way_out(&[phase(3, 1, &outputs), phase(NEVER, 0, &[])], inner, outer)
+}
+
+/// The same with these phases.
+pub fn way_out(phases: &[Phase], inner: usize, outer: usize) -> Builder {
     let mut model = Builder::new();
     let around = model.coupled(0);
-    let outputs = [(0, 9), (0, 256), (0, 256), (0, 300)];
-    let atomic = model.atomic(around, &[phase(3, 1, &outputs), phase(NEVER, 0, &[])]);
+    let atomic = model.atomic(around, phases);
     model.couple_times(inner, atomic, 0, around, 0);
     model.couple_times(outer, around, 0, 0, 1);
+    model
+}
+
+/// The same with 1,024 routes and instants at 3, 6, 9 and so on, each of so many steps, 64 at most. Every step
+/// puts four messages out, so that every root bag has 4,096. 100 rows more lead no further than the component
+/// around the atomic, and so does what is given at the root's input 0.
+pub fn full_root_bags(steps: u8) -> Builder {
+    let phase_of = |step: u8| {
+        let value = u16::from(step);
+        let outputs = [(0, value), (0, 256), (0, 256), (0, 300 + value)];
+        phase(if step == 0 { 3 } else { 0 }, (step + 1) % steps, &outputs)
+    };
+    let phases: Vec<Phase> = (0..steps).map(phase_of).collect();
+    let mut model = way_out(&phases, 32, 32);
+    model.couple_times(100, 2, 0, 1, 3);
+    model.couple(0, 0, 1, 0);
     model
 }
 
@@ -263,6 +284,33 @@ pub fn cue_in_ranges(ancestors: usize, order: u8, advance: u32, ranges: &[(u32, 
         }
     }
     (1..=atomic).for_each(|inside| model.couple(inside - 1, 0, inside, 0));
+    model
+}
+
+/// Rows from the root, or to it, and rows inside of the component that they lead to, or come from.
+pub type Rows = (usize, usize);
+
+/// An atomic two levels deep that puts out four messages at moment 3, and four others at once where it finds 16
+/// cues of each route in a bag, whichever its order: at 3 as well as later.
+pub fn echo(order: u8, rows_in: Rows, rows_out: Rows) -> Builder {
+    let mut model = Builder::new();
+    let around = model.coupled(0);
+    let phases = [
+        phase(3, 1, &[(0, 1), (0, 2), (0, 256), (0, 256)]),
+        phase(NEVER, 1, &[]),
+        phase(0, 1, &[(0, 3), (0, 255), (0, 255), (0, 512)]),
+        phase(NEVER, 2, &[]),
+    ];
+    let atomic = model.atomic_from(around, 0, order, &phases);
+    let least_count = 16 * (rows_in.0 * rows_in.1) as u16;
+    // Order 1 searches in phase 0, and goes on from where the rule leads.
+    for (from, to) in [(0, 3), (1, 2)] {
+        model.rule(Rule { least_count, ..rule(atomic, from, CUE, to) });
+    }
+    model.couple_times(rows_in.0, 0, 0, around, 0);
+    model.couple_times(rows_in.1, around, 0, atomic, 0);
+    model.couple_times(rows_out.1, atomic, 0, around, 0);
+    model.couple_times(rows_out.0, around, 0, 0, 1);
     model
 }
 

@@ -3,8 +3,7 @@
 //! atomic say of a phase, the byte forms, and the table's checks of a call.
 
 use crate::answers::{
-    Advanced, Fed, Reading, Written, BAD_POSITION, BUFFER_TOO_SHORT, ROOT_BAG_LIMIT, STILL_DUE,
-    SUCCESS,
+    Advanced, Fed, Reading, Written, BAD_POSITION, BUFFER_TOO_SHORT, STILL_DUE, SUCCESS,
 };
 use crate::atomic::Atomic;
 use crate::checks;
@@ -224,7 +223,7 @@ impl<'m> Machine<'m> {
         }
     }
 
-    /// Takes the steps of the instant at a moment, or answers its number of the row "each instant".
+    /// Takes the steps of the instant at a moment, or answers 13; 15 is left to the caller, who has the trace.
     fn steps_at(
         &self,
         change: &mut Change,
@@ -240,9 +239,6 @@ impl<'m> Machine<'m> {
                 return Err(STILL_DUE);
             }
             root_bags.push(self.step(change, copy, moment, &[]));
-        }
-        if root_bags.iter().any(|bag| bag.len() > limits::ROOT_BAG) {
-            return Err(ROOT_BAG_LIMIT);
         }
         let steps = root_bags.len() as u64;
         for (step, bag) in (0..).zip(root_bags).filter(|(_, bag)| !bag.is_empty()) {

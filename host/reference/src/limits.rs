@@ -20,7 +20,9 @@ pub const HIGHEST_OPEN_MOMENT: u64 = HIGHEST_TIME + 1;
 pub const GIVEN_MESSAGES: usize = 16;
 pub const FEED_BAGS: usize = 1_000;
 pub const STEPS_OF_AN_INSTANT: u64 = 1_024;
-pub const ROOT_BAG: usize = 4_096;
+/// The most messages that reach the root in a step: all routes end there, and each carries all that an atomic
+/// puts out. It follows from the limits of a model, and no call tests it.
+pub const ROOT_BAG: usize = ROUTES as usize * OUTPUTS_OF_A_PHASE as usize;
 /// The most messages that reach an atomic in a step: all routes end there, and each carries all that is given.
 pub const ATOMIC_BAG: usize = ROUTES as usize * GIVEN_MESSAGES;
 /// The most records of a trace that is stored by column.

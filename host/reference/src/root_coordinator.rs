@@ -1,7 +1,6 @@
-//! The root coordinator: it keeps the root's state and the moment of its last event, takes
-//! steps, and judges an instant as a whole.
+//! The root coordinator: it keeps the root's state and the moment of its last event, and takes the
+//! steps of an instant.
 
-use crate::answers::{ROOT_BAG_LIMIT, STILL_DUE, SUCCESS};
 use crate::limits;
 use crate::lit_rules::{LitRules, Told};
 use crate::nest;
@@ -18,25 +17,14 @@ pub struct RootCoordinator<'n, 'm> {
     last: u64,
 }
 
-/// An instant as it was taken, and the number by which it is left undone, or 0: where it leads, its steps
-/// and records, and the rules that it lit.
+/// An instant as it was taken: whether something is still due there, where it leads, its steps and records,
+/// and the rules that it lit.
 pub struct Instant<'n, 'm> {
-    pub number: u64,
+    pub still_due: bool,
     pub after: RootCoordinator<'n, 'm>,
     pub steps: u64,
     pub records: Vec<u8>,
     pub lit: LitRules,
-}
-
-/// The row "each instant" down to 14, over the whole instant: first 13, then 14.
-pub fn judge(still_due: bool, largest_root_bag: usize) -> u64 {
-    if still_due {
-        STILL_DUE
-    } else if largest_root_bag > limits::ROOT_BAG {
-        ROOT_BAG_LIMIT
-    } else {
-        SUCCESS
-    }
 }
 
 impl<'n, 'm> RootCoordinator<'n, 'm> {
@@ -88,8 +76,7 @@ impl<'n, 'm> RootCoordinator<'n, 'm> {
             let (output, told) = copy.step(now, bag, observed);
             lit.add(told);
             largest_root_bag = largest_root_bag.max(output.len());
-            // A larger bag needs no record: the instant will be left undone.
-            if !output.is_empty() && output.len() <= limits::ROOT_BAG {
+            if !output.is_empty() {
                 trace::write_record(&mut records, now, steps, output);
             }
             steps += 1;
@@ -97,7 +84,6 @@ impl<'n, 'm> RootCoordinator<'n, 'm> {
         }
         let still_due = copy.due() == Some(now);
         observed.instant(steps, still_due, !given.is_empty(), largest_root_bag);
-        let number = judge(still_due, largest_root_bag);
-        Instant { number, after: copy, steps, records, lit }
+        Instant { still_due, after: copy, steps, records, lit }
     }
 }

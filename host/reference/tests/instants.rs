@@ -5,9 +5,9 @@ mod common;
 use common::{run, run_with, standing, started, JUNK};
 use reference::builder::{bag, phase, rule, Builder, NEVER};
 use reference::examples::{
-    atomic_behind_rows, cue_source, repeated_way_out, zero_stay_counter, Counting,
+    atomic_behind_rows, cue_source, full_root_bags, repeated_way_out, way_out, zero_stay_counter,
+    Counting,
 };
-use reference::root_coordinator::judge;
 
 #[test]
 fn exactly_1024_steps_and_one_more() {
@@ -43,9 +43,6 @@ fn an_endless_instant_goes_before_a_full_trace() {
     let outcome = run_with(&model, 9, &[], 20);
     assert_eq!(outcome.answer, (13, 0, 0, 0));
     assert_eq!((outcome.open, outcome.atomics), (0, vec![(0, 0)]));
-    assert_eq!(judge(true, 9_999), 13);
-    assert_eq!(judge(false, 4_097), 14);
-    assert_eq!(judge(false, 4_096), 0);
 }
 
 #[test]
@@ -128,6 +125,35 @@ fn the_root_bag_is_sorted_and_may_have_4096() {
     let count = |value| values.iter().filter(|&&message| message == (1, value)).count();
     assert_eq!([9, 256, 300].map(count), [1_024, 2_048, 1_024]);
     assert_eq!(run_with(&repeated_way_out(32, 32), 3, &[], 12_299).answer.0, 15);
+}
+
+#[test]
+fn every_step_and_every_instant_may_put_4096_out() {
+    let given = bag(&[(0, 7); 16]);
+    for (steps, instants) in [(64, 1), (1, 6), (3, 2)] {
+        let model = full_root_bags(steps as u8);
+        let answer =
+            |number, instants| (number, instants, instants * steps, 12_300 * instants * steps);
+        let (t, length) = (3 * instants, 12_300 * (instants * steps) as usize);
+        let outcome = run_with(&model, t, &given, length);
+        assert_eq!(outcome.answer, answer(0, instants));
+        assert_eq!(outcome.records.len() as u64, instants * steps);
+        assert!(outcome.records.iter().all(|(.., messages)| messages.len() == 4_096));
+        let outcome = run_with(&model, t, &given, length - 1);
+        assert_eq!(outcome.answer, answer(15, instants - 1));
+    }
+}
+
+#[test]
+fn an_endless_instant_may_put_4096_out() {
+    let full = [(0, 1), (0, 2), (0, 3), (0, 4)];
+    let model = way_out(&[phase(3, 1, &full), phase(0, 2, &full), phase(0, 2, &[])], 32, 32);
+    for length in [0, 12_300, 24_599, 24_600, 30_000] {
+        let outcome = run_with(&model, 5, &[], length);
+        assert_eq!(outcome.answer, (13, 0, 0, 0));
+        assert_eq!((outcome.open, outcome.atomics), (0, vec![(0, 0)]));
+        assert_eq!(outcome.observed.largest_root_bag, 4_096);
+    }
 }
 
 #[test]

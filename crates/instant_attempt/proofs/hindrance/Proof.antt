@@ -11,19 +11,15 @@ returns c = search needs
 
 returns-2 : tie.Need-returns-2
 unfolding hindranceOf
-returns-2 c = search needs
+returns-2 c =
+    let start : tie.Start = search in let stands : tie.After-enum-told2 = search in
+    rw (stands .enum-told2 .given .1, lt-ltb (start .args .room) (start .args .ran .used) (c .if1 .taken))
 
 returns-3 : tie.Need-returns-3
 unfolding hindranceOf
 returns-3 c =
-    let start : tie.Start = search in let stands : tie.After-enum-told3 = search in
-    rw (stands .enum-told3 .given .1, lt-ltb (start .args .room) (start .args .ran .used) (c .if1 .taken))
-
-returns-4 : tie.Need-returns-4
-unfolding hindranceOf
-returns-4 c =
-    let start : tie.Start = search in let stands : tie.After-enum-told3 = search in
-    rw (stands .enum-told3 .given .1, le-ltb (start .args .room) (start .args .ran .used) (c .if1 .left))
+    let start : tie.Start = search in let stands : tie.After-enum-told2 = search in
+    rw (stands .enum-told2 .given .1, le-ltb (start .args .room) (start .args .ran .used) (c .if1 .left))
 
 pub hindrance-spec : {M : Type 1} → statement M
-hindrance-spec = tie.close (tie.spec (search needs) (search needs) (search needs) returns returns-2 returns-3 returns-4)
+hindrance-spec = tie.close (tie.spec (search needs) (search needs) returns returns-2 returns-3)

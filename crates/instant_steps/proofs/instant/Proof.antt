@@ -1,6 +1,6 @@
 -- The bags of the steps taken, in front of what is left of the instant, are the whole instant (`Sofar`); a step more keeps that
--- (`sofar-more`), and each of the three ways out is a verdict (`judged-jams`, `judged-over`, `judged-stands`). The due moments go along
--- with the state (`Ready`).
+-- (`sofar-more`), and each of the two ways out is a verdict (`judged-jams`, `judged-stands`). The due moments go along with the state
+-- (`Ready`).
 use borrow.Author.Needs.{needs}
 use native.Mathlib.Omega.{arith}
 use denote.Ref.{now}
@@ -16,7 +16,7 @@ use Rattle.definition.specs.Model.{Bag}
 use Rattle.definition.specs.Engine.{toBag}
 use Rattle.definition.specs.Step.{Output, Simulator}
 use Rattle.definition.specs.Instant.{Instant, goesOn, stepsAt}
-use Rattle.definition.specs.Limits.{maxSteps, maxComponents}
+use Rattle.definition.specs.Limits.{maxSteps, maxRootBag, maxComponents}
 use Rattle.run_state.specs.declared.State.{State}
 use Rattle.run_state.specs.Held.{heldIn, lastRulesIn}
 use Rattle.model_records.specs.Values.{phasesIn, rulesIn}
@@ -31,17 +31,17 @@ use Rattle.instant_steps.specs.Verdicts.{Judged, RulesOver, Overlays, Ru
 use Rattle.instant_steps.specs.declared.Verdict.{Verdict}
 use Rattle.instant_steps.specs.declared.Verdict.the-variants as VV
 use Rattle.instant_steps.proofs.Sofar.{Sofar, Stepping, sofar-none, sofar-more, keys-hold, goes-as}
-use Rattle.instant_steps.proofs.Sofar.{rest-all, rest-stops, rest-jams, rest-more, judged-jams, judged-over, judged-stands, overlays-jams, overlays-done}
+use Rattle.instant_steps.proofs.Sofar.{rest-all, rest-stops, rest-jams, rest-more, judged-jams, judged-stands, overlays-jams, overlays-done}
 use Rattle.instant_steps.proofs.Rules.{rules-none, rules-more, begun-left, begun-ready, begun-length}
 use Rattle.instant_steps.proofs.instant.Statement.{statement}
 use Rattle.instant_steps.proofs.instant.Tie as tie
 
 abbrev Inv-loop : tie.InvT-loop
-Inv-loop phases rules tables at given state₀ work₀ out₀ from used₀ over₀ k₀ state work out used over k =
-    Stepping phases rules tables (at .0) given state₀ work₀ out₀ from state work out used over k
+Inv-loop phases rules tables at given state₀ work₀ out₀ from used₀ k₀ state work out used k =
+    Stepping phases rules tables (at .0) given state₀ work₀ out₀ from state work out used k
 
 abbrev μ-loop : tie.MeasureT-loop
-μ-loop phases rules tables at given state₀ work₀ out₀ from used₀ over₀ k₀ state work out used over k = maxSteps - k
+μ-loop phases rules tables at given state₀ work₀ out₀ from used₀ k₀ state work out used k = maxSteps - k
 
 loop-holds : tie.Need-loop-holds Inv-loop μ-loop
 loop-holds c =
@@ -59,7 +59,7 @@ loop-holds c =
       size = refl;
       bound = omega arith;
       ready = begun-ready (now (a .phases)) (now (a .tables)) (a .at .0) (now (a .given)) w₀ w b (start .pre .steppable .ready);
-      sofar = subst (λ (i : Instant State). Sofar (RulesOver n w w) whole i (a .at .0) (a .from) (now (a .out)) (now (a .out)) 0 (a .from) false)
+      sofar = subst (λ (i : Instant State). Sofar (RulesOver n w w) whole i (a .at .0) (a .from) (now (a .out)) (now (a .out)) 0 (a .from))
           (rest-all k (a .at .0) (toBag (now (a .given))) (heldIn w)) (sofar-none (RulesOver n w w) (rules-none n w) whole (a .at .0) (a .from) (now (a .out)));
       rules-size = begun-length (a .at .0) (now (a .given)) w₀ w b ∙ rules-size w₀ (after-whole .whole .ensures);
     }
@@ -136,10 +136,10 @@ returns c =
     let a = start-of p .args in
     let g : goesOn (sim p) (a .at .0) (given p) (state p) ≡ true = tested goes ∙ jams .before .if1 .taken in
     let stuck = rest-jams (sim p) (a .at .0) (given p) (state p) (p .loop .k) g (jams .if2 .taken) in
-    rw (c .undone .ensures) (said p (p .loop .state) (judged p VV.Jammed 0 (a .from)) (
+    said p (p .loop .state) (judged p VV.Jammed 0 (a .from)) (
       judged-jams (now (a .phases)) (now (a .tables)) (p .loop .inv .sofar) (p .loop .state) stuck,
       overlays-jams (now (a .phases)) (now (a .tables)) (p .loop .inv .sofar) (p .loop .state) (atomicsIn (now (a .tables))) (first p) stuck,
-    ))
+    )
 
 take-step-requires : tie.Need-take-step-requires Inv-loop μ-loop
 take-step-requires c κs =
@@ -179,7 +179,7 @@ held-keys c =
     let x = sim p .step (start-of p .args .at .0) (given p) (state p) .out .bag in
     keys-hold (c .take-step .result) (words-of c) x (gives c .size) (gives c .bag)
 
-most : (c : tie.After-take-step Inv-loop μ-loop) → c .take-step .result ≤ 4096
+most : (c : tie.After-take-step Inv-loop μ-loop) → c .take-step .result ≤ maxRootBag
 most c =
     let p = turn-of c in
     let start = start-of p in
@@ -193,7 +193,7 @@ put-step-requires c κs =
     let s : tie.After-take-step Inv-loop μ-loop = search in
     let l = turn-of s .loop in
     let start = start-of (turn-of s) in
-    (λ h. held-keys s, omega (arith, l .inv .few, l .inv .bound, most s, start .pre .within, start .good .1 .1 .1 .1 .1 .1 .1 .0 .1))
+    (held-keys s, omega (arith, l .inv .few, l .inv .bound, most s, start .pre .within, start .good .1 .1 .1 .1 .1 .1 .1 .0 .1))
 
 loop-less : tie.Need-loop-less Inv-loop μ-loop
 loop-less c =
@@ -226,7 +226,7 @@ loop-again c =
     = λ xs. rules-more n (first p) (l .state) (changed step) xs y room held decided (e .rules) in
     let whole = instantOf (now (a .phases)) (now (a .rules)) (now (a .tables)) (length (now (a .work))) (a .at .0) (now (a .given)) (first p) in
     let rest = stepsAt k (maxSteps - (l .k + 1)) (a .at .0) (toBag (givenAt (now (a .given)) (l .k + 1))) (heldIn (changed step)) in
-    let sofar = subst (λ (i : Instant State). Sofar (RulesOver n (first p) (l .state)) whole i (a .at .0) (a .from) (now (a .out)) (l .out) (l .k) (l .used) (l .over))
+    let sofar = subst (λ (i : Instant State). Sofar (RulesOver n (first p) (l .state)) whole i (a .at .0) (a .from) (now (a .out)) (l .out) (l .k) (l .used))
     (rest-more k (a .at .0) x (state p) (l .k) (heldIn (changed step)) (now (a .given)) g h (e .state)) (l .inv .sofar) in record {
       few = omega arith;
       words = s .kept .1 .1 .1 .1 .1 .1 .0 ∙ l .inv .words;
@@ -234,7 +234,7 @@ loop-again c =
       bound = omega (arith, u .ensures .0, size-most (s .result), most step, l .inv .bound);
       ready = e .ready;
       sofar = sofar-more (RulesOver n (first p) (l .state)) (RulesOver n (first p) (changed step)) whole rest (a .at .0) (a .from) (now (a .out)) (l .out) (u .last .0)
-          (l .k) (l .used) (u .result) (l .over) y (words-of step) (s .result) more (l .inv .size) (e .size) (e .bag) (u .ensures .0) (u .ensures .1) sofar;
+          (l .k) (l .used) (u .result) y (words-of step) (s .result) more (l .inv .size) (e .size) (e .bag) (u .ensures .0) (u .ensures .1) sofar;
       rules-size = ap length (e .rules) ∙ puts-length (lastRulesIn (l .state)) 0 _ ∙ l .inv .rules-size;
     }
 
@@ -242,31 +242,19 @@ loop-again c =
 
 returns-2 : tie.Need-returns-2 Inv-loop μ-loop
 returns-2 c =
-    let goes : tie.After-goes-on Inv-loop μ-loop = search in let overs : tie.Then3 Inv-loop μ-loop = search in
-    let p = loop-of goes in
-    let a = start-of p .args in
-    let g : goesOn (sim p) (a .at .0) (given p) (state p) ≡ false = tested goes ∙ overs .before .if1 .left in
-    let stops = rest-stops (sim p) (a .at .0) (given p) (state p) (maxSteps - p .loop .k) g in
-    rw (c .undone2 .ensures) (said p (p .loop .state) (judged p VV.Over 0 (a .from)) (
-      judged-over (now (a .phases)) (now (a .tables)) (p .loop .inv .sofar) (p .loop .state) stops (overs .if3 .taken),
-      overlays-done (now (a .phases)) (now (a .tables)) (p .loop .inv .sofar) (p .loop .state) (atomicsIn (now (a .tables))) (first p) stops (λ h. h),
-    ))
-
-returns-3 : tie.Need-returns-3 Inv-loop μ-loop
-returns-3 c =
     let goes : tie.After-goes-on Inv-loop μ-loop = search in
     let p = loop-of goes in
     let a = start-of p .args in
     let l = p .loop in
-    let g : goesOn (sim p) (a .at .0) (given p) (state p) ≡ false = tested goes ∙ c .before .if1 .left in
+    let g : goesOn (sim p) (a .at .0) (given p) (state p) ≡ false = tested goes ∙ c .if1 .left in
     let stops = rest-stops (sim p) (a .at .0) (given p) (state p) (maxSteps - l .k) g in
     said p (l .state) (judged p VV.Stands (l .k) (l .used)) (
-      judged-stands (now (a .phases)) (now (a .tables)) (l .inv .sofar) (l .state) stops (c .if3 .left) (l .inv .few) (l .inv .ready),
+      judged-stands (now (a .phases)) (now (a .tables)) (l .inv .sofar) (l .state) stops (l .inv .few) (l .inv .ready),
       overlays-done (now (a .phases)) (now (a .tables)) (l .inv .sofar) (l .state) (atomicsIn (now (a .tables))) (first p) stops (λ h. h),
     )
 
 pub instant-spec : {M : Type 1} → statement M
 instant-spec =
     tie.close
-    (tie.spec Inv-loop μ-loop (λ c κs. search needs) (λ c κs. search needs) loop-holds (search needs) (search needs) (search needs) (search needs) (search needs) (search needs) returns (search needs) take-step-requires put-step-requires
-    (search needs) loop-less loop-again (search needs) (search needs) (search needs) returns-2 (search needs) (search needs) returns-3)
+    (tie.spec Inv-loop μ-loop (λ c κs. search needs) (λ c κs. search needs) loop-holds (search needs) (search needs) (search needs) (search needs) (search needs) returns (search needs) take-step-requires put-step-requires
+    (search needs) loop-less loop-again (search needs) (search needs) returns-2)

@@ -6,7 +6,6 @@ use lib.ListN.{length, take}
 use denote.Ref.{now}
 use Rattle.run_text.specs.Put.{put}
 use Rattle.run_text.specs.Text.{textRoom, inputRoom, runText}
-use Rattle.run_text.proofs.Fits.{text-fits}
 use Rattle.run_text.proofs.Fronts.{front-same}
 use Rattle.law_stores.proofs.Fronts.{put-whole}
 use Rattle.run_text.proofs.whole_text.Statement.{statement}
@@ -21,8 +20,8 @@ returns c =
       λ input read.
           let same : runText (now (after-front .front .result)) ≡ runText input
           = ap runText (after-front .front .ensures ∙ read ∙ ap (λ k. take k input) buffer) ∙ front-same input in
-          put-whole (runText input) (now (a .text)) (c .run-text .last .1 .0) (c .run-text .result) (omega (arith, text-fits input, page))
-          (c .run-text .ensures ∙ ap (λ t. put t (now (a .text), 0)) same),
+          put-whole (runText input) (now (a .text)) (c .run-text .last .1 .0) (c .run-text .result) (omega (arith, c .run-text .ensures .1, ap length same, page))
+          (c .run-text .ensures .0 ∙ ap (λ t. put t (now (a .text), 0)) same),
       c .run-text .kept .1 .0 ∙ page,
     )
 

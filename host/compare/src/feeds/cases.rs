@@ -1,5 +1,5 @@
 //! The cases about feeds: each kind of damage, each cut and each byte of a small one, the longest ones, feeds
-//! gone on with, and feeds among advances.
+//! gone on with, feeds among advances, and the largest bags at the root.
 
 use super::arguments::Plan;
 use super::damage::{Damage, DAMAGES};
@@ -12,20 +12,22 @@ use crate::models::nests;
 use crate::random::Random;
 use crate::runs;
 use reference::decode::decode;
-use reference::examples::{cue_source, relayed_hold, CUE, STRAY};
+use reference::examples::{cue_source, echo, full_root_bags, relayed_hold, CUE, STRAY};
 use reference::feed::FeedBag;
 use reference::limits::{FEED_BAGS, GIVEN_MESSAGES, HIGHEST_TIME};
 use reference::records::Message;
 use reference::saved_run::{self, SavedRun};
 use reference::Fed;
 
-pub const NAMES: [&str; 6] = [
+pub const NAMES: [&str; 8] = [
     "feed cut at each byte",
     "feed with each byte changed",
     "feed of 1,000 bags",
     "feed of 1,000 bags with 16 messages each",
     "feed gone on with after 15",
     "feeds among advances",
+    "feed with 4,096 messages at the root in every step",
+    "feed with 4,092 messages at the root by each bag",
 ];
 
 /// How often each kind of damage is done in a case.
@@ -211,5 +213,37 @@ pub fn among_advances(comparison: &mut Comparison, random: &mut Random) -> Compa
         return Err(format!("{}, another run than one advance", NAMES[5]));
     }
     comparison.counts.meet(NAMES[5]);
+    Ok(())
+}
+
+/// Bags of 16 messages, each at an instant of two steps. Either step puts 4,096 messages out whatever is given,
+/// or the second one puts 4,092 out because of the bag. The trace just holds them all, or is a byte too short
+/// for the last bag's.
+pub fn largest_root_bags(comparison: &mut Comparison, random: &mut Random) -> Compared<()> {
+    let count = random.between(3, 5);
+    let messages = vec![Message { port: 0, value: CUE }; GIVEN_MESSAGES];
+    let bag = |number: u64| FeedBag { moment: 3 * number, messages: messages.clone() };
+    let plan = Plan { bags: (1..=count).map(bag).collect(), end: 3 * count };
+    let full: fn(u64) -> u64 = |bags| 2 * 12_300 * bags;
+    // It is due by itself at the first of them.
+    let echoed: fn(u64) -> u64 = |bags| 12_288 * (bags + 1);
+    for (name, model, bytes) in
+        [(NAMES[6], full_root_bags(2), full), (NAMES[7], echo(0, (1, 1), (31, 33)), echoed)]
+    {
+        for (number, bags, missing) in [(0, count, 0), (15, count - 1, 1)] {
+            let mut list = list_from(comparison, random, &model, 0)?;
+            let trace = random.bytes((bytes(count) - missing) as usize);
+            let call = Call::Feed { end: plan.end, feed: plan.feed(), trace };
+            let (outcome, fact) = Fact::of(&mut list, plan.clone(), &call)
+                .map_err(|fault| format!("{name}, {fault}"))?;
+            let (steps, trace_bytes) = (2 * bags, bytes(bags));
+            let expected = Answer::Fed(Fed { number, bags, instants: bags, steps, trace_bytes });
+            if outcome.answer != expected {
+                return Err(format!("{name}, {:?} is answered", outcome.answer));
+            }
+            fact.holds_in_turn(comparison)?;
+        }
+        comparison.counts.meet(name);
+    }
     Ok(())
 }

@@ -12,12 +12,14 @@ mod refused;
 pub mod rows;
 
 pub use calls::{any_bytes, at_the_end};
+#[cfg(test)]
+pub use cases::largest_root_bags;
 pub use kinds::{all as kinds, notice};
 
 use crate::special::Special;
 
 /// The cases that come in every run.
-pub const CASES: [Special; 9] = [
+pub const CASES: [Special; 10] = [
     rows::all,
     refused::bad_ends,
     refused::bad_feeds,
@@ -27,6 +29,7 @@ pub const CASES: [Special; 9] = [
     cases::longest,
     cases::gone_on_with,
     cases::among_advances,
+    cases::largest_root_bags,
 ];
 
 /// The names of the boundaries and damages that the cases count.

@@ -4,6 +4,7 @@ pub mod bags;
 mod edges;
 pub mod lit_rules;
 pub mod ranges;
+pub mod root_bags;
 mod steps;
 pub mod strays;
 mod ways;
@@ -19,12 +20,12 @@ use reference::Advanced;
 
 pub type Special = fn(&mut Comparison, &mut Random) -> Compared<()>;
 
-pub const CASES: [Special; 22] = [
+pub const CASES: [Special; 26] = [
     bags::largest_atomic_bags,
     bags::atomic_bag_through_levels,
-    bags::largest_root_bags,
-    bags::root_bag_through_levels,
-    bags::bursts,
+    root_bags::largest,
+    root_bags::through_levels,
+    root_bags::bursts,
     edges::lengths,
     edges::times_and_positions,
     edges::given_bags,
@@ -42,12 +43,17 @@ pub const CASES: [Special; 22] = [
     ways::divided_routes,
     ways::factors_of_the_limit,
     ways::ways_from_nothing,
+    root_bags::one_after_another,
+    root_bags::of_many_atomics,
+    root_bags::beside_given_bags,
+    root_bags::in_an_endless_instant,
 ];
 
 /// The names of the boundaries that the cases count.
 pub fn names() -> impl Iterator<Item = &'static str> {
     let rows = lit_rules::names().chain(ranges::names()).chain(strays::names());
-    bags::NAMES.into_iter().chain(steps::NAMES).chain(rows).chain(ways::NAMES)
+    let bags = bags::NAMES.into_iter().chain(root_bags::NAMES);
+    bags.chain(steps::NAMES).chain(rows).chain(ways::NAMES)
 }
 
 /// Starts a model and advances it once, expecting an answer.
