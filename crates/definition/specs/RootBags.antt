@@ -38,6 +38,10 @@ pub record RootBagOf (m : Model) : Type 0 where
   pub nest : NestPutsOut m maxRootBag
   pub flat : FlatPutsOut m maxRootBag
 
+-- The number that is retired.
+abbrev pub retiredNumber : ℕ
+retiredNumber = 14
+
 -- The numbers that calls give, whatever bytes and numbers they are given.
 pub data Given : ℕ → Type 0 where
   by-check : (file : Bytes) → AllBytes file → Given (checkModel file)
@@ -52,4 +56,4 @@ pub data Given : ℕ → Type 0 where
 pub record RootBags : Type 0 where
   pub bags : (file : Bytes) (m : Model) → AllBytes file → accepted file ≡ ok m → RootBagOf m
   -- "retire the number": no call gives it
-  pub retired : (n : ℕ) → Given n → n ≡ 14 → ⊥
+  pub retired : (n : ℕ) → Given n → n ≡ retiredNumber → ⊥

@@ -18,7 +18,7 @@ use Rattle.definition.specs.SavedRun.{Entry}
 use Rattle.definition.specs.FlatMachine.{Sent, sent, putOut, allSent, arriving, flatStep}
 use Rattle.definition.specs.AtomicBags.{endingAt}
 use Rattle.definition.specs.Demands.{WriterRefusal, writer-refuses-model, writer-refuses-buffer, RearrangingRefusal, nothing-to-make, rearranging-refuses-buffer, ReadingRefusal, reading-refuses-model, reading-refuses-run, reading-refuses-position, AdvanceRefusal, advance-refuses-model, advance-refuses-run, advance-refuses-time, advance-refuses-bag, AdvanceNumber, by-row, by-instants, FeedRefusal, feed-refuses-model, feed-refuses-run, feed-refuses-feed, feed-refuses-time, FeedNumber, feed-by-row, feed-by-calls}
-use Rattle.definition.specs.RootBags.{FlatPutsOut, Given, by-check, by-start, by-advance, by-feed, by-reading, by-flatten, by-columns, by-trace, RootBags}
+use Rattle.definition.specs.RootBags.{FlatPutsOut, Given, by-check, by-start, by-advance, by-feed, by-reading, by-flatten, by-columns, by-trace, retiredNumber, RootBags}
 use Rattle.law_base.proofs.Sums.{sumOf, sum-append, sum-map, sum-zero, sum-cong, sum-ones}
 use Rattle.law_base.proofs.Lists.{sum-cong-if, count-most}
 use Rattle.law_model.proofs.WellFormed.{WellFormed, couplings-fit}
@@ -76,51 +76,51 @@ flat-puts-out m w now x k = flat-few m w now x (k .entries)
 
 -- ---- the numbers of calls
 
-not-model : (n : ℕ) → (n ≤ 9) ⊎ (n ≡ 20) → n ≡ 14 → ⊥
+not-model : (n : ℕ) → (n ≤ 9) ⊎ (n ≡ 20) → n ≡ retiredNumber → ⊥
 not-model n (inl l) e = omega arith
 not-model n (inr f) e = omega arith
 
-not-writer : {long : Model → ℕ} {file buffer : Bytes} {n : ℕ} → WriterRefusal long file buffer n → n ≡ 14 → ⊥
+not-writer : {long : Model → ℕ} {file buffer : Bytes} {n : ℕ} → WriterRefusal long file buffer n → n ≡ retiredNumber → ⊥
 not-writer (writer-refuses-model n l j) e = not-model n (demand1 .model-numbers _ n j) e
 not-writer (writer-refuses-buffer m a l) e = omega arith
 
-not-rearranging : {Makes : Bytes → Type 0} {none : ℕ} {buffer : Bytes} {n : ℕ} → (none ≡ 14 → ⊥) → RearrangingRefusal Makes none buffer n → n ≡ 14 → ⊥
+not-rearranging : {Makes : Bytes → Type 0} {none : ℕ} {buffer : Bytes} {n : ℕ} → (none ≡ retiredNumber → ⊥) → RearrangingRefusal Makes none buffer n → n ≡ retiredNumber → ⊥
 not-rearranging f (nothing-to-make g) e = f e
 not-rearranging f (rearranging-refuses-buffer made g l) e = omega arith
 
-not-reading : {file run : Bytes} {position n : ℕ} → ReadingRefusal file run position n → n ≡ 14 → ⊥
+not-reading : {file run : Bytes} {position n : ℕ} → ReadingRefusal file run position n → n ≡ retiredNumber → ⊥
 not-reading (reading-refuses-model n l j) e = not-model n (demand1 .model-numbers _ n j) e
 not-reading (reading-refuses-run m a f) e = omega arith
 not-reading (reading-refuses-position m a f l) e = omega arith
 
-not-advance : {file run : Bytes} {t : ℕ} {bag : Bytes} {n : ℕ} → AdvanceRefusal file run t bag n → n ≡ 14 → ⊥
+not-advance : {file run : Bytes} {t : ℕ} {bag : Bytes} {n : ℕ} → AdvanceRefusal file run t bag n → n ≡ retiredNumber → ⊥
 not-advance (advance-refuses-model n l j) e = not-model n (demand1 .model-numbers _ n j) e
 not-advance (advance-refuses-run m a f) e = omega arith
 not-advance (advance-refuses-time m a f l) e = omega arith
 not-advance (advance-refuses-bag m a f o l b) e = omega arith
 
-not-feed : {file run : Bytes} {end : ℕ} {feed : Bytes} {n : ℕ} → FeedRefusal file run end feed n → n ≡ 14 → ⊥
+not-feed : {file run : Bytes} {end : ℕ} {feed : Bytes} {n : ℕ} → FeedRefusal file run end feed n → n ≡ retiredNumber → ⊥
 not-feed (feed-refuses-model n l j) e = not-model n (demand1 .model-numbers _ n j) e
 not-feed (feed-refuses-run m a f) e = omega arith
 not-feed (feed-refuses-feed m a f g) e = omega arith
 not-feed (feed-refuses-time m bs a f g l) e = omega arith
 
-ended-otherwise : (n : ℕ) → (n ≡ 0) ⊎ ((n ≡ 13) ⊎ (n ≡ 15)) → n ≡ 14 → ⊥
+ended-otherwise : (n : ℕ) → (n ≡ 0) ⊎ ((n ≡ 13) ⊎ (n ≡ 15)) → n ≡ retiredNumber → ⊥
 ended-otherwise n (inl f) e = omega arith
 ended-otherwise n (inr (inl f)) e = omega arith
 ended-otherwise n (inr (inr f)) e = omega arith
 
-never : (n : ℕ) → Given n → n ≡ 14 → ⊥
+never : (n : ℕ) → Given n → n ≡ retiredNumber → ⊥
 never n (by-check file b) e = not-model n (demand1 .model-numbers file n (demand1 .model-judged file b)) e
 never n (by-start file buffer b) e = not-writer (demand1 .start-number file buffer b (omega arith)) e
 never n (by-advance file run t bag trace table b) e = go (demand1 .advance-number file run t bag trace table b) e
   where
-    go : {n : ℕ} → AdvanceNumber file run t bag trace n → n ≡ 14 → ⊥
+    go : {n : ℕ} → AdvanceNumber file run t bag trace n → n ≡ retiredNumber → ⊥
     go (by-row n r) f = not-advance r f
     go (by-instants m d a h g) f = ended-otherwise (d .number) (ending-number g) f
 never n (by-feed file run end feed trace b c) e = go (demand1 .feed-number file run end feed trace b c) e
   where
-    go : {n : ℕ} → FeedNumber file run end feed trace n → n ≡ 14 → ⊥
+    go : {n : ℕ} → FeedNumber file run end feed trace n → n ≡ retiredNumber → ⊥
     go (feed-by-row n r) f = not-feed r f
     go (feed-by-calls m bs k d a h g) f = ended-otherwise (d .number) (turns-number g) f
 never n (by-reading file run position b) e = not-reading (demand1 .reading-number file run position b (omega arith)) e
@@ -134,8 +134,8 @@ pub root-bags : RootBags
 root-bags = record {
   bags = λ file m b e. let s = accepted-sound file m b e in record {
     few-routes = omega (arith, count-most (λ k. eqb (k .source) 0 || eqb (k .target) 0) (routes m), s .few-routes);
-    by-routes = put-out-few m (s .sound);
-    flat-by-couplings = flat-puts-out m (s .sound);
+    by-routes = λ now x q. omega (arith, put-out-few m (s .sound) now x q);
+    flat-by-couplings = λ now x k. omega (arith, flat-puts-out m (s .sound) now x k);
     nest = put-out-most m (s .sound) (s .few-routes);
     flat = λ now x k. omega (arith, flat-puts-out m (s .sound) now x k, ending-most 0 (m .couplings), s .sound .couplings .few);
   };
