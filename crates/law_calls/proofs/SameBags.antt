@@ -1,4 +1,4 @@
--- Steps whose root bags are the same up to order are judged and written alike: as many messages, and one sorted record; and where the same rules
+-- Steps whose root bags are the same up to order are written alike, as one sorted record each; and where the same rules
 -- decided in each, they did in the instant. Assumes nothing.
 use mathlib.Core.Path.{_≡_, refl, ap, ap₂}
 use Prim.Native.Nat.{ℕ, suc}
