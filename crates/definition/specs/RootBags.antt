@@ -8,7 +8,7 @@ use lib.ListN.{length}
 use Rattle.definition.specs.Lists.{count}
 use Rattle.definition.specs.Bytes.{Bytes, AllBytes, ok}
 use Rattle.definition.specs.Limits.{maxOutputs, maxRoutes, maxRootBag}
-use Rattle.definition.specs.Model.{Bag, Model}
+use Rattle.definition.specs.Model.{Bag, Model, phaseAt, outputs}
 use Rattle.definition.specs.Routes.{routes}
 use Rattle.definition.specs.Pinned.Decoder.{accepted, checkModel}
 use Rattle.definition.specs.Pinned.TraceReader.{traceToColumns, columnsToTrace}
@@ -30,7 +30,9 @@ FlatPutsOut m limit = (now : ℕ) (x : Bag) (k : Copy) → length (flatStep m no
 pub record RootBagOf (m : Model) : Type 0 where
   -- "At most 1,024 routes start or end at the root"
   pub few-routes : count (λ k. eqb (k .source) 0 || eqb (k .target) 0) (routes m) ≤ maxRoutes
-  -- "and one from an atomic carries at most 4 messages in a step": so many for each route that ends at the root
+  -- "and one from an atomic carries at most 4 messages in a step": no more are put out, and each goes once along a route
+  pub put-out : (c p : ℕ) → length (outputs (phaseAt m c p)) ≤ maxOutputs
+  -- so that the root's bag has at most so many for each route that ends there
   pub by-routes : NestPutsOut m (maxOutputs * endingAt 0 (routes m))
   -- in the flat machine for each coupling: those of a flat form, itself an accepted model (demand 3), are the routes
   pub flat-by-couplings : FlatPutsOut m (maxOutputs * endingAt 0 (m .couplings))

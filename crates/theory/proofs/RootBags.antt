@@ -11,7 +11,7 @@ use lib.ListN.{length}
 use borrow.Author.Tests.{eqb-true, eqb-false}
 use Rattle.definition.specs.Bytes.{Bytes}
 use Rattle.definition.specs.Limits.{maxOutputs}
-use Rattle.definition.specs.Model.{Message, Bag, Coupling, Model, atomics}
+use Rattle.definition.specs.Model.{Message, Bag, Coupling, Model, atomics, phaseAt}
 use Rattle.definition.specs.Routes.{routes}
 use Rattle.definition.specs.Pinned.Decoder.{couplingFields}
 use Rattle.definition.specs.SavedRun.{Entry}
@@ -26,7 +26,7 @@ use Rattle.law_model.proofs.Reading.{accepted-sound}
 use Rattle.law_nest.proofs.Components.{rooted}
 use Rattle.law_nest.proofs.Carried.{weight}
 use Rattle.law_nest.proofs.Arrivals.{arriving-sum}
-use Rattle.law_nest.proofs.Capacity.{ending-most}
+use Rattle.law_nest.proofs.Capacity.{outputs-few, ending-most}
 use Rattle.law_nest.proofs.RootBag.{put-out-few, put-out-most}
 use Rattle.law_nest.proofs.FlatBags.{flat-bag}
 use Rattle.law_flat.proofs.Couplings.{not-self}
@@ -134,6 +134,7 @@ pub root-bags : RootBags
 root-bags = record {
   bags = λ file m b e. let s = accepted-sound file m b e in record {
     few-routes = omega (arith, count-most (λ k. eqb (k .source) 0 || eqb (k .target) 0) (routes m), s .few-routes);
+    put-out = λ c p. omega (arith, outputs-few (phaseAt m c p));
     by-routes = λ now x q. omega (arith, put-out-few m (s .sound) now x q);
     flat-by-couplings = λ now x k. omega (arith, flat-puts-out m (s .sound) now x k);
     nest = put-out-most m (s .sound) (s .few-routes);
