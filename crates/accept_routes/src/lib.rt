@@ -1,4 +1,6 @@
 // Number 9, more than 1,024 routes, and with it the whole check of a model file.
+#![tactic(auto)]
+
 ghost use Rattle.std.specs.Prelude.{◌≡◌, ◌+◌, ◌*◌, ◌<◌, ◌≤◌, min, cond, length};
 ghost use Rattle.definition.specs.Limits.{max_components, max_couplings, port_count};
 ghost use Rattle.definition.specs.Model.{is_atomic};
@@ -54,7 +56,7 @@ fn route_total(components: &[u8], ways: &[u16; MAX_NODES]) -> u16
 }
 
 // The whole check of a model file, and the number of routes where it is accepted.
-#[derive(Drop)]
+#[derive(Clone, Copy)]
 pub struct RoutesCounted {
     pub checked: Checked,
     pub routes: u16,

@@ -1,4 +1,6 @@
 // A model file opened for a call: the whole check, and where it is accepted the tables of its model.
+#![tactic(auto)]
+
 ghost use Rattle.std.specs.Prelude.{◌≡◌};
 ghost use Rattle.definition.specs.Bytes.{ok};
 ghost use Rattle.definition.specs.Pinned.Decoder.{accepted};

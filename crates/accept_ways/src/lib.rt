@@ -1,5 +1,7 @@
 // How many ways lead on from each port to an end, counted up to one more than a model may have, on the nodes of the links: the ends alone,
 // then one pass from the last link to the first for the ways down, and one from the first to the last for the others.
+#![tactic(auto)]
+
 ghost use Rattle.std.specs.Prelude.{◌≡◌, ◌+◌, ◌*◌, ◌<◌, ◌≤◌, min, length, get_or};
 ghost use Rattle.definition.specs.Limits.{max_components, max_couplings};
 ghost use Rattle.model_records.specs.Values.{components_in, couplings_in};

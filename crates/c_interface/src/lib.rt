@@ -1,5 +1,7 @@
 // The engine's calls for C, under the names of include/pdevs.h; each promises what the engine's own call promises.
 // A slice stands for a pointer and a length.
+#![tactic(auto)]
+
 ghost use Rattle.std.specs.Prelude.{◌≡◌};
 ghost use Rattle.call_answers.specs.Answers.{wrote_of, advanced_of, fed_of, channels_call_of, channelled_of, read_of};
 ghost use Rattle.definition.specs.Pinned.Decoder.{check_model};

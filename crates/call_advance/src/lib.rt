@@ -1,5 +1,7 @@
 // The call advance, whole: the check of the model, the checks of run, time and bag, the instants, and the table of deciding rules. The instants
 // know nothing of the table: a call without one has them alone.
+#![tactic(auto)]
+
 ghost use Rattle.std.specs.Prelude.{◌≡◌, length, ◌≤◌};
 ghost use Rattle.definition.specs.Routes.{routes};
 ghost use Rattle.definition.specs.Bytes.{ok};

@@ -2,8 +2,10 @@
 // it on.
 
 // The number, and the bytes written.
+#![tactic(auto)]
+
 #[repr(C)]
-#[derive(Drop)]
+#[derive(Clone, Copy)]
 pub struct Written {
     pub number: u64,
     pub bytes: u64,
@@ -11,7 +13,7 @@ pub struct Written {
 
 // The number, the instants done, their steps, and the trace bytes written.
 #[repr(C)]
-#[derive(Drop)]
+#[derive(Clone, Copy)]
 pub struct Advanced {
     pub number: u64,
     pub instants: u64,
@@ -21,7 +23,7 @@ pub struct Advanced {
 
 // The number, the bags of a feed whose own calls succeeded, the instants done, their steps, and the trace bytes written.
 #[repr(C)]
-#[derive(Drop)]
+#[derive(Clone, Copy)]
 pub struct Fed {
     pub number: u64,
     pub bags: u64,
@@ -32,7 +34,7 @@ pub struct Fed {
 
 // The number; phase and last moment of an atomic; the next due moment of the whole model.
 #[repr(C)]
-#[derive(Drop)]
+#[derive(Clone, Copy)]
 pub struct Reading {
     pub number: u64,
     pub phase: u64,
@@ -42,7 +44,7 @@ pub struct Reading {
 
 // Where a channel's bag lies in the buffer of all bags.
 #[repr(C)]
-#[derive(Drop)]
+#[derive(Clone, Copy)]
 pub struct Place {
     pub start: u64,
     pub size: u64,

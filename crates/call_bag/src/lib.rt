@@ -1,4 +1,6 @@
 // The bag of a call, as bytes: whether it keeps its lines, and nothing more.
+#![tactic(auto)]
+
 ghost use Rattle.std.specs.Prelude.{◌≡◌, ◌/◌, length};
 ghost use Rattle.definition.specs.Lists.{all};
 ghost use Rattle.definition.specs.Records.{port_fits};

@@ -1,5 +1,7 @@
 // The call that advances several channels, whole: the counts, the check of the model, and the channels in turn. The model is checked once, its tables
 // are filled once and the buffer for bags is made once for all of them.
+#![tactic(auto)]
+
 ghost use Rattle.std.specs.Prelude.{◌≡◌, ◌≤◌, length};
 ghost use Rattle.definition.specs.Bytes.{ok};
 ghost use Rattle.definition.specs.Routes.{routes};

@@ -1,4 +1,6 @@
 // A trace rearranged into columns, and columns back into a trace: judged whole before the first byte is written.
+#![tactic(auto)]
+
 ghost use Rattle.std.specs.Prelude.{◌≡◌};
 ghost use Rattle.definition.specs.Pinned.TraceReader.{trace_to_columns, columns_to_trace};
 ghost use Rattle.call_answers.specs.Answers.{wrote_of};

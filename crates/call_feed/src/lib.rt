@@ -1,5 +1,7 @@
 // The call that runs a feed, whole: the check of the model, the checks of run, feed and times, and the feed's calls. The model is checked once,
 // and its tables are filled once, for all of them.
+#![tactic(auto)]
+
 ghost use Rattle.std.specs.Prelude.{◌≡◌, length, ◌≤◌};
 ghost use Rattle.definition.specs.Routes.{routes};
 ghost use Rattle.definition.specs.Bytes.{ok};
@@ -116,7 +118,7 @@ fn first_moment(feed: &[u8], count: u16, end: u64) -> u64
 }
 
 // The bags of a feed that is let in, or the number of the first check of run, feed and times that fails.
-#[derive(Drop)]
+#[derive(Clone, Copy)]
 enum FeedChecked {
     Refused(u64),
     Of(Bags),

@@ -1,4 +1,6 @@
 // The call flatten, whole: the check of the model, its tables, the rows of the flat form, the room, and then the bytes.
+#![tactic(auto)]
+
 ghost use Rattle.std.specs.Prelude.{◌≡◌, length};
 ghost use Rattle.definition.specs.Flatten.{flatten};
 ghost use Rattle.call_answers.specs.Answers.{wrote_of};
@@ -18,7 +20,7 @@ const MAX_ROWS: usize = 1024;
 const ROW_WORDS: usize = MAX_ROWS + MAX_ROWS / 2;
 
 // What is found of a flat form before it is written: how many rows and how many bytes it has.
-#[derive(Drop)]
+#[derive(Clone, Copy)]
 struct Found {
     rows: usize,
     size: usize,

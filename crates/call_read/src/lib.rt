@@ -1,4 +1,6 @@
 // The call read, whole: the check of the model, the checks of run and position, and what stands at the position.
+#![tactic(auto)]
+
 ghost use Rattle.std.specs.Prelude.{◌≡◌};
 ghost use Rattle.definition.specs.SavedRun.{run_of, next_due};
 ghost use Rattle.definition.specs.Engine.{due_number, reading};

@@ -1,5 +1,7 @@
 // The table of deciding rules, after the instants of a call: for each atomic in file order the position of the rule of its last external part
 // in the last instant done, two bytes.
+#![tactic(auto)]
+
 ghost use Rattle.std.specs.Prelude.{◌≡◌, ◌*◌, ◌≤◌, length};
 ghost use Rattle.definition.specs.Bytes.{stored};
 ghost use Rattle.definition.specs.Limits.{max_components, position_size};

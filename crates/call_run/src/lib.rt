@@ -1,4 +1,6 @@
 // The saved run of a call, against the model of its file: 10, which every call asks that takes a run.
+#![tactic(auto)]
+
 ghost use Rattle.std.specs.Prelude.{◌≡◌};
 ghost use Rattle.definition.specs.Bytes.{ok};
 ghost use Rattle.definition.specs.Pinned.Decoder.{accepted};

@@ -1,4 +1,6 @@
 // The call start, whole: the check of the model, the room, and the first run at the front of the lent buffer.
+#![tactic(auto)]
+
 ghost use Rattle.std.specs.Prelude.{◌≡◌, ◌≤◌, [], length};
 ghost use Rattle.definition.specs.Bytes.{ok};
 ghost use Rattle.definition.specs.Limits.{max_components};

@@ -1,5 +1,7 @@
 // The channels in turn, each on its own parts of the two buffers, with its share of the steps and what the earlier ones left over. The model, its
 // tables and the buffer for bags are lent once for all of them.
+#![tactic(auto)]
+
 ghost use Rattle.std.specs.Prelude.{◌≡◌, length};
 ghost use Rattle.definition.specs.Bytes.{ok};
 ghost use Rattle.definition.specs.FlatChannels.{boxed};

@@ -1,5 +1,7 @@
 // A channel's turn: the checks of its run, time and bag, and its instants with the steps that it has. The model's tables and the buffer for bags are
 // lent from outside, once for all channels.
+#![tactic(auto)]
+
 ghost use Rattle.std.specs.Prelude.{◌≡◌, [], length};
 ghost use Rattle.definition.specs.Bytes.{ok};
 ghost use Rattle.definition.specs.Pinned.Decoder.{accepted};

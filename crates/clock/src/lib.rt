@@ -1,5 +1,7 @@
 // Moments and stays, and when something is due: "A moment counts ticks from the start, a stay counts ticks between two moments; two
 // moments are never added." Every function is total.
+#![tactic(auto)]
+
 ghost use Rattle.std.specs.Prelude.{◌≡◌, ◌+◌, ◌-◌, min, ltb};
 ghost use Rattle.definition.specs.SavedRun.{not_before};
 ghost use Rattle.definition.specs.Engine.{due_number};
@@ -9,15 +11,15 @@ ghost use Rattle.clock.specs.After.{due_after};
 use limits::{NEVER_FIELD, NEVER_MOMENT};
 
 // A number of ticks from the start.
-#[derive(Drop)]
+#[derive(Clone, Copy)]
 pub struct Moment(pub u64);
 
 // A number of ticks between two moments.
-#[derive(Drop)]
+#[derive(Clone, Copy)]
 pub struct Stay(pub u64);
 
 // When something is due: never is a case of its own.
-#[derive(Drop)]
+#[derive(Clone, Copy)]
 pub enum Due {
     At(Moment),
     Never,

@@ -1,4 +1,6 @@
 // Columns gone over: whether they come from a trace, and how many records and messages they have. Nothing is written.
+#![tactic(auto)]
+
 ghost use Rattle.std.specs.Prelude.{◌≡◌, length, ◌+◌, ◌*◌, ◌≤◌};
 ghost use Rattle.law_columns.specs.ByPosition.{columns_scanned};
 ghost use Rattle.columns_forms.specs.Forms.{columns_from, no_last, counts_by, columns_fit, found_of};

@@ -1,4 +1,6 @@
 // Where a record's numbers lie in the two forms of a trace: records in a row, and columns.
+#![tactic(auto)]
+
 ghost use Rattle.std.specs.Prelude.{◌≡◌, length, ◌+◌, ◌*◌, ◌≤◌};
 ghost use Rattle.columns_records.specs.Places.{HeadWithin};
 ghost use Rattle.columns_forms.specs.Forms.{in_row, in_columns, row_places, columns_from, next_column, pair_of, word_max};
@@ -86,14 +88,14 @@ pub fn pair_at(s: &[u8], at: Places) -> Last
 }
 
 // How many records a trace has, and how many messages.
-#[derive(Drop)]
+#[derive(Clone, Copy)]
 pub struct Sizes {
     pub records: usize,
     pub messages: usize,
 }
 
 // What going over some bytes finds: that they are not in the form, or what they hold.
-#[derive(Drop)]
+#[derive(Clone, Copy)]
 pub enum Found {
     Nothing,
     Of(Sizes),

@@ -1,4 +1,6 @@
 // A record whose numbers lie at given places, judged and put elsewhere: the same code for records in a row and for columns.
+#![tactic(auto)]
+
 ghost use Rattle.std.specs.Prelude.{◌≡◌, length, ◌+◌, ◌<◌, ◌≤◌};
 ghost use Rattle.std.proofs.lemmas.List.Edits.{sets};
 ghost use Rattle.definition.specs.Bytes.{number_at, bytes_of};
@@ -11,7 +13,7 @@ use little_endian::{put_number, u16_within, u64_within};
 use widen::{u8_to_u32, u8_to_u64, u16_to_u32, u16_to_u64, u16_to_usize};
 
 // Where the numbers of a record lie: its moment, step and message count, its first port and its first value.
-#[derive(Drop)]
+#[derive(Clone, Copy)]
 pub struct Places {
     pub moment: usize,
     pub step: usize,
@@ -21,14 +23,14 @@ pub struct Places {
 }
 
 // How far from each other the ports of a record lie, and its values.
-#[derive(Drop)]
+#[derive(Clone, Copy)]
 pub struct Apart {
     pub ports: usize,
     pub values: usize,
 }
 
 // The pair of the record before, if there was one.
-#[derive(Drop)]
+#[derive(Clone, Copy)]
 pub struct Last {
     pub some: bool,
     pub moment: u64,

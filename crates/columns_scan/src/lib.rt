@@ -1,4 +1,6 @@
 // A trace gone over once: whether it is one, and how many records and messages it has. Nothing is written.
+#![tactic(auto)]
+
 ghost use Rattle.std.specs.Prelude.{◌≡◌, ◌&&◌, length, ◌≤◌};
 ghost use Rattle.law_columns.specs.ByPosition.{scanned};
 ghost use Rattle.columns_records.specs.Places.{fits_after};

@@ -1,4 +1,6 @@
 // A trace written by columns, and columns written as a trace: one pass over the records, each put where it lies in the other form.
+#![tactic(auto)]
+
 ghost use Rattle.std.specs.Prelude.{◌≡◌, length, ◌+◌, ◌*◌, ◌≤◌};
 ghost use Rattle.std.proofs.lemmas.List.Edits.{sets};
 ghost use Rattle.definition.specs.Bytes.{bytes_of};

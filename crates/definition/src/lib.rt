@@ -1,1 +1,2 @@
 // The definitions stand in specs/, and the worked table in proofs/: this crate has no code.
+#![tactic(auto)]

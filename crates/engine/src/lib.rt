@@ -1,5 +1,7 @@
 // The engine's calls. Each has its whole outcome, numbers and the whole content of each lent buffer, as an equality with the
 // definitions, for all inputs.
+#![tactic(auto)]
+
 ghost use Rattle.std.specs.Prelude.{◌≡◌};
 ghost use Rattle.definition.specs.Pinned.Decoder.{check_model};
 ghost use Rattle.definition.specs.Pinned.TraceReader.{trace_to_columns, columns_to_trace};

@@ -1,4 +1,6 @@
 // A feed of bags gone over once: whether it is one, how many bags it has, and the moment of the last. Nothing is written.
+#![tactic(auto)]
+
 ghost use Rattle.std.specs.Prelude.{◌≡◌, ◌&&◌, not, ltb, length};
 ghost use Rattle.definition.specs.Pinned.FeedReader.{bag_length, to_feed_bag, feed_bag_fits, feed_of};
 ghost use Rattle.feed_bags.specs.Bags.{bags_told, bags_found};
@@ -8,13 +10,13 @@ use little_endian::{byte_at, front, rest};
 use widen::u8_to_usize;
 
 // How many bags a feed has, and the moment of the last one, 0 where there is none.
-#[derive(Drop)]
+#[derive(Clone, Copy)]
 pub struct Bags {
     pub count: u16,
     pub last: u64,
 }
 
-#[derive(Drop)]
+#[derive(Clone, Copy)]
 pub enum Found {
     Broken,
     Of(Bags),

@@ -1,5 +1,7 @@
 // A feed, behind its checks: its bags' calls in turn and the one to the end, on one loaded state and one trace. The model's tables are filled,
 // and the run is loaded and stored, once for all calls.
+#![tactic(auto)]
+
 ghost use Rattle.std.specs.Prelude.{◌≡◌, length};
 ghost use Rattle.run_state.specs.Held.{held_in};
 ghost use Rattle.call_answers.specs.Answers.{fed_of};
@@ -17,7 +19,7 @@ use table_words::{TABLE_SIZE, atomics_in};
 use widen::{u8_to_usize, usize_to_u64};
 
 // How many bags' own calls succeeded, and where the last call ended.
-#[derive(Drop)]
+#[derive(Clone, Copy)]
 pub struct Onward {
     pub bags: u64,
     pub ended: Ended,

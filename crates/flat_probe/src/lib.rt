@@ -1,5 +1,7 @@
 // The phase records and the flags of the probing step: each component has a record that puts out, at each of its four output ports, that
 // port's own number as value. So a message that arrives at an end names the port where its route begins.
+#![tactic(auto)]
+
 ghost use Rattle.std.specs.Prelude.{◌≡◌, ◌+◌, ◌*◌, ◌≤◌, length};
 ghost use Rattle.std.proofs.lemmas.List.Edits.{sets};
 ghost use Rattle.definition.specs.Limits.{max_components, phase_size};

@@ -1,4 +1,6 @@
 // The number of a component in the flat form, looked up in the tables of a call.
+#![tactic(auto)]
+
 ghost use Rattle.std.specs.Prelude.{◌≡◌};
 ghost use Rattle.flat_ranks.specs.Ranks.{rank_of};
 

@@ -1,5 +1,7 @@
 // The rows of the flat form: one probing step, its bags collected at every end as in any other step, each message made a row, and the rows
 // sorted. So a route is walked once, and ways that lead nowhere are not entered.
+#![tactic(auto)]
+
 ghost use Rattle.std.specs.Prelude.{◌≡◌, map, ◌<◌, ◌≤◌, leb, length, take};
 ghost use Rattle.definition.specs.Limits.{max_components};
 ghost use Rattle.definition.specs.Lists.{sort_by};

@@ -1,4 +1,6 @@
 // The flat form's bytes in a lent buffer, section by section, each where the one before it ends; every byte beyond them is left as it was.
+#![tactic(auto)]
+
 ghost use Rattle.std.specs.Prelude.{◌≡◌, map, ◌+◌, ◌*◌, ◌≤◌, length, take};
 ghost use Rattle.std.proofs.lemmas.List.Edits.{sets};
 ghost use Rattle.definition.specs.Lists.{concat};

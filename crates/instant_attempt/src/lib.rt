@@ -1,4 +1,6 @@
 // One instant of a call, tried: it stands with its records in the trace, or a number leaves it undone and nothing has changed.
+#![tactic(auto)]
+
 ghost use Rattle.std.specs.Prelude.{◌≡◌, ◌+◌, length};
 ghost use Rattle.instant_steps.specs.Sim.{instant_of};
 ghost use Rattle.instant_attempt.specs.Progress.{Countable, CanTry, Tried};
@@ -12,7 +14,7 @@ use run_state::STATE_SIZE;
 use table_words::TABLE_SIZE;
 
 // How far a call has come: the records that it wrote are the first `used` bytes of its trace.
-#[derive(Drop)]
+#[derive(Clone, Copy)]
 pub struct Progress {
     pub opening: Moment,
     pub instants: u64,
@@ -21,7 +23,7 @@ pub struct Progress {
 }
 
 // The moment of an instant, the steps that the call may do in all, and how far it has come before the instant.
-#[derive(Drop)]
+#[derive(Clone, Copy)]
 pub struct Turn {
     pub at: Moment,
     pub has: u64,
@@ -29,7 +31,7 @@ pub struct Turn {
 }
 
 // A number, 0 where nothing hinders, and how far the call has come.
-#[derive(Drop)]
+#[derive(Clone, Copy)]
 pub struct Ended {
     pub number: u64,
     pub progress: Progress,

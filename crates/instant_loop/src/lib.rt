@@ -1,4 +1,6 @@
 // Advance, behind its checks: every instant due before t, then t with the bag; the numbers, the whole run and the whole trace.
+#![tactic(auto)]
+
 ghost use Rattle.std.specs.Prelude.{◌≡◌, cond, suc, ◌≤◌, ltb, length};
 ghost use Rattle.definition.specs.Limits.{max_moment};
 ghost use Rattle.run_state.specs.Held.{held_in};
@@ -16,7 +18,7 @@ use widen::u8_to_usize;
 const SCRATCH_SIZE: usize = 4096;
 
 // "Advance answers number, instants done, steps, trace bytes".
-#[derive(Drop)]
+#[derive(Clone, Copy)]
 pub struct Answer {
     pub number: u64,
     pub instants: u64,

@@ -1,4 +1,6 @@
 // Trace records: the record of a step is put into a lent buffer where it fits, and its bytes are counted in any case.
+#![tactic(auto)]
+
 ghost use Rattle.std.specs.Prelude.{◌≡◌, map, ◌+◌, ◌*◌, ◌≤◌, length, take};
 ghost use Rattle.std.proofs.lemmas.List.Edits.{sets};
 ghost use Rattle.definition.specs.Lists.{concat};

@@ -1,5 +1,7 @@
 // An instant: all steps at one moment, at most 1,024, on a lent state. Its records are put into a lent buffer while they fit, and
 // its bytes are counted in any case, so that one function serves a first pass into a small scratch and a second one into the trace.
+#![tactic(auto)]
+
 ghost use Rattle.std.specs.Prelude.{◌≡◌, ◌||◌, not, eqb, length};
 ghost use Rattle.definition.specs.Lists.{is_empty};
 ghost use Rattle.definition.specs.Engine.{to_bag};
@@ -17,14 +19,14 @@ use step_simulator::step_once;
 use table_words::{TABLE_SIZE, atomics_in};
 
 // Something still due after all steps; or nothing, so that the instant may stand.
-#[derive(Drop)]
+#[derive(Clone, Copy)]
 pub enum Verdict {
     Jammed,
     Stands,
 }
 
 // The verdict on an instant; where it stands its steps, and where its records end. One that does not stand counts nothing.
-#[derive(Drop)]
+#[derive(Clone, Copy)]
 pub struct Ran {
     pub verdict: Verdict,
     pub steps: u64,

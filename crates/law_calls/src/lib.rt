@@ -1,1 +1,2 @@
 // Laws of a call's loop, which the demands and the calls on tables share, stand in proofs/: this crate has no code.
+#![tactic(auto)]

@@ -26,7 +26,7 @@ use Rattle.law_nest.proofs.Renumber.{is_listed, listed-occurs, flat-component}
 
 -- a record at a place, also past the end, is kept by its bytes
 held_at : {A : Type 0} (f : A → A) (xs : List A) (d : A) → map f xs ≡ xs → f d ≡ d → (i : ℕ) → f (get_or xs i d) ≡ get_or xs i d
-held_at f xs d h e i = sym (ListN.get_d_map f xs i d) ∙ ap (get_or (map f xs) i) e ∙ ap (λ l. get_or l i d) h
+held_at f xs d h e i = sym (ListN.get_or-map f xs i d) ∙ ap (get_or (map f xs) i) e ∙ ap (λ l. get_or l i d) h
 
 -- ---- the root or an atomic
 

@@ -1,1 +1,2 @@
 // The laws of the step on tables stand in proofs/: this crate has no code.
+#![tactic(auto)]

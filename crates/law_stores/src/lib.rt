@@ -1,1 +1,2 @@
 // Laws of stores into a buffer stand in proofs/: this crate has no code.
+#![tactic(auto)]

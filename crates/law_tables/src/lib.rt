@@ -1,1 +1,2 @@
 // Laws of advances on tables stand in proofs/: this crate has no code.
+#![tactic(auto)]

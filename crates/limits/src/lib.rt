@@ -2,6 +2,8 @@
 // sizes of the tables by port, which follow from them; and the numbers of refusals.
 
 // ---- the model file
+#![tactic(auto)]
+
 pub const MAX_COMPONENTS: usize = 64;
 
 pub const MAX_ANCESTORS: usize = 8;

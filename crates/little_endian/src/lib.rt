@@ -1,4 +1,6 @@
 // Little-endian numbers in slices of bytes, and parts of slices; a byte past the end reads as 0, so that no reader asks anything.
+#![tactic(auto)]
+
 ghost use Rattle.std.specs.Prelude.{◌≡◌, ◌+◌, ◌≤◌, length, drop, take};
 ghost use Rattle.std.proofs.lemmas.List.Edits.{sets};
 ghost use Rattle.definition.specs.Bytes.{number_at, bytes_of};

@@ -1,4 +1,6 @@
 // Reading one record yields either the record or the number of its refusal: the lines that each kind of record must keep.
+#![tactic(auto)]
+
 ghost use Rattle.std.specs.Prelude.{◌≡◌, ◌&&◌, ◌+◌, ◌<◌, ltb, leb, length};
 ghost use Rattle.definition.specs.Bytes.{number_of};
 ghost use Rattle.definition.specs.Limits.{max_outputs};
@@ -21,7 +23,7 @@ use widen::u8_to_usize;
 
 // ---- the answers; a number is one byte, since one that is laid over two fields of a record makes the compiler join these
 
-#[derive(Drop)]
+#[derive(Clone, Copy)]
 pub enum ComponentRead {
     Is(Component),
     Refused(u8),
@@ -38,7 +40,7 @@ impl ComponentRead {
     }
 }
 
-#[derive(Drop)]
+#[derive(Clone, Copy)]
 pub enum PhaseRead {
     Is(Phase),
     Refused(u8),
@@ -55,7 +57,7 @@ impl PhaseRead {
     }
 }
 
-#[derive(Drop)]
+#[derive(Clone, Copy)]
 pub enum RuleRead {
     Is(Rule),
     Refused(u8),
@@ -72,7 +74,7 @@ impl RuleRead {
     }
 }
 
-#[derive(Drop)]
+#[derive(Clone, Copy)]
 pub enum CouplingRead {
     Is(Coupling),
     Refused(u8),

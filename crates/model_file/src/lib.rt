@@ -1,5 +1,7 @@
 // Reading a model file down to its end, and the parts of an accepted file that later calls read: four slices, one for each of the first four
 // sections, that hold exactly the records.
+#![tactic(auto)]
+
 ghost use Rattle.std.specs.Prelude.{◌≡◌};
 ghost use Rattle.definition.specs.Pinned.Decoder.{decode};
 ghost use Rattle.model_file.specs.Checked.{components_part, phases_part, rules_part, couplings_part, after_components, after_phases, after_rules, checked_as, checked_number};
@@ -9,7 +11,7 @@ use model_further::FurtherRead;
 use model_sections::{SectionRead, section_part, section_rest};
 
 // How many records each of the four sections has, and whether a fifth excludes the high ends of elapsed ranges.
-#[derive(Drop)]
+#[derive(Clone, Copy)]
 pub struct Counts {
     pub components: u16,
     pub phases: u16,
@@ -18,7 +20,7 @@ pub struct Counts {
     pub half_open: bool,
 }
 
-#[derive(Drop)]
+#[derive(Clone, Copy)]
 pub enum Checked {
     Accepted(Counts),
     Refused(u16),

@@ -1,5 +1,7 @@
 // What follows the couplings of a model file: nothing, or the fifth section, by which the high ends of elapsed ranges are excluded; then the
 // test of equal ends, and the end of the file. A section of a later make comes behind the fifth, before the end.
+#![tactic(auto)]
+
 ghost use Rattle.std.specs.Prelude.{◌≡◌};
 ghost use Rattle.definition.specs.Lists.{all};
 ghost use Rattle.definition.specs.Model.{half_open};
@@ -15,7 +17,7 @@ use model_records::{rule_count, rule_in};
 use widen::u8_to_u16;
 
 // Whether the high ends of elapsed ranges are excluded, or the number of the refusal.
-#[derive(Drop)]
+#[derive(Clone, Copy)]
 pub enum FurtherRead {
     HalfOpen(bool),
     Refused(u16),

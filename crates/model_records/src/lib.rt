@@ -1,5 +1,7 @@
 // The records of a model, read from the slice that holds a section's records. A reader `.._in` asks that there is such a record; past the
 // slice's end a reader `.._at` has zeros, so that it asks nothing.
+#![tactic(auto)]
+
 ghost use Rattle.std.specs.Prelude.{◌≡◌, ◌/◌, ◌<◌, length, get_or};
 ghost use Rattle.definition.specs.Limits.{phase_size};
 ghost use Rattle.definition.specs.Model.{no_phase, no_rule, no_coupling, component_at, is_atomic, is_child, atomics, phases_before};
@@ -10,7 +12,7 @@ ghost use Rattle.model_records.specs.Values.{component_of, message_of, phase_of,
 use limits::{COMPONENT_SIZE, COUPLING_SIZE, PHASE_SIZE, RULE_SIZE};
 
 // Kind (0 coupled, 1 atomic), parent, phase count, initial phase, order.
-#[derive(Drop)]
+#[derive(Clone, Copy)]
 pub struct Component {
     pub kind: u8,
     pub parent: u8,
@@ -20,14 +22,14 @@ pub struct Component {
 }
 
 // What a slot holds.
-#[derive(Drop)]
+#[derive(Clone, Copy)]
 pub struct Message {
     pub port: u8,
     pub value: u16,
 }
 
 // Advance, next phase, output count, four slots.
-#[derive(Drop)]
+#[derive(Clone, Copy)]
 pub struct Phase {
     pub advance: u32,
     pub next: u8,
@@ -38,7 +40,7 @@ pub struct Phase {
     pub slot3: Message,
 }
 
-#[derive(Drop)]
+#[derive(Clone, Copy)]
 pub struct Rule {
     pub component: u8,
     pub phase: u8,
@@ -51,7 +53,7 @@ pub struct Rule {
     pub high_elapsed: u32,
 }
 
-#[derive(Drop)]
+#[derive(Clone, Copy)]
 pub struct Coupling {
     pub source: u8,
     pub source_port: u8,

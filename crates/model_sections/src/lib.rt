@@ -1,5 +1,7 @@
 // The four sections of a model file, each read from where the one before it ended: the head's number first, then the records in order,
 // each taken apart at once. A reader gets the rest of the file from its section on.
+#![tactic(auto)]
+
 ghost use Rattle.std.specs.Prelude.{◌≡◌, ◌*◌, ◌≤◌};
 ghost use Rattle.definition.specs.Bytes.{number_of};
 ghost use Rattle.definition.specs.Limits.{phase_size, rule_size, coupling_size};
@@ -21,7 +23,7 @@ use model_checks::{ComponentRead, CouplingRead, PhaseRead, RuleRead};
 use widen::{u8_to_usize, u16_to_usize};
 
 // How many records the section has, or the number of the refusal.
-#[derive(Drop)]
+#[derive(Clone, Copy)]
 pub enum SectionRead {
     Are(u16),
     Refused(u16),

@@ -1,4 +1,6 @@
 // Saved runs: which bytes fit a model, the state that they hold, and a state's bytes.
+#![tactic(auto)]
+
 ghost use Rattle.std.specs.Prelude.{◌≡◌, ◌&&◌, ◌||◌, ◌+◌, ◌≤◌, ◌<◌, ltb, eqb, length, get_or};
 ghost use Rattle.std.proofs.lemmas.List.Edits.{sets};
 ghost use Rattle.definition.specs.Bytes.{number_at, stored};
@@ -24,7 +26,7 @@ pub fn run_size(n: usize) -> usize
     RUN_HEAD_SIZE + RUN_ENTRY_SIZE * n
 }
 
-#[derive(Drop)]
+#[derive(Clone, Copy)]
 pub struct Entry {
     pub phase: u8,
     pub last: Moment,

@@ -1,6 +1,8 @@
 // The state of a run inside a call: one lent array of words, so that a function is handed one thing. By the position of an atomic in file
 // order: its phase and the rule of its last external part, in one word; its last moment; and when it is due as a number, 2^64 - 1 for
 // never. And two words: when the whole model is next due; and whose rule is one of the instant, a bit for each position.
+#![tactic(auto)]
+
 ghost use Rattle.std.specs.Prelude.{◌≡◌, ◌+◌, ◌*◌, ◌^◌, ◌<◌, get_or, set, length};
 ghost use Rattle.std.specs.Int.Bits.{bit_or};
 ghost use Rattle.definition.specs.Limits.{max_components};

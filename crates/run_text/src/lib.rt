@@ -1,4 +1,6 @@
 // The text that the printing program writes: the lines of a run, put into a lent buffer.
+#![tactic(auto)]
+
 ghost use Rattle.std.specs.Prelude.{◌≡◌, ◌≤◌, ◌<◌, [], length};
 ghost use Rattle.definition.specs.Engine.{start, advance};
 ghost use Rattle.run_text.specs.Put.{put1, put};

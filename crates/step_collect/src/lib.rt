@@ -2,6 +2,8 @@
 // function for a coupled component and one for a child, input collection between a port and one that leads to it. Only open nodes are
 // entered: those that a source can reach at all, and that something may reach in this step. A bag is put into a buffer, where the next key
 // goes to `end`.
+#![tactic(auto)]
+
 ghost use Rattle.std.specs.Prelude.{◌≡◌, ◌+◌, ◌*◌, ◌%◌, ◌/◌, ◌<◌, ◌≤◌, get_or};
 ghost use Rattle.definition.specs.Limits.{max_ancestors, max_couplings};
 ghost use Rattle.law_routes.specs.Nodes.{input_node, output_node};

@@ -1,5 +1,7 @@
 // When something is due, by the tables of a call: an atomic by its phase and last moment, a coupled component by the least among its
 // children. Due moments are carried in the state, by position, as numbers: 2^64 - 1 for never, which is no moment that a run comes to.
+#![tactic(auto)]
+
 ghost use Rattle.std.specs.Prelude.{◌≡◌, ◌+◌, ◌<◌, ◌≤◌, min, get_or};
 ghost use Rattle.definition.specs.Limits.{max_components};
 ghost use Rattle.model_records.specs.Values.{phase_of, phases_in};

@@ -1,5 +1,7 @@
 // Messages put as keys into a lent buffer, one after the other: a key is the port times 65,536 and the value, and the port is that of
 // the end where the message arrives. A buffer that is full takes no more, so that nothing is asked of its length.
+#![tactic(auto)]
+
 ghost use Rattle.std.specs.Prelude.{◌≡◌, length};
 ghost use Rattle.definition.specs.Engine.{to_bag};
 ghost use Rattle.definition.specs.Model.{outputs};

@@ -1,5 +1,7 @@
 // What a step reads before any transition: the mark of each component, which is 0 where nothing below it is due, and an atomic's phase
 // record's number and 1 where it is due; and for each component whether something may reach its inputs.
+#![tactic(auto)]
+
 ghost use Rattle.std.specs.Prelude.{◌≡◌, ◌-◌, ◌<◌, suc, get_or, set};
 ghost use Rattle.definition.specs.Limits.{max_components, port_count};
 ghost use Rattle.definition.specs.Engine.{to_bag};

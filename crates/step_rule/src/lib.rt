@@ -1,5 +1,7 @@
 // The deciding rule: "the first rule in file order whose conditions all hold decides". It is answered by its position, not by the
 // phase it leads to. A bag is a slice of message keys, port times 65,536 and value.
+#![tactic(auto)]
+
 ghost use Rattle.std.specs.Prelude.{◌≡◌, ◌+◌, ◌*◌, ◌/◌, ◌<◌, ◌≤◌, min, map, length, slice_index};
 ghost use Rattle.definition.specs.Limits.{rule_size, max_atomic_bag};
 ghost use Rattle.definition.specs.Lists.{count};
@@ -17,14 +19,14 @@ use std::num::wrapping_sub_u32;
 use widen::{u8_to_u32, u32_to_u64};
 
 // The position of the deciding rule, or none.
-#[derive(Drop)]
+#[derive(Clone, Copy)]
 pub enum Found {
     At(u16),
     Nothing,
 }
 
 // How long an atomic has been in its phase, and whether its model excludes the high ends of elapsed ranges.
-#[derive(Drop)]
+#[derive(Clone, Copy)]
 pub struct Elapsed {
     pub time: Stay,
     pub half_open: bool,

@@ -1,5 +1,7 @@
 // One step of the whole nest at a moment: its flags are read first, then each atomic's bag is pulled and the atomic changes, and the
 // root's output bag is pulled and sorted. The buffer for the bags is lent from the call.
+#![tactic(auto)]
+
 ghost use Rattle.std.specs.Prelude.{◌≡◌, ◌<◌, length};
 ghost use Rattle.definition.specs.Limits.{max_components};
 ghost use Rattle.definition.specs.Engine.{to_bag};

@@ -1,4 +1,6 @@
 // The transitions of an atomic: internal, external, confluent in both orders, or none. The elapsed time is the atomic's own.
+#![tactic(auto)]
+
 ghost use Rattle.std.specs.Prelude.{◌≡◌, map, ◌/◌, ◌%◌, ◌≤◌, ◌<◌, get_or, length};
 ghost use Rattle.std.proofs.Math.Option.{some};
 ghost use Rattle.definition.specs.Limits.{max_components, max_atomic_bag};

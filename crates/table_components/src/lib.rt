@@ -1,4 +1,6 @@
 // The tables of a call by component, by position among the atomics and by rule, filled from a model's records.
+#![tactic(auto)]
+
 ghost use Rattle.std.specs.Prelude.{◌≡◌, ◌+◌, ◌-◌, ◌≤◌, ◌<◌, length};
 ghost use Rattle.definition.specs.Limits.{max_components, max_rules};
 ghost use Rattle.definition.specs.Model.{atomics};
@@ -15,7 +17,7 @@ use table_words::{
 };
 
 // What a table by component is made of.
-#[derive(Drop)]
+#[derive(Clone, Copy)]
 pub enum Field {
     Kind,
     Parent,

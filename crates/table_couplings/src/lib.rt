@@ -1,4 +1,6 @@
 // The tables of a call by node and by link, filled from a model's couplings: coupling i is link i + 1.
+#![tactic(auto)]
+
 ghost use Rattle.std.specs.Prelude.{◌≡◌, ◌+◌, ◌*◌, ◌<◌, ◌≤◌, length, get_or};
 ghost use Rattle.definition.specs.Limits.{max_components, max_couplings};
 ghost use Rattle.model_records.specs.Values.{coupling_of, components_in, couplings_in};
@@ -11,7 +13,7 @@ use table_words::{FIRST_AT, LINKS, LIVE_AT, NEXT_AT, SOURCE_AT, TABLE_SIZE};
 use widen::{bool_to_u16, u8_to_u16, u8_to_usize, u16_to_usize};
 
 // The two ends of a coupling, as the contracts name them.
-#[derive(Drop)]
+#[derive(Clone, Copy)]
 pub enum End {
     Source,
     Target,

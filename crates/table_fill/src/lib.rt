@@ -1,4 +1,6 @@
 // The tables of a call, filled once from the records of an accepted model: every lookup of a step is then one word.
+#![tactic(auto)]
+
 ghost use Rattle.std.specs.Prelude.{◌≡◌, ◌≤◌, length};
 ghost use Rattle.definition.specs.Limits.{max_components, max_rules, max_couplings};
 ghost use Rattle.law_base.specs.Ranges.{ranges_of};

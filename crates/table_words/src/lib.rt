@@ -1,5 +1,7 @@
 // The tables of a call are one slice of numbers: where its regions begin, and how words of it are read and written. The flags of a step are
 // another, which is read here.
+#![tactic(auto)]
+
 ghost use Rattle.std.specs.Prelude.{◌≡◌, ◌+◌, ◌<◌, ◌≤◌, get_or, length};
 ghost use Rattle.definition.specs.Limits.{max_components};
 ghost use Rattle.law_base.specs.Ranges.{ranges_of};

@@ -1,4 +1,6 @@
 // The same number in another type, by the two types' names. Every function here is a cast that loses nothing.
+#![tactic(auto)]
+
 ghost use Rattle.std.specs.Prelude.{◌≡◌, cond};
 
 // ---- from one byte
