@@ -16,7 +16,7 @@ use Rattle.definition.specs.Model.{Model}
 use Rattle.definition.specs.Pinned.Decoder.{accepted}
 use Rattle.definition.specs.SavedRun.{Run, run_length, atomic_count, run_of, run_bytes, run_fits}
 use Rattle.definition.specs.Engine.{Advanced, Numbers, numbers_of, number_alone}
-use Rattle.definition.specs.Channels.{part, no_place, bag_at, channel_at, channels_of, turns, eight_answers, channelled, miscounted, ChannelsCall, Channelled, advance_channels}
+use Rattle.definition.specs.Channels.{part, no_place, bag_at, channel_at, channels_of, turn, turns, eight_answers, channelled, miscounted, ChannelsCall, Channelled, advance_channels}
 use Rattle.definition.specs.ChannelShares.{WellCounted, share_of, has_at}
 use Rattle.definition.specs.ChannelRows.{turn_refuses_run, refused_turn}
 use Rattle.definition.specs.Calls.{channels_call, channels_answer, called, engine}
@@ -75,7 +75,8 @@ module _ (m : Model) (runs : Bytes) (b : ChannelsCall) (short : length runs / b.
   all_stay : (left k n : ℕ) → k + n ≤ b.count → turns m b.moment (share_of b) left (map (channel_at runs b) (up_from k n)) ≡ map stays (up_from k n)
   unfolding turns up_from
   all_stay left k zero l = refl
-  all_stay left k (suc n) l = ap₂ ◌∷◌ (turn_refused m b.moment (share_of b + left) (channel_at runs b k) 10 (turn_refuses_run (no-fit k (omega arith)))) (all_stay _ (suc k) n (omega arith))
+  all_stay left k (suc n) l = ap₂ ◌∷◌ (turn_refused m b.moment (share_of b + left) (channel_at runs b k) 10 (turn_refuses_run (no-fit k (omega arith))))
+      (all_stay (share_of b + left - (turn m b.moment (share_of b + left) (channel_at runs b k)).steps) (suc k) n (omega arith))
 
   told : (k n : ℕ) → map numbers_of (map stays (up_from k n)) ≡ replicate n (number_alone 10)
   unfolding up_from numbers_of number_alone

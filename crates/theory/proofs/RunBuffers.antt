@@ -1,5 +1,5 @@
 -- What the calls write into the run buffer is bytes, so that a run buffer of bytes stays one. Assumes nothing.
-use Prim.Native.Nat.{ℕ, zero, suc, ◌*◌, ◌/◌}
+use Prim.Native.Nat.{ℕ, zero, suc, ◌+◌, ◌-◌, ◌*◌, ◌/◌}
 use mathlib.Core.List.{List, [], ◌∷◌, map}
 use mathlib.Core.Bool.{Bool, true, false, cond}
 use lib.Dec.{ltb, eqb}
@@ -88,7 +88,8 @@ module _ (m : Model) (runs : Bytes) (b : ChannelsCall) (h : AllBytes runs) where
   unfolding turns up_from concat turn channel_at part
   turns-bytes left i zero = none
   turns-bytes left i (suc n) =
-      append-bytes (advanced-bytes _ _ _ _ (take-bytes (length runs / b.count) (drop-bytes (length runs / b.count * i) h))) (turns-bytes _ (suc i) n)
+      append-bytes (advanced-bytes _ _ _ _ (take-bytes (length runs / b.count) (drop-bytes (length runs / b.count * i) h)))
+      (turns-bytes (share_of b + left - (turn m b.moment (share_of b + left) (channel_at runs b i)).steps) (suc i) n)
 
 pub channels-bytes : (file runs : Bytes) (b : ChannelsCall) → AllBytes runs → AllBytes (advance_channels file runs b).runs
 unfolding advance_channels channelled channels_of

@@ -16,12 +16,11 @@ bytes : (f : After-atomics_in-atomics) (i : ℕ) → get_or f.args.file.now i 0 
 bytes f i = (f.type_inv.file i).fits
 
 pub put_flat-requires : goal.put_flat-requires
-put_flat-requires c =
-    (
-      c.requires.held.room,
-      rw (c.atomics_in-atomics.ensures, c.phases_of-phases.ensures, c.rules_of-rules.ensures)
-          (flatten-room _ c.args.out.now _ (bytes (goal.at.put_flat-requires c).After-atomics_in-atomics) _ _ _ c.requires c.if-out-found.false),
-    )
+put_flat-requires c = (
+  c.requires.held.room,
+  rw (c.atomics_in-atomics.ensures, c.phases_of-phases.ensures, c.rules_of-rules.ensures)
+      (flatten-room _ c.args.out.now _ (bytes (goal.at.put_flat-requires c).After-atomics_in-atomics) _ _ _ c.requires c.if-out-found.false),
+)
 
 pub returns : goal.returns
 returns c =

@@ -28,12 +28,11 @@ returns-then-head-ne0 c =
     record { answer = refused; learnt = tt }
 
 pub loop-i-init : goal.loop-i-init
-loop-i-init c =
-    (
-      reading-starts component_form _ c.u16_at-announced.ensures c.u16_to_usize-count.ensures c.component_count_refusal.ensures c.head_number-head.ensures
-          c.if-head-ne0.false c.section_part-records.ensures (omega arith),
-      known-none c.requires.parents_room c.requires.counts_room (length-replicate {A = ℕ} 64 0),
-    )
+loop-i-init c = (
+  reading-starts component_form _ c.u16_at-announced.ensures c.u16_to_usize-count.ensures c.component_count_refusal.ensures c.head_number-head.ensures
+      c.if-head-ne0.false c.section_part-records.ensures (omega arith),
+  known-none c.requires.parents_room c.requires.counts_room (length-replicate {A = ℕ} 64 0),
+)
 
 pub returns-in_default : goal.returns-in_default
 unfolding components_in component_section

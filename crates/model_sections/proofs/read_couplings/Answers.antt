@@ -19,12 +19,11 @@ unfolding coupling_section
 returns-then-head-ne0 c = head-refused (coupling_form _) _ c.u16_at-announced.ensures c.u16_to_usize-count.ensures c.limit_refusal.ensures c.head_number-head.ensures c.if-head-ne0.true
 
 pub loop-i-init : goal.loop-i-init
-loop-i-init c =
-    (
-      reading-starts (coupling_form _) _ c.u16_at-announced.ensures c.u16_to_usize-count.ensures c.limit_refusal.ensures c.head_number-head.ensures
-          c.if-head-ne0.false c.section_part-records.ensures (omega arith),
-      refl,
-    )
+loop-i-init c = (
+  reading-starts (coupling_form _) _ c.u16_at-announced.ensures c.u16_to_usize-count.ensures c.limit_refusal.ensures c.head_number-head.ensures
+      c.if-head-ne0.false c.section_part-records.ensures (omega arith),
+  refl,
+)
 
 pub returns-in_default : goal.returns-in_default
 unfolding couplings_in coupling_section

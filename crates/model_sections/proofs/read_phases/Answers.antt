@@ -29,13 +29,12 @@ returns-then-head-ne0 c =
     c.head_number-head.ensures c.if-head-ne0.true
 
 pub loop-c-init : goal.loop-c-init
-loop-c-init c =
-    (
-      reading-starts (phase_form _) _ c.u16_at-announced.ensures c.u16_to_usize-count.ensures (rw (← c.phase_total-total.ensures) c.phase_count_refusal.ensures)
-          c.head_number-head.ensures c.if-head-ne0.false c.section_part-records.ensures (omega arith),
-      omega arith,
-      sym (before-none _),
-    )
+loop-c-init c = (
+  reading-starts (phase_form _) _ c.u16_at-announced.ensures c.u16_to_usize-count.ensures (rw (← c.phase_total-total.ensures) c.phase_count_refusal.ensures)
+      c.head_number-head.ensures c.if-head-ne0.false c.section_part-records.ensures (omega arith),
+  omega arith,
+  sym (before-none _),
+)
 
 pub loop-p-init : goal.loop-p-init
 loop-p-init c =

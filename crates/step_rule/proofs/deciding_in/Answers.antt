@@ -40,7 +40,6 @@ use Rattle.step_rule.proofs.WalkParts.{bag-val, BagOwn, RuleHolds}
 use Rattle.step_rule.specs.contracts.deciding_in.Key.{name as #step-rule·deciding-in}
 use Rattle.step_rule.specs.contracts.deciding_in as deciding-in
 use Rattle.step_rule.proofs.deciding_in.Goals as goal
-
 -- UNREAD
 -- `deciding_in` meets its contract: a walk of its MIR, by hand, up to the loop, whose walk is in Loop. Assumes nothing.
 mod Loop
