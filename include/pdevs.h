@@ -104,8 +104,7 @@
     ROW(10, PDEVS_RUN_DOES_NOT_FIT, "the saved run is too short, or does not fit the model")                             \
     ROW(19, PDEVS_BAD_FEED, "the feed breaks its layout, or has a port above 3, or bytes are left over")                 \
     ROW(11, PDEVS_BAD_MOMENT, "a moment lies before the open moment or a feed's last bag, or above 1,000,000,000,000")   \
-    ROW(12, PDEVS_BAD_BAG, "the bag's length is no multiple of 3, or it has over 16 messages, or a port above 3, "       \
-                           "or it passes the end of the bags")                                                           \
+    ROW(12, PDEVS_BAD_BAG, "the bag's length is no multiple of 3, or it has over 16 messages, or a port above 3")        \
     ROW(13, PDEVS_STILL_DUE, "something is still due at a moment after 1,024 steps there")                               \
     ROW(17, PDEVS_NOT_A_TRACE, "the bytes to rearrange are no trace")                                                    \
     ROW(18, PDEVS_NOT_COLUMNS, "the columns do not come from a trace")                                                   \

@@ -27,7 +27,7 @@ use Rattle.table_couplings.proofs.Nodes.{on-nodes}
 use Rattle.accept_routes.specs.Routed.{Linked}
 use Rattle.law_routes.specs.Ways.{ways_cap, WaysCounted, Placed, table_routes}
 use Rattle.law_routes.proofs.Placed.{rising, coupled-parents}
-use Rattle.law_routes.proofs.Total.{routes-counted, over-limit}
+use Rattle.law_routes.proofs.Total.{routes-counted, over_limit}
 
 -- Each record of an accepted section keeps its lines.
 kept-all : {A : Type 0} (size : ℕ) (w : ℕ → ℕ) (to : Bytes → A) (fits : List A → ℕ → Bool) (s : Bytes) (x : Section A) → Gives size w to fits s x
@@ -73,7 +73,7 @@ pub routes-told : (m : Model) (table : List ℕ) (total : ℕ) → Placed m.comp
     → total ≡ min ways_cap (table_routes m.components table) → ltb max_routes total ≡ ltb max_routes (length (routes m))
 routes-told m table total p h e =
     ap (ltb max_routes) e
-    ∙ over-limit _ _ (routes-counted m table p.some_component (rising m.components p.components) (coupled-parents m.components p.components) h)
+    ∙ over_limit _ _ (routes-counted m table p.some_component (rising m.components p.components) (coupled-parents m.components p.components) h)
 
 -- ---- the same for the parts of a file
 

@@ -118,13 +118,13 @@ told-keeps m t has c run trace told e =
 
 pub record Going (m : Model) (runs₀ : Bytes) (b : ChannelsCall) (words : ℕ) (runs traces : Bytes) (work : ℕ) (channel : List Advanced) (left i : ℕ) : Type 0 where
   pub upto : i ≤ b.count
-  pub runs-long : length runs ≡ length runs₀
-  pub traces-long : length traces ≡ length b.traces
-  pub same-words : work ≡ words
+  pub runs_long : length runs ≡ length runs₀
+  pub traces_long : length traces ≡ length b.traces
+  pub same_words : work ≡ words
   pub eight : length channel ≡ max_channels
-  pub left-most : left ≤ b.allowance / b.count * i
+  pub left_most : left ≤ b.allowance / b.count * i
   pub others : drop i channel ≡ replicate (max_channels - i) untold
-  pub from-here : one_by_one (turn m b.moment) b (length runs₀ / b.count) (length b.traces / b.count) (b.count - i) i (box_at runs traces left channel i) ≡ all_in_turn m runs₀ b
+  pub from_here : one_by_one (turn m b.moment) b (length runs₀ / b.count) (length b.traces / b.count) (b.count - i) i (box_at runs traces left channel i) ≡ all_in_turn m runs₀ b
 
 pub others-more : (channel : List Advanced) (i : ℕ) (told : Advanced) → i < max_channels → drop i channel ≡ replicate (max_channels - i) untold
     → drop (i + 1) (set channel i told) ≡ replicate (max_channels - (i + 1)) untold

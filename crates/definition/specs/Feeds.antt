@@ -24,7 +24,10 @@ made_calls k run trace (c ∷ cs) =
     made ∷ cond (eqb a.number 0) on []
 
 -- The numbers in an advance's answer.
-unfoldable pub counted : Answer → Numbers
+abbrev pub Counted : Type 0
+Counted = Numbers
+
+unfoldable pub counted : Answer → Counted
 counted (advance_answer n i s u trace table) = record { number = n; instants = i; steps = s; used = u }
 counted (start_answer n w) = number_alone n
 counted (feed_answer n b i s u trace) = number_alone n

@@ -128,7 +128,7 @@ pub record Going (phases tables : List ℕ) (k : Simulator State) (feed : Bytes)
   pub few : Few bags p
   pub beyond : Beyond trace₀ trace p.used
   pub ready : Ready phases tables w
-  pub from-here : bags_onward k (length trace₀) others bags (progress_of trace tables w p) ≡ whole
+  pub from_here : bags_onward k (length trace₀) others bags (progress_of trace tables w p) ≡ whole
 
 -- ---- the call to the end
 

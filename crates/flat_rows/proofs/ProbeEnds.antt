@@ -127,7 +127,7 @@ module _ (m : Model) (w : WellFormed m) where
         ∙ sum-cong-if (route_fits m w) _ _ (routes m) (routes-fit m w) (λ k f.
         sum-cong _ _ ports (λ q. cut (eqb k.source s) (eqb k.source_port q) (eqb k.target a) (W (record { port = k.target_port; value = beginning s q })))
         ∙ pick-one (λ q. cond (eqb k.source s) (cond (eqb k.target a) (W (record { port = k.target_port; value = beginning s q })) 0) 0) k.source_port ports
-        (once-up k.source_port 0 port_count (omega arith) (omega (arith, ltb-true k.source_port port_count (route-parts m w k f).source-low)))
+        (once-up k.source_port 0 port_count (omega arith) (omega (arith, ltb-true k.source_port port_count (route-parts m w k f).source_low)))
         ∙ if-cong (eqb k.source s) _ _ (λ e. ap (λ i. cond (eqb k.target a) (W (record { port = k.target_port; value = beginning i k.source_port })) 0) (sym (eqb-true k.source s e))))
 
     -- what an atomic sends: all of them are due
@@ -150,7 +150,7 @@ module _ (m : Model) (w : WellFormed m) where
     all-sources =
         sources
         ∙ sum-cong _ _ (0 ∷ atomics m.components) from-source
-        ∙ by-listed (λ k. k.source) (λ k. cond (eqb k.target a) (W (brought k)) 0) (λ k f. (route-parts m w k f).source-listed)
+        ∙ by-listed (λ k. k.source) (λ k. cond (eqb k.target a) (W (brought k)) 0) (λ k f. (route-parts m w k f).source_listed)
       where
         sources : sum_of (carry m a W 0) (begun 0) + sum_of (λ s. sum_of (carry m a W s) (begun s)) (atomics m.components)
             ≡ sum_of (λ s. sum_of (carry m a W s) (begun s)) (0 ∷ atomics m.components)

@@ -64,9 +64,9 @@ module _ (m : Model) (w : WellFormed m) (t : List ℕ) (h : Tabled m t) (x : Bag
   flagged : Flags m w t probes probe_marks probe_reached x sends
   flagged = record {
     sent = sent_is;
-    marks-down = λ c d k l e. absurd (clash (mark-up c (omega (arith, rising m w c d k l, w.components.few))) e);
-    flags-down = λ c q b l p e. absurd (clash (reach-up c (omega (arith, w.components.few))) e);
-    root-down = λ e. absurd (clash (reach-up 0 (omega arith)) e);
+    marks_down = λ c d k l e. absurd (clash (mark-up c (omega (arith, rising m w c d k l, w.components.few))) e);
+    flags_down = λ c q b l p e. absurd (clash (reach-up c (omega (arith, w.components.few))) e);
+    root_down = λ e. absurd (clash (reach-up 0 (omega arith)) e);
   }
 
   pub keys-into : (c : ℕ) → c < length m.components

@@ -116,10 +116,10 @@ module _ (m : Model) (w : WellFormed m) (t : List ℕ) (h : Tabled m t) where
   route-row k f =
       let r = route-parts m w k f in
       let cs = m.components in
-      let q = ltb-true k.source_port port_count r.source-low in
-      let u = ltb-true k.target_port port_count r.target-low in
+      let q = ltb-true k.source_port port_count r.source_low in
+      let u = ltb-true k.target_port port_count r.target_low in
       let a : rank_of t (node_component (beginning k.source k.source_port)) % 256 ≡ renumbered cs k.source
-      = ap (λ c. rank_of t c % 256) (begin-component k.source k.source_port q) ∙ ap (λ n. n % 256) (rank_is m w t h k.source r.source-listed) ∙ byte_of _ (new-byte m w k.source) in
+      = ap (λ c. rank_of t c % 256) (begin-component k.source k.source_port q) ∙ ap (λ n. n % 256) (rank_is m w t h k.source r.source_listed) ∙ byte_of _ (new-byte m w k.source) in
       let b : node_port (beginning k.source k.source_port) % 256 ≡ k.source_port = ap (λ n. n % 256) (begin-port k.source k.source_port q) ∙ byte_of _ (omega arith) in
       let c : renumbered cs k.target % 256 ≡ renumbered cs k.target = byte_of _ (new-byte m w k.target) in
       let d : k.target_port % 256 ≡ k.target_port = byte_of _ (omega arith) in
@@ -194,7 +194,7 @@ module _ (m : Model) (w : WellFormed m) (t : List ℕ) (h : Tabled m t) where
         ∙ sym (sum-map (λ k. cond (p k) 1 0) (flat_route cs) (routes m)) ∙ sym (count-sum p (map (flat_route cs) (routes m)))
       where
         whole : ending 0 + sum_of ending (atomics m.components) ≡ sum_of (λ k. cond (p (flat_route m.components k)) 1 0) (routes m)
-        whole = unfold ending sum_of in (by-listed m w (λ k. k.target) (λ k. cond (p (flat_route m.components k)) 1 0) (λ k f. (route-parts m w k f).target-listed))
+        whole = unfold ending sum_of in (by-listed m w (λ k. k.target) (λ k. cond (p (flat_route m.components k)) 1 0) (λ k f. (route-parts m w k f).target_listed))
 
   -- the rows are the routes renumbered, in another order
   pub rows_same : Same (map coupling_of (probe_rows t (length (atomics m.components)))) (map (flat_route m.components) (routes m))

@@ -203,14 +203,14 @@ not-false false h = absurd (clash refl h)
 -- ---- a turn inside the loop: `whole` is what the call gives, and the turns left give it from here
 
 module _ (phases tables : List ℕ) (k : Simulator State) (has t : ℕ) (x : Bag) (whole : Definition.Ended State) (trace₀ trace : Bytes) (ws : List ℕ) (g : Progress) (left : ℕ)
-    (h : 0 < left) (from-here : advancing_within k has (length trace₀) t x left (progress_of trace tables ws g) ≡ whole) (b : Beyond trace₀ trace g.used) where
+    (h : 0 < left) (from_here : advancing_within k has (length trace₀) t x left (progress_of trace tables ws g) ≡ whole) (b : Beyond trace₀ trace g.used) where
   abbrev old : State
   old = held_in ws
 
   here : advancing_within k has (length trace) t x (suc (left - 1)) (progress_of trace tables ws g) ≡ whole
   here =
       let q : suc (left - 1) ≡ left = omega arith in
-      ap₂ (λ (m room : ℕ). advancing_within k has room t x m (progress_of trace tables ws g)) q b.size ∙ from-here
+      ap₂ (λ (m room : ℕ). advancing_within k has room t x m (progress_of trace tables ws g)) q b.size ∙ from_here
 
   module _ (trace' : Bytes) (ws' : List ℕ) (e : Ended) (v : ℕ) (next : v ≡ next_of (k.next old) t) where
     pub ends_last : TriedAt phases tables has t g ws ws' trace trace' (instant k t x old) e → t ≤ v → (f : Ended) → f ≡ finished_of t e
@@ -282,6 +282,6 @@ pub record Turning (phases rules tables : List ℕ) (has t : ℕ) (bag : Bytes) 
   pub instants : g.instants + left ≤ latest
   pub steps : g.steps + max_steps * left ≤ latest
   pub beyond : Beyond trace₀ trace g.used
-  pub from-here : within_of phases rules tables (length work₀) has (length trace₀) t bag left (progress_of trace tables ws g)
+  pub from_here : within_of phases rules tables (length work₀) has (length trace₀) t bag left (progress_of trace tables ws g)
       ≡ within_of phases rules tables (length work₀) has (length trace₀) t bag (suc t) (progress_of trace₀ tables ws₀ g₀)
   pub ready : Ready phases tables ws

@@ -77,7 +77,7 @@ module _ {S : Type 0} {At Between : ℕ → S → S → Type 0} {Fine : Bag → 
   -- what stands where the instant at u is done
   pub kept_on : (p : Progress S) (u : ℕ) (s' : S) (xs : List Output) → Between p.opening p.state p.state → k.next p.state ≡ finite u → Whole k u [] p.state xs s'
       → (p.opening ≤ u) × Between (suc u) s' s'
-  kept_on p u s' xs b e w = let h = opened p u b e in (h.0, after u [] p.state s' xs a.fine-none h.1 (whole-instant k u [] p.state s' xs w))
+  kept_on p u s' xs b e w = let h = opened p u b e in (h.0, after u [] p.state s' xs a.fine_none h.1 (whole-instant k u [] p.state s' xs w))
 
   -- ---- it ends so
 

@@ -88,8 +88,8 @@ module _ (m : Model) (w : WellFormed m) where
       → Agree AtSame BetweenSame Fine (nested m) k
   agree-entries Fine k none empty same_next same_out same-state = record {
     same_next = λ now rs qs h. same_next now rs h.1 ∙ ap k.next h.0;
-    fine-none = none;
-    fine-empty = empty;
+    fine_none = none;
+    fine_empty = empty;
     same_out = λ now x y rs qs h f. subst (λ z. SameOutput (step m now x rs).out (k.step now y z).out) h.0 (same_out now x y rs h.1 f);
     steps = λ now x y rs qs h f. (same-state now x y rs h.1 f ∙ ap (λ z. (k.step now y z).state) h.0, kept_step now x rs h.1);
     early = λ o rs qs h. fit-early o rs h.1;

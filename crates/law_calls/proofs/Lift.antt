@@ -37,8 +37,8 @@ module _ {S₁ S₂ : Type 0} where
   -- (`Between`); given bags that are alike (`Fine`).
   pub record Agree (At Between : ℕ → S₁ → S₂ → Type 0) (Fine : Bag → Bag → Type 0) (k₁ : Simulator S₁) (k₂ : Simulator S₂) : Type 0 where
     pub same_next : (now : ℕ) (s : S₁) (q : S₂) → At now s q → k₁.next s ≡ k₂.next q
-    pub fine-none : Fine [] []
-    pub fine-empty : (x y : Bag) → Fine x y → is_empty x ≡ is_empty y
+    pub fine_none : Fine [] []
+    pub fine_empty : (x y : Bag) → Fine x y → is_empty x ≡ is_empty y
     pub same_out : (now : ℕ) (x y : Bag) (s : S₁) (q : S₂) → At now s q → Fine x y → SameOutput (k₁.step now x s).out (k₂.step now y q).out
     pub steps : (now : ℕ) (x y : Bag) (s : S₁) (q : S₂) → At now s q → Fine x y → At now (k₁.step now x s).state (k₂.step now y q).state
     -- nothing is due before the open moment
@@ -88,7 +88,7 @@ module _ {S₁ S₂ : Type 0} where
 
     same-goes : (now : ℕ) (x y : Bag) (s : S₁) (q : S₂) → At now s q → Fine x y → goes_on k₁ now x s ≡ goes_on k₂ now y q
     unfolding goes_on is_due
-    same-goes now x y s q g f = ap₂ (λ u b. same_time u (finite now) || not b) (k.same_next now s q g) (k.fine-empty x y f)
+    same-goes now x y s q g f = ap₂ (λ u b. same_time u (finite now) || not b) (k.same_next now s q g) (k.fine_empty x y f)
 
     not_going : (now : ℕ) (x : Bag) (s : S₁) → goes_on k₁ now x s ≡ false → is_due k₁ now s ≡ false
     unfolding goes_on
@@ -107,7 +107,7 @@ module _ {S₁ S₂ : Type 0} where
         go false e = (refl, refl, g, not_going now x s e)
     steps-same (suc n) now x y s q g f =
         rw (← same-goes now x y s q g f)
-        (go (goes_on k₁ now x s) refl _ _ (same-stepped now s _ q _ _ _ _ _ (k.same_out now x y s q g f) (steps-same n now [] [] _ _ (k.steps now x y s q g f) k.fine-none)))
+        (go (goes_on k₁ now x s) refl _ _ (same-stepped now s _ q _ _ _ _ _ (k.same_out now x y s q g f) (steps-same n now [] [] _ _ (k.steps now x y s q g f) k.fine_none)))
       where
         go : (b : Bool) → goes_on k₁ now x s ≡ b → (i : Instant S₁) (j : Instant S₂) → SameInstant now s q i j → SameInstant now s q (cond b i (done [] s)) (cond b j (done [] q))
         go true e i j h = h
@@ -201,7 +201,7 @@ module _ {S₁ S₂ : Type 0} where
               let b = before-t t p.opening u (k.early p.opening p.state q.state a.state) e in
               let at = k.opens p.opening (ticks u) p.state q.state a.state b.0 b.2 in
               continued-alike t (ticks u) _ _ p q _ _ a o
-              (tried-alike room (ticks u) p q _ _ a b.0 (instant-same (ticks u) [] [] p.state q.state at k.fine-none))
+              (tried-alike room (ticks u) p q _ _ a b.0 (instant-same (ticks u) [] [] p.state q.state at k.fine_none))
               (λ p' q' h. ih p' q' h.0 (omega (arith, h.1, b.1)))
           go false e ih =
               let at = k.opens p.opening t p.state q.state a.state o (not-before-t t u e) in

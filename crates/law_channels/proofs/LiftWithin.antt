@@ -59,7 +59,7 @@ module _ {S₁ S₂ : Type 0} {At Between : ℕ → S₁ → S₂ → Type 0} {F
             let b = before-t t p.opening u (k.early p.opening p.state q.state a.state) e in
             let at = k.opens p.opening (ticks u) p.state q.state a.state b.0 b.2 in
             continued-alike k t (ticks u) _ _ p q _ _ a o
-            (tried-within-alike room (ticks u) p q _ _ a b.0 (instant-same k (ticks u) [] [] p.state q.state at k.fine-none))
+            (tried-within-alike room (ticks u) p q _ _ a b.0 (instant-same k (ticks u) [] [] p.state q.state at k.fine_none))
             (λ p' q' h. ih p' q' h.0 (omega (arith, h.1, b.1)))
         go false e ih =
             let at = k.opens p.opening t p.state q.state a.state o (not-before-t t u e) in

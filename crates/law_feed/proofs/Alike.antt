@@ -80,7 +80,7 @@ module _ {S T : Type 0} {At Between : ℕ → S → T → Type 0} {Fine : Bag �
 
   fine_end : (end : ℕ) → FineBag (end_call end)
   unfolding to_bag chunks
-  fine_end end = agree.fine-none
+  fine_end end = agree.fine_none
 
   pub agree-bags-alike : (cs : List FeedBag) → Every FineBag cs → (n : ℕ) (p : Progress S) (q : Progress T) → Alike Between p q → InTime p.opening cs
       → OnwardAlike Between (bags_onward k room cs n p) (bags_onward j room cs n q)

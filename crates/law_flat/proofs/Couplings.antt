@@ -24,7 +24,7 @@ module _ (cs : List Component) (w : Rooted cs) where
   unfolding is_child par
   own zero d e l = rw (← e)
   own (suc c) d e l =
-      let p = w.parent-below (suc c) (omega arith) l in
+      let p = w.parent_below (suc c) (omega arith) l in
       rw (← e, ne_eqb (component_at cs (suc c)).parent (suc c) (λ q. omega arith)) (and-false (not (eqb (suc c) 0)))
 
   alone : (c d : ℕ) → c ≡ d → is_sibling cs c d ≡ false

@@ -68,7 +68,7 @@ module _ (m : Model) (w : WellFormed m) where
   some = w.some_component
 
   pub few-atomics : length (atomics m.components) < length m.components
-  few-atomics = fewer m.components some (rooted m.components fit some).root-coupled
+  few-atomics = fewer m.components some (rooted m.components fit some).root_coupled
 
   pub flat-length : length (flat_components m.components) ≡ suc (length (atomics m.components))
   unfolding flat_components

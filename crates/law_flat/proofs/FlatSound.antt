@@ -142,8 +142,8 @@ module _ (m : Model) (w : WellFormed m) where
   route-fits k h =
       let p = route-parts m w k h in
       and-true _ _
-      (and-true _ _ (and-true _ _ (and-true _ _ (lt-ltb _ _ (new-low m w k.source p.source-listed)) (lt-ltb _ _ (new-low m w k.target p.target-listed))) p.source-low) p.target-low)
-      (flat-related k.source k.target p.two (listed-cases cs k.source p.source-listed) (listed-cases cs k.target p.target-listed))
+      (and-true _ _ (and-true _ _ (and-true _ _ (lt-ltb _ _ (new-low m w k.source p.source_listed)) (lt-ltb _ _ (new-low m w k.target p.target_listed))) p.source_low) p.target_low)
+      (flat-related k.source k.target p.two (listed-cases cs k.source p.source_listed) (listed-cases cs k.target p.target_listed))
 
   -- so each coupling of the flat form keeps its lines, and is kept by its bytes
   flat-couplings : all (coupling_fields (flat_components m.components)) (flat m).couplings ≡ true
@@ -178,7 +178,7 @@ module _ (m : Model) (w : WellFormed m) where
   flat_sound few = record {
     some_component = omega (arith, flat-length m w);
     components = components-checked m w;
-    phase-count = w.phase-count ∙ sym (length-bounds cs) ∙ ap length (sym (flat-bounds m w)) ∙ length-bounds (flat_components cs);
+    phase_count = w.phase_count ∙ sym (length-bounds cs) ∙ ap length (sym (flat-bounds m w)) ∙ length-bounds (flat_components cs);
     phases = phases-checked;
     rules = rules-checked;
     couplings = couplings-checked few;

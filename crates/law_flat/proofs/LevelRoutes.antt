@@ -174,7 +174,7 @@ module _ (m : Model) (w : WellFormed m) (level : parts_of_root m ≡ forest (map
         both false = refl
 
         plain : (c : ℕ) → 0 ≡ c → is_atomic cs c ≡ false
-        plain c e = ap (is_atomic cs) (sym e) ∙ wood.root-coupled
+        plain c e = ap (is_atomic cs) (sym e) ∙ wood.root_coupled
 
         other : (c : ℕ) → is_atomic cs c ≡ true → eqb c 0 ≡ false
         other c e = ne_eqb c 0 (λ q. clash e (plain c (sym q)))
@@ -206,7 +206,7 @@ module _ (m : Model) (w : WellFormed m) (level : parts_of_root m ≡ forest (map
   unfolding routes
   routes-sum g =
       let ks = m.couplings in
-      ap (λ t. sum_of g (joined_all 0 (ends_in ks t) ++ ways_from ks root_ends t)) (tree_shape m wood.root-coupled ∙ ap (node 0) level)
+      ap (λ t. sum_of g (joined_all 0 (ends_in ks t) ++ ways_from ks root_ends t)) (tree_shape m wood.root_coupled ∙ ap (node 0) level)
       ∙ level-sum g ks (atomics cs) ∙ sum-cong-if (coupling_fields cs) _ g ks (couplings-fit m w) (one-route g)
 
   pub level-routes : Permᴰ (routes m) m.couplings

@@ -75,16 +75,16 @@ module _ (m : Model) (w : WellFormed m) where
   pub routes-fit : all route_fits (routes m) ≡ true
   unfolding routes tree
   routes-fit =
-      routes-of (tree m) (parts_of_root m) (tree_shape m wood.root-coupled) (leaves-atomic m.components w.components.fit w.some_component)
+      routes-of (tree m) (parts_of_root m) (tree_shape m wood.root_coupled) (leaves-atomic m.components w.components.fit w.some_component)
       (λ a. omega (arith, leaf-occurs m.components w.components.fit w.some_component a, atomic-most m.components w.components.fit w.some_component a))
 
   -- the same, one by one
   pub record RouteParts (k : Coupling) : Type 0 where
-    pub source-listed : is_listed m.components k.source ≡ true
-    pub source-low : ltb k.source_port port_count ≡ true
-    pub target-listed : is_listed m.components k.target ≡ true
+    pub source_listed : is_listed m.components k.source ≡ true
+    pub source_low : ltb k.source_port port_count ≡ true
+    pub target_listed : is_listed m.components k.target ≡ true
     pub two : eqb k.source k.target ≡ false
-    pub target-low : ltb k.target_port port_count ≡ true
+    pub target_low : ltb k.target_port port_count ≡ true
 
   pub route-parts : (k : Coupling) → route_fits k ≡ true → RouteParts k
   unfolding route_fits
@@ -95,9 +95,9 @@ module _ (m : Model) (w : WellFormed m) where
       let y = and_right (a && ltb k.source_port port_count) _ h in
       let z = and_left (b && not (eqb k.source k.target)) _ y in
       record {
-        source-listed = and_left a _ x;
-        source-low = and_right a _ x;
-        target-listed = and_left b _ z;
+        source_listed = and_left a _ x;
+        source_low = and_right a _ x;
+        target_listed = and_left b _ z;
         two = not-true (eqb k.source k.target) (and_right b _ z);
-        target-low = and_right (b && not (eqb k.source k.target)) _ y;
+        target_low = and_right (b && not (eqb k.source k.target)) _ y;
       }

@@ -58,19 +58,19 @@ fields-written (w ∷ ws) at {r} l h =
 pub record Spelled {A : Type 0} (size : ℕ) (layout : A → Layout) (to : Bytes → A) : Type 0 where
   pub widths : List ℕ
   pub total : sum widths ≡ size
-  pub as-laid : (x : A) → widths_of (layout x) ≡ widths
+  pub as_laid : (x : A) → widths_of (layout x) ≡ widths
   pub as_read : (r : Bytes) → layout (to r) ≡ fields_at widths 0 r
   pub apart : (x y : A) → layout x ≡ layout y → x ≡ y
 
 module _ {A : Type 0} {size : ℕ} {layout : A → Layout} {to : Bytes → A} (k : Spelled size layout to) where
   pub record-size : (x : A) → length (laid_out (layout x)) ≡ size
-  record-size x = length-laid (layout x) ∙ ap sum (k.as-laid x) ∙ k.total
+  record-size x = length-laid (layout x) ∙ ap sum (k.as_laid x) ∙ k.total
 
   -- a record whose fields its widths hold is read back
   pub record-back : (x : A) → Held (layout x) → to (laid_out (layout x)) ≡ x
   record-back x h =
       let r = laid_out (layout x) in
-      k.apart (to r) x (k.as_read r ∙ ap (λ ws. fields_at ws 0 r) (sym (k.as-laid x)) ∙ fields_back (layout x) 0 [] refl h)
+      k.apart (to r) x (k.as_read r ∙ ap (λ ws. fields_at ws 0 r) (sym (k.as_laid x)) ∙ fields_back (layout x) 0 [] refl h)
 
   -- a record read of bytes is held by its widths, and written as the same bytes
   pub record-held : {r : Bytes} → AllBytes r → Held (layout (to r))

@@ -91,7 +91,7 @@ module _ (m : Model) (w : WellFormed m) (c : ℕ) where
       let cs = m.components in
       let i = phases_before cs c + p in
       let b = bound_at cs c p h in
-      omega (arith, b.0, next-below _ _ (w.phases.fit i (omega (arith, b.1, length-bounds cs, w.phase-count))))
+      omega (arith, b.0, next-below _ _ (w.phases.fit i (omega (arith, b.1, length-bounds cs, w.phase_count))))
 
   rule-own : (k : Rule) → rule_fields m.components k ≡ true → k.component ≡ c → Own k.next
   unfolding rule_fields

@@ -84,14 +84,14 @@ decode-sound s m h e =
     let D = bind_ok (coupling_section cs C.0.rest) (λ d. further_sections C.0.records d.rest >>= λ r. ok (record { components = cs; phases = B.0.records; rules = C.0.records; couplings = d.records; ranges = r })) m C.2 in
     let E = bind_ok (further_sections C.0.records D.0.rest) _ m D.2 in
     let a = section-given component_size component_count_refusal to_component component_bytes component_fits 4 max_components s A.0 h components-within component-kept A.1 in
-    let b = section-given phase_size (phase_count_refusal total) to_phase phase_bytes (phase_fits cs) 6 max_phases A.0.rest B.0 a.rest-bytes (λ n r. (phases-right total n r).0) phase-kept B.1 in
-    let c = section-given rule_size (limit_refusal max_rules) to_rule rule_bytes (rule_fits cs) 7 max_rules B.0.rest C.0 b.rest-bytes (most-within max_rules) rule-kept C.1 in
-    let d = section-given coupling_size (limit_refusal max_couplings) to_coupling coupling_bytes (coupling_fits cs) 8 max_couplings C.0.rest D.0 c.rest-bytes (most-within max_couplings) coupling-kept D.1 in
+    let b = section-given phase_size (phase_count_refusal total) to_phase phase_bytes (phase_fits cs) 6 max_phases A.0.rest B.0 a.rest_bytes (λ n r. (phases-right total n r).0) phase-kept B.1 in
+    let c = section-given rule_size (limit_refusal max_rules) to_rule rule_bytes (rule_fits cs) 7 max_rules B.0.rest C.0 b.rest_bytes (most-within max_rules) rule-kept C.1 in
+    let d = section-given coupling_size (limit_refusal max_couplings) to_coupling coupling_bytes (coupling_fits cs) 8 max_couplings C.0.rest D.0 c.rest_bytes (most-within max_couplings) coupling-kept D.1 in
     subst WellFormed (ok_same _ m E.2)
     (record {
       some_component = components-some (length cs) a.right;
       components = a.checked;
-      phase-count = (phases-right total (length B.0.records) b.right).1;
+      phase_count = (phases-right total (length B.0.records) b.right).1;
       phases = b.checked;
       rules = c.checked;
       couplings = d.checked;

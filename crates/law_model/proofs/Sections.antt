@@ -36,7 +36,7 @@ module _ {A : Type 0} (size : ℕ) (wrong : ℕ → ℕ) (to : Bytes → A) (byt
   pub record Given (a : Section A) : Type 0 where
     pub right : wrong (length a.records) ≡ 0
     pub checked : Checked limit to bytes fits a.records
-    pub rest-bytes : AllBytes a.rest
+    pub rest_bytes : AllBytes a.rest
 
   count-ok : (s : Bytes) (n : ℕ) → section_count size wrong s ≡ ok n → wrong n ≡ 0
   unfolding section_count
@@ -72,7 +72,7 @@ module _ {A : Type 0} (size : ℕ) (wrong : ℕ → ℕ) (to : Bytes → A) (byt
           held = held_rows n (drop-bytes count_size b) kept;
           fit = λ i l. each (fits xs) 0 n (not-false (all (fits xs) (up_from 0 n)) e₁.0) i (omega arith) (omega (arith, long));
         };
-        rest-bytes = drop-bytes (count_size + n * size) b;
+        rest_bytes = drop-bytes (count_size + n * size) b;
       })
 
   pub section-back : ((x : A) → length (bytes x) ≡ size) → limit < 256 ^ count_size → (xs : List A) (rest : Bytes) → wrong (length xs) ≡ 0

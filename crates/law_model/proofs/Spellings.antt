@@ -22,7 +22,7 @@ unfolding sum fields_at to_component field
 component-spelled = record {
   widths = 1 ∷ 1 ∷ 1 ∷ 1 ∷ 1 ∷ [];
   total = refl;
-  as-laid = λ x. refl;
+  as_laid = λ x. refl;
   as_read = λ r. refl;
   apart = λ x y e.
       let at : (i : ℕ) → field i (component_layout x) ≡ field i (component_layout y) = λ i. ap (field i) e in
@@ -34,7 +34,7 @@ unfolding sum fields_at to_phase message_at slots concat field
 phase-spelled = record {
   widths = 4 ∷ 1 ∷ 1 ∷ 1 ∷ 2 ∷ 1 ∷ 2 ∷ 1 ∷ 2 ∷ 1 ∷ 2 ∷ [];
   total = refl;
-  as-laid = λ x. refl;
+  as_laid = λ x. refl;
   as_read = λ r. refl;
   apart = λ x y e.
       let at : (i : ℕ) → field i (phase_layout x) ≡ field i (phase_layout y) = λ i. ap (field i) e in
@@ -54,7 +54,7 @@ unfolding sum fields_at to_rule field
 rule-spelled = record {
   widths = 1 ∷ 1 ∷ 1 ∷ 1 ∷ 2 ∷ 2 ∷ 2 ∷ 4 ∷ 4 ∷ [];
   total = refl;
-  as-laid = λ x. refl;
+  as_laid = λ x. refl;
   as_read = λ r. refl;
   apart = λ x y e.
       let at : (i : ℕ) → field i (rule_layout x) ≡ field i (rule_layout y) = λ i. ap (field i) e in
@@ -76,7 +76,7 @@ unfolding sum fields_at to_coupling field
 coupling-spelled = record {
   widths = 1 ∷ 1 ∷ 1 ∷ 1 ∷ [];
   total = refl;
-  as-laid = λ x. refl;
+  as_laid = λ x. refl;
   as_read = λ r. refl;
   apart = λ x y e.
       let at : (i : ℕ) → field i (coupling_layout x) ≡ field i (coupling_layout y) = λ i. ap (field i) e in
@@ -88,7 +88,7 @@ unfolding sum fields_at message_at field
 message-spelled = record {
   widths = 1 ∷ 2 ∷ [];
   total = refl;
-  as-laid = λ x. refl;
+  as_laid = λ x. refl;
   as_read = λ r. refl;
   apart = λ x y e.
       let at : (i : ℕ) → field i (message_layout x) ≡ field i (message_layout y) = λ i. ap (field i) e in
@@ -104,7 +104,7 @@ unfolding sum fields_at to_entry field
 entry-spelled = record {
   widths = 1 ∷ 8 ∷ [];
   total = refl;
-  as-laid = λ x. refl;
+  as_laid = λ x. refl;
   as_read = λ r. refl;
   apart = λ x y e.
       let at : (i : ℕ) → field i (entry_layout x) ≡ field i (entry_layout y) = λ i. ap (field i) e in

@@ -27,7 +27,7 @@ pub record Checked {A : Type 0} (limit : ℕ) (to : Bytes → A) (bytes : A → 
 pub record WellFormed (m : Model) : Type 0 where
   pub some_component : 0 < length m.components
   pub components : Checked max_components to_component component_bytes component_fits m.components
-  pub phase-count : length m.phases ≡ phase_total m.components
+  pub phase_count : length m.phases ≡ phase_total m.components
   pub phases : Checked max_phases to_phase phase_bytes (phase_fits m.components) m.phases
   pub rules : Checked max_rules to_rule rule_bytes (rule_fits m.components) m.rules
   pub couplings : Checked max_couplings to_coupling coupling_bytes (coupling_fits m.components) m.couplings

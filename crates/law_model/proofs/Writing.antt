@@ -70,7 +70,7 @@ module _ (m : Model) (w : WellFormed m) (rest : Bytes) where
   phases-back =
       let total = phase_total m.components in
       section-back phase_size (phase_count_refusal total) to_phase phase_bytes (phase_fits m.components) 6 max_phases phase-size (omega arith) m.phases rest
-      (phases-right total (length m.phases) w.phases.few w.phase-count) w.phases
+      (phases-right total (length m.phases) w.phases.few w.phase_count) w.phases
 
   rules-back : rule_section m.components (section_bytes rule_bytes m.rules ++ rest) ≡ ok (record { records = m.rules; rest = rest })
   unfolding rule_section

@@ -57,7 +57,7 @@ atomic-below cs c e = go (ltb c (length cs)) refl
     go false f = absurd (clash e (ap (λ k. eqb k.kind 1) (get_or-eq_default cs no_component (ltb-false c (length cs) f))))
 
 pub root-not : (cs : List Component) (c : ℕ) → Rooted cs → is_atomic cs c ≡ true → eqb 0 c ≡ false
-root-not cs c w e = ne_eqb 0 c (λ d. clash e (ap (is_atomic cs) (sym d) ∙ w.root-coupled))
+root-not cs c w e = ne_eqb 0 c (λ d. clash e (ap (is_atomic cs) (sym d) ∙ w.root_coupled))
 
 module _ (cs : List Component) (h : ComponentsFit cs) (l : 0 < length cs) where
   -- ---- each component, by its number
@@ -82,9 +82,9 @@ module _ (cs : List Component) (h : ComponentsFit cs) (l : 0 < length cs) where
   pub rooted : Rooted cs
   unfolding place_fits par
   rooted = record {
-    root-coupled = not-atomic cs 0 root-kind;
-    parent-below = λ c z b. ltb-true (par cs c) c (and_left (ltb (par cs c) c) _ (and_left (ltb (par cs c) c && eqb (component_at cs (par cs c)).kind 0) _ (place c z b)));
-    parent-coupled = λ c z b.
+    root_coupled = not-atomic cs 0 root-kind;
+    parent_below = λ c z b. ltb-true (par cs c) c (and_left (ltb (par cs c) c) _ (and_left (ltb (par cs c) c && eqb (component_at cs (par cs c)).kind 0) _ (place c z b)));
+    parent_coupled = λ c z b.
         not-atomic cs (par cs c) (eqb-true _ 0 (and_right (ltb (par cs c) c) _ (and_left (ltb (par cs c) c && eqb (component_at cs (par cs c)).kind 0) _ (place c z b))));
   }
 
@@ -182,7 +182,7 @@ root m = node 0 (parts_of_root m)
 
 module _ (m : Model) (w : WellFormed m) where
   pub shape : tree m ≡ root m
-  shape = tree_shape m (rooted m.components w.components.fit w.some_component).root-coupled
+  shape = tree_shape m (rooted m.components w.components.fit w.some_component).root_coupled
 
   pub leaves : all (is_atomic m.components) (leaves_t (root m)) ≡ true
   unfolding tree

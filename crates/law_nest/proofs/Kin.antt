@@ -22,9 +22,9 @@ module _ (cs : List Component) where
 
   -- what the decoder has checked of the components
   pub record Rooted : Type 0 where
-    pub root-coupled : is_atomic cs 0 ≡ false
-    pub parent-below : (c : ℕ) → 0 < c → c < length cs → par c < c
-    pub parent-coupled : (c : ℕ) → 0 < c → c < length cs → is_atomic cs (par c) ≡ false
+    pub root_coupled : is_atomic cs 0 ≡ false
+    pub parent_below : (c : ℕ) → 0 < c → c < length cs → par c < c
+    pub parent_coupled : (c : ℕ) → 0 < c → c < length cs → is_atomic cs (par c) ≡ false
 
   -- an atomic and a coupled component are two
   apart : (r c : ℕ) → is_atomic cs r ≡ true → is_atomic cs c ≡ false → eqb r c ≡ false
@@ -49,7 +49,7 @@ module _ (cs : List Component) where
     root-once zero c h l = absurd (omega arith)
     root-once (suc k) zero h l = refl
     root-once (suc k) (suc c) h l =
-        let b = w.parent-below (suc c) (omega arith) l in
+        let b = w.parent_below (suc c) (omega arith) l in
         let i = root-once k (par (suc c)) (omega arith) (omega arith) in
         rw (ne_eqb 0 (suc c) (omega arith), ne_eqb (suc c) 0 (omega arith)) (omega arith)
 
@@ -59,8 +59,8 @@ module _ (cs : List Component) where
     atomic-no-ancestor zero r c e l f = refl
     atomic-no-ancestor (suc k) r zero e l f = rw (apart r 0 e f)
     atomic-no-ancestor (suc k) r (suc c) e l f =
-        let b = w.parent-below (suc c) (omega arith) l in
-        let i = atomic-no-ancestor k r (par (suc c)) e (omega arith) (w.parent-coupled (suc c) (omega arith) l) in
+        let b = w.parent_below (suc c) (omega arith) l in
+        let i = atomic-no-ancestor k r (par (suc c)) e (omega arith) (w.parent_coupled (suc c) (omega arith) l) in
         rw (apart r (suc c) e f, ne_eqb (suc c) 0 (omega arith)) (omega arith)
 
     kids-root : (k r : ℕ) → 0 < length cs → sum_of (λ d. anc (suc k) d 0) (children cs r) ≡ 0
@@ -74,7 +74,7 @@ module _ (cs : List Component) where
     kids zero r (suc c) h l = absurd (omega arith)
     kids (suc k) r zero h l = kids-root (suc k) r l
     kids (suc k) r (suc c) h l =
-        let b = w.parent-below (suc c) (omega arith) l in
+        let b = w.parent_below (suc c) (omega arith) l in
         let rest = kids k r (par (suc c)) (omega arith) (omega arith) in
         let first : sum_of (λ d. cond (eqb d (suc c)) 1 0) (children cs r) ≡ cond (eqb r (par (suc c))) 1 0
         = only r (suc c) l ∙ rw (ne_eqb (suc c) 0 (omega arith), eqb-sym (par (suc c)) r) in
@@ -82,7 +82,7 @@ module _ (cs : List Component) where
         (sum-add (λ d. cond (eqb d (suc c)) 1 0) (λ d. anc (suc k) d (par (suc c))) (children cs r) ∙ ap₂ ◌+◌ first rest)
 
     pub above : (a : ℕ) → is_atomic cs a ≡ true → a < length cs → 0 < a
-    above zero e l = absurd (clash e w.root-coupled)
+    above zero e l = absurd (clash e w.root_coupled)
     above (suc a) e l = omega arith
 
     pub child-above : (r d : ℕ) → is_child cs r d ≡ true → d < length cs → r < d
@@ -90,7 +90,7 @@ module _ (cs : List Component) where
     child-above r zero p q = absurd (clash p refl)
     child-above r (suc d) p q =
         let e = eqb-true (par (suc d)) r (and_right (not (eqb (suc d) 0)) _ p) in
-        let b = w.parent-below (suc d) (omega arith) q in
+        let b = w.parent_below (suc d) (omega arith) q in
         omega arith
 
     -- the tree of r has the atomic a as a leaf as often as r stands above it
@@ -105,8 +105,8 @@ module _ (cs : List Component) where
             → occurs a (leaves_t (cond (is_atomic cs r) (leaf r) (node r (forest (map (λ d. tree_at fuel cs d) (children cs r)))))) ≡ anc (suc k) r a
         go true f ih =
             let z = above a e l in
-            let b = w.parent-below a z l in
-            let i = atomic-no-ancestor k r (par a) f (omega arith) (w.parent-coupled a z l) in
+            let b = w.parent_below a z l in
+            let i = atomic-no-ancestor k r (par a) f (omega arith) (w.parent_coupled a z l) in
             rw (f, eqb-sym r a, ne_eqb a 0 (omega arith)) (omega arith)
         go false f ih =
             let i = forest-occurs a (λ d. tree_at fuel cs d) (children cs r)

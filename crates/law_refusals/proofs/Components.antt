@@ -14,7 +14,7 @@ use Rattle.definition.specs.Pinned.Decoder.{to_component, coupled_fields, atomic
 use Rattle.definition.specs.Sound.{Ancestors, of_root, of_child, ComponentKeeps, component_form}
 use Rattle.law_refusals.proofs.Tests.{Decides, less, most, equal, reworded, both, either}
 use Rattle.law_model.proofs.Spellings.{component-spelled}
-use Rattle.law_refusals.proofs.Sections.{Counted, none-applies, over-limit, Reads}
+use Rattle.law_refusals.proofs.Sections.{Counted, none_applies, over_limit, Reads}
 
 -- ---- "kind (0 coupled, 1 atomic)" with the fields of each
 
@@ -122,9 +122,9 @@ unfolding component_count_refusal
 component-counted n = go (ltb max_components n) refl (eqb n 0) refl
   where
     go : (t : Bool) → ltb max_components n ≡ t → (u : Bool) → eqb n 0 ≡ u → Counted component_form component_count_refusal n
-    go true e u g = over-limit (λ h. omega (arith, h.1, ltb-true max_components n e)) (rw e)
-    go false e true g = over-limit (λ h. omega (arith, h.0, eqb-true n 0 g)) (rw (e, g))
-    go false e false g = none-applies (omega (arith, eqb-false n 0 g), ltb-false max_components n e) tt (rw (e, g))
+    go true e u g = over_limit (λ h. omega (arith, h.1, ltb-true max_components n e)) (rw e)
+    go false e true g = over_limit (λ h. omega (arith, h.0, eqb-true n 0 g)) (rw (e, g))
+    go false e false g = none_applies (omega (arith, eqb-false n 0 g), ltb-false max_components n e) tt (rw (e, g))
 
 pub component-reads : Reads component_form component_count_refusal to_component component_fits
 component-reads = record {

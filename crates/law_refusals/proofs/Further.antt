@@ -28,19 +28,19 @@ fifth-told s r rest (present u e) = rw e (fifth-read u)
 
 -- What turns out to follow the couplings.
 pub data Followed (s : Bytes) : Type 0 where
-  by-none : ((r : RangeReading) (rest : Bytes) → Fifth s r rest → ⊥) → fifth_section s ≡ refused 20 → Followed s
-  by-fifth : (r : RangeReading) (rest : Bytes) → Fifth s r rest → Followed s
+  by_none : ((r : RangeReading) (rest : Bytes) → Fifth s r rest → ⊥) → fifth_section s ≡ refused 20 → Followed s
+  by_fifth : (r : RangeReading) (rest : Bytes) → Fifth s r rest → Followed s
 
 pub followed : (s : Bytes) → Followed s
 unfolding fifth_section
-followed [] = by-fifth inclusive [] (absent refl)
+followed [] = by_fifth inclusive [] (absent refl)
 followed (b ∷ s) = go (is_fifth (b ∷ s)) refl
   where
     go : (t : Bool) → is_fifth (b ∷ s) ≡ t → Followed (b ∷ s)
-    go true e = by-fifth half_open (drop fifth_size (b ∷ s)) (present _ (fifth-spelled (b ∷ s) e))
+    go true e = by_fifth half_open (drop fifth_size (b ∷ s)) (present _ (fifth-spelled (b ∷ s) e))
     go false e =
         let refuses : fifth_section (b ∷ s) ≡ refused 20 = rw e in
-        by-none (λ r rest f. never-ok 20 _ (sym refuses ∙ fifth-told (b ∷ s) r rest f)) refuses
+        by_none (λ r rest f. never-ok 20 _ (sym refuses ∙ fifth-told (b ∷ s) r rest f)) refuses
 
 -- ---- its bytes
 
@@ -66,7 +66,7 @@ ends-test r rs = each (elapsed_fits r) (ElapsedKeeps r) (fits-test r) rs
 
 -- A fifth section was read, and the rule at some place has equal ends.
 pub record EqualEnds (r : RangeReading) (rs : List Rule) : Type 0 where
-  pub half-open : r ≡ half_open
+  pub half_open_lem : r ≡ half_open
   pub place : ℕ
   pub there : place < length rs
   pub equal : (get_or rs place no_rule).low_elapsed ≡ (get_or rs place no_rule).high_elapsed
@@ -84,7 +84,7 @@ fail-equal r rs keeps e = let f = missed no_rule (elapsed_fits r) rs e in go r f
     go inclusive i l e = absurd (clash ((fits-test inclusive (get_or rs i no_rule)).passes tt) e)
     go half_open i l e =
         let k = get_or rs i no_rule in
-        record { half-open = refl; place = i; there = l; equal = omega (arith, keeps i l, ltb-false k.low_elapsed k.high_elapsed e) }
+        record { half_open_lem = refl; place = i; there = l; equal = omega (arith, keeps i l, ltb-false k.low_elapsed k.high_elapsed e) }
 
 -- ---- all that follows
 
@@ -92,8 +92,8 @@ pub further-none : (rs : List Rule) (s : Bytes) → ((r : RangeReading) (rest : 
 further-none rs s h = go (followed s)
   where
     go : Followed s → further_sections rs s ≡ refused 20
-    go (by-none f e) = unfold further_sections in (rw e)
-    go (by-fifth r rest f) = absurd (h r rest f)
+    go (by_none f e) = unfold further_sections in (rw e)
+    go (by_fifth r rest f) = absurd (h r rest f)
 
 -- where a fifth section was found, or nothing: the test of ranges, and the end of the file
 pub further-told : (rs : List Rule) (s : Bytes) (r : RangeReading) (rest : Bytes) → Fifth s r rest

@@ -25,7 +25,7 @@ use Rattle.law_refusals.proofs.Components.{component-reads}
 use Rattle.law_refusals.proofs.Phases.{phase-reads}
 use Rattle.law_refusals.proofs.Rules.{rule-reads}
 use Rattle.law_refusals.proofs.Couplings.{coupling-reads}
-use Rattle.law_refusals.proofs.Further.{Followed, by-none, by-fifth, followed, fifth-bytes, bytes-fifth, ends-test, equal-fail, fail-equal, further-none, further-told}
+use Rattle.law_refusals.proofs.Further.{Followed, by_none, by_fifth, followed, fifth-bytes, bytes-fifth, ends-test, equal-fail, fail-equal, further-none, further-told}
 
 -- ---- the four sections, whatever follows them
 
@@ -132,11 +132,11 @@ judged-further file m s p = section (followed s)
         judged-end file (read_as m r) rest (record { after_couplings = s; four = four-read m r p; fifth = f; elapsed = (ends-test r m.rules).holds e })
     ends r rest f false e =
         let q = fail-equal r m.rules (λ i l. (p.rules.lines.keeps i l).elapsed) e in
-        (7, equal_ends m s rest p (subst (λ r. Fifth s r rest) q.half-open f) q.place q.there q.equal)
+        (7, equal_ends m s rest p (subst (λ r. Fifth s r rest) q.half_open_lem f) q.place q.there q.equal)
 
     section : Followed s → (n : ℕ) × Judged file n
-    section (by-none h e) = (20, no_such_section m s p h)
-    section (by-fifth r rest f) = ends r rest f (all (elapsed_fits r) m.rules) refl
+    section (by_none h e) = (20, no_such_section m s p h)
+    section (by_fifth r rest f) = ends r rest f (all (elapsed_fits r) m.rules) refl
 
 some-row : (file : Bytes) → AllBytes file → (n : ℕ) × Judged file n
 some-row file h = components (found component-reads file h)

@@ -20,7 +20,7 @@ use Rattle.definition.specs.Sound.{NotAbove, slot_at, PhaseKeeps, phase_form}
 use Rattle.law_model.proofs.PhaseRange.{bound_at}
 use Rattle.law_refusals.proofs.Tests.{Decides, less, most, equal, reworded, both, both-then, either, every, rising, not-above}
 use Rattle.law_model.proofs.Spellings.{phase-spelled}
-use Rattle.law_refusals.proofs.Sections.{Counted, none-applies, over-limit, other-sum, Reads}
+use Rattle.law_refusals.proofs.Sections.{Counted, none_applies, over_limit, other_sum, Reads}
 
 -- ---- one phase
 
@@ -154,9 +154,9 @@ module _ (cs : List Component) where
   phase-counted n = go (ltb max_phases n) refl (eqb n (phase_total cs)) refl
     where
       go : (t : Bool) → ltb max_phases n ≡ t → (u : Bool) → eqb n (phase_total cs) ≡ u → Counted (phase_form cs) (phase_count_refusal (phase_total cs)) n
-      go true e u g = over-limit (λ h. omega (arith, ltb-true max_phases n e)) (rw e)
-      go false e true g = none-applies (ltb-false max_phases n e) (eqb-true n (phase_total cs) g) (rw (e, g))
-      go false e false g = other-sum (ltb-false max_phases n e) (eqb-false n (phase_total cs) g) (rw (e, g))
+      go true e u g = over_limit (λ h. omega (arith, ltb-true max_phases n e)) (rw e)
+      go false e true g = none_applies (ltb-false max_phases n e) (eqb-true n (phase_total cs) g) (rw (e, g))
+      go false e false g = other_sum (ltb-false max_phases n e) (eqb-false n (phase_total cs) g) (rw (e, g))
 
   pub phase-reads : Reads (phase_form cs) (phase_count_refusal (phase_total cs)) to_phase (phase_fits cs)
   phase-reads = record { spelled = phase-spelled; small = λ n h. omega arith; counted = phase-counted; line = phase-line }

@@ -14,7 +14,7 @@ use Rattle.definition.specs.Pinned.Decoder.{to_rule, rule_fields, rule_fits, lim
 use Rattle.definition.specs.Sound.{Form, RuleKeeps, rule_form}
 use Rattle.law_refusals.proofs.Tests.{Decides, less, most, equal, reworded, both}
 use Rattle.law_model.proofs.Spellings.{rule-spelled}
-use Rattle.law_refusals.proofs.Sections.{Counted, none-applies, over-limit, Reads}
+use Rattle.law_refusals.proofs.Sections.{Counted, none_applies, over_limit, Reads}
 
 -- ---- a count with a limit alone
 
@@ -23,8 +23,8 @@ unfolding limit_refusal
 limit-counted f limit n d right = go (ltb limit n) refl
   where
     go : (t : Bool) → ltb limit n ≡ t → Counted f (limit_refusal limit) n
-    go true e = over-limit (λ h. omega (arith, leb-true n limit (d.passes h), ltb-true limit n e)) (rw e)
-    go false e = none-applies (d.holds (le-leb n limit (ltb-false limit n e))) right (rw e)
+    go true e = over_limit (λ h. omega (arith, leb-true n limit (d.passes h), ltb-true limit n e)) (rw e)
+    go false e = none_applies (d.holds (le-leb n limit (ltb-false limit n e))) right (rw e)
 
 -- ---- rules
 

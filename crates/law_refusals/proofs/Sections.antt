@@ -27,9 +27,9 @@ use Rattle.law_model.proofs.Layouts.{Spelled, record-size}
 
 -- The number that a count gets, beside what the form says of the count.
 pub data Counted {A : Type 0} (f : Form A) (refusal : ℕ → ℕ) (n : ℕ) : Type 0 where
-  none-applies : f.Within n → f.Right n → refusal n ≡ 0 → Counted f refusal n
-  over-limit : (f.Within n → ⊥) → refusal n ≡ 3 → Counted f refusal n
-  other-sum : f.Within n → (f.Right n → ⊥) → refusal n ≡ 5 → Counted f refusal n
+  none_applies : f.Within n → f.Right n → refusal n ≡ 0 → Counted f refusal n
+  over_limit : (f.Within n → ⊥) → refusal n ≡ 3 → Counted f refusal n
+  other_sum : f.Within n → (f.Right n → ⊥) → refusal n ≡ 5 → Counted f refusal n
 
 -- The decoder reads sections of the form: its records are spelled, its counts get their numbers, its tests decide the lines.
 pub record Reads {A : Type 0} (f : Form A) (refusal : ℕ → ℕ) (to : Bytes → A) (fits : List A → ℕ → Bool) : Type 0 where
@@ -53,25 +53,25 @@ module _ {A : Type 0} {f : Form A} {refusal : ℕ → ℕ} {to : Bytes → A} {f
   within-right n a b = go (w.counted n)
     where
       go : Counted f refusal n → refusal n ≡ 0
-      go (none-applies x y e) = e
-      go (over-limit x e) = absurd (x a)
-      go (other-sum x y e) = absurd (y b)
+      go (none_applies x y e) = e
+      go (over_limit x e) = absurd (x a)
+      go (other_sum x y e) = absurd (y b)
 
   not_within : (n : ℕ) → (f.Within n → ⊥) → refusal n ≡ 3
   not_within n a = go (w.counted n)
     where
       go : Counted f refusal n → refusal n ≡ 3
-      go (none-applies x y e) = absurd (a x)
-      go (over-limit x e) = e
-      go (other-sum x y e) = absurd (a x)
+      go (none_applies x y e) = absurd (a x)
+      go (over_limit x e) = e
+      go (other_sum x y e) = absurd (a x)
 
   not_right : (n : ℕ) → f.Within n → (f.Right n → ⊥) → refusal n ≡ 5
   not_right n a b = go (w.counted n)
     where
       go : Counted f refusal n → refusal n ≡ 5
-      go (none-applies x y e) = absurd (b y)
-      go (over-limit x e) = absurd (x a)
-      go (other-sum x y e) = e
+      go (none_applies x y e) = absurd (b y)
+      go (over_limit x e) = absurd (x a)
+      go (other_sum x y e) = e
 
   -- ---- records spelled by a section are read of it
 
@@ -173,13 +173,13 @@ module _ {A : Type 0} {f : Form A} {refusal : ℕ → ℕ} {to : Bytes → A} {f
     counts = go (w.counted count)
       where
         go : Counted f refusal count → Found f s
-        go (none-applies a b e) = whole (ltb (length s) (count_size + count * f.size)) refl
+        go (none_applies a b e) = whole (ltb (length s) (count_size + count * f.size)) refl
           where
             whole : (t : Bool) → ltb (length s) (count_size + count * f.size) ≡ t → Found f s
             whole true l = stopped 1 (records_cut long a b (ltb-true (length s) _ l))
             whole false l = checked a b (ltb-false (length s) _ l)
-        go (over-limit a e) = stopped 3 (count_wrong long a)
-        go (other-sum a b e) = stopped 5 (not_the_sum long a b)
+        go (over_limit a e) = stopped 3 (count_wrong long a)
+        go (other_sum a b e) = stopped 5 (not_the_sum long a b)
 
   pub found : (s : Bytes) → AllBytes s → Found f s
   found s h = go (ltb (length s) count_size) refl

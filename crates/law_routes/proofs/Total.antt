@@ -85,8 +85,8 @@ routes-counted m table l r p h = rw (count-routes m r p l) (omega (arith, roots,
     atoms = min-over _ _ 0 (length m.components) (λ c i. one c (omega arith) (is_atomic m.components c))
 
 -- So it tells whether there are too many.
-pub over-limit : (a b : ℕ) → min ways_cap a ≡ min ways_cap b → ltb max_routes (min ways_cap a) ≡ ltb max_routes b
-over-limit a b e = go (ltb max_routes b) refl
+pub over_limit : (a b : ℕ) → min ways_cap a ≡ min ways_cap b → ltb max_routes (min ways_cap a) ≡ ltb max_routes b
+over_limit a b e = go (ltb max_routes b) refl
   where
     go : (t : Bool) → ltb max_routes b ≡ t → ltb max_routes (min ways_cap a) ≡ ltb max_routes b
     go true f = let g = ltb-true max_routes b f in rw f (lt-ltb max_routes (min ways_cap a) (omega arith))

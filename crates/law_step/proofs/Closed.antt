@@ -52,10 +52,10 @@ closes false b e = refl
 -- mark that is down is down at the children, and where a flag is down nothing may come.
 pub record Flags (m : Model) (w : WellFormed m) (t : List ℕ) (ps : List Phase) (es fs : List ℕ) (x : Bag) (sends : Node → List ℕ) : Type 0 where
   pub sent : (y : Node) → good m w y ≡ true → atomic_at m y ≡ true → sent_by ps es (code y) ≡ sends y
-  pub marks-down : (c d : ℕ) → is_child m.components c d ≡ true → d < length m.components → is_up es c ≡ false → is_up es d ≡ false
-  pub flags-down : (c q : ℕ) → 0 < c → c < length m.components → q < port_count → is_up fs c ≡ false
+  pub marks_down : (c d : ℕ) → is_child m.components c d ≡ true → d < length m.components → is_up es c ≡ false → is_up es d ≡ false
+  pub flags_down : (c q : ℕ) → 0 < c → c < length m.components → q < port_count → is_up fs c ≡ false
       → all (λ y. not (may_come es fs (code y))) (rows_at m (inn c q)) ≡ true
-  pub root-down : is_up fs 0 ≡ false → is_empty x ≡ true
+  pub root_down : is_up fs 0 ≡ false → is_empty x ≡ true
 
 module _ (m : Model) (w : WellFormed m) (t : List ℕ) (h : Tabled m t) (ps : List Phase) (es fs : List ℕ) (x : Bag) (sends : Node → List ℕ)
     (k : Flags m w t ps es fs x sends) where
@@ -196,7 +196,7 @@ module _ (m : Model) (w : WellFormed m) (t : List ℕ) (h : Tabled m t) (ps : Li
           (λ z f. let i = good-in m w z (and_left (good m w z) (child y z) f) in
           let c = and_right (good m w z) (child y z) f in
           ap not (may-out z i.1 (and_left z.output _ c)
-          ∙ k.marks-down y.component z.component (and_right z.output _ c) i.0 (sym (may-out y (good-in m w y g).1 o) ∙ e)))
+          ∙ k.marks_down y.component z.component (and_right z.output _ c) i.0 (sym (may-out y (good-in m w y g).1 o) ∙ e)))
           (all-and (good m w) (child y) (rows_at m y) (rows-good m w y) (child-outs y o))
 
   input-node : (y : Node) → y.output ≡ false → y ≡ inn y.component y.port
@@ -207,7 +207,7 @@ module _ (m : Model) (w : WellFormed m) (t : List ℕ) (h : Tabled m t) (ps : Li
   closed_in y g o r d =
       let i = good-in m w y g in
       closed y g d (λ e. ap (λ n. all (λ z. not (MayCome z)) (rows_at m n)) (input-node y o)
-      ∙ k.flags-down y.component y.port (let q = eqb-false y.component 0 r in omega arith) i.0 i.1 (sym (may-in y i.1 o) ∙ e))
+      ∙ k.flags_down y.component y.port (let q = eqb-false y.component 0 r in omega arith) i.0 i.1 (sym (may-in y i.1 o) ∙ e))
 
   -- the root's input flag is down where nothing is given
   pub empty : (y : Node) → good m w y ≡ true → output_at y ≡ false → root_at y ≡ true → up y ≡ false → given_at x y ≡ []
@@ -216,7 +216,7 @@ module _ (m : Model) (w : WellFormed m) (t : List ℕ) (h : Tabled m t) (ps : Li
       let i = good-in m w y g in
       let z = eqb-true y.component 0 r in
       let live : is_live t (code y) ≡ true = ap (λ y. is_live t (code y)) (input-node y o ∙ ap (λ c. inn c y.port) z) ∙ live-root y.port i.1 in
-      none-given (k.root-down (ap (is_up fs) (sym z) ∙ sym (may-in y i.1 o) ∙ idle y d live))
+      none-given (k.root_down (ap (is_up fs) (sym z) ∙ sym (may-in y i.1 o) ∙ idle y d live))
     where
       live-root : (q : ℕ) → q < port_count → is_live t (code (inn 0 q)) ≡ true
       live-root q l = unfold code in (h.given_live q l)

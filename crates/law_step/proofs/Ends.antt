@@ -44,7 +44,7 @@ module _ (m : Model) (w : WellFormed m) where
   root-parts : forest (map (sub m.components) (children m.components 0)) ≡ parts_of_root m
   unfolding below
   root-parts =
-      let z = (rooted m.components w.components.fit w.some_component).root-coupled in
+      let z = (rooted m.components w.components.fit w.some_component).root_coupled in
       let s : sub m.components 0 ≡ node 0 (forest (map (sub m.components) (children m.components 0))) = sub-step m.components rising 0 ∙ rw z in
       ap below (sym s ∙ root-tree)
 

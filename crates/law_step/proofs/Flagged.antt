@@ -60,10 +60,10 @@ module _ (m : Model) (w : WellFormed m) (st : State) (t : List ℕ) (h : Tabled 
   no-parent : (c : ℕ) → is_atomic m.components c ≡ true → (d : ℕ) → 0 < d → d ≤ most → get_or t (parents_at + d) 0 ≡ c → ⊥
   no-parent c e d b l z =
       let s : d < length m.components = omega (arith, h.count) in
-      clash e (ap (is_atomic m.components) (sym z ∙ parent_is d s) ∙ parent-coupled d b s)
+      clash e (ap (is_atomic m.components) (sym z ∙ parent_is d s) ∙ parent_coupled d b s)
     where
-      parent-coupled : (d : ℕ) → 0 < d → d < length m.components → is_atomic m.components (component_at m.components d).parent ≡ false
-      parent-coupled d b l = unfold par in ((rooted m.components w.components.fit w.some_component).parent-coupled d b l)
+      parent_coupled : (d : ℕ) → 0 < d → d < length m.components → is_atomic m.components (component_at m.components d).parent ≡ false
+      parent_coupled d b l = unfold par in ((rooted m.components w.components.fit w.some_component).parent_coupled d b l)
 
   num-is : (i : ℕ) → i < length (atomics m.components) → get_or t (numbers_at + i) 0 ≡ atomic_at_place m w st i
   num-is i l = h.numbers i l
@@ -207,7 +207,7 @@ module _ (m : Model) (w : WellFormed m) (st : State) (t : List ℕ) (h : Tabled 
     pub flagged : Flags m w t m.phases es fs x (sent_at m (at_entry m w st) now)
     flagged = record {
       sent = sent_is;
-      marks-down = mark-closed;
-      flags-down = flag-down;
-      root-down = λ e. not-false (is_empty x) (sym flag-root ∙ e);
+      marks_down = mark-closed;
+      flags_down = flag-down;
+      root_down = λ e. not-false (is_empty x) (sym flag-root ∙ e);
     }

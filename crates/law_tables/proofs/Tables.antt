@@ -109,8 +109,8 @@ module _ (m : Model) (w : WellFormed m) (t : List ℕ) (h : Tabled m t) (room : 
     unfolding is_empty all is_due
     agree-tables = record {
       same_next = same_next;
-      fine-none = record { same = refl; few = omega arith; ports = refl; values = refl };
-      fine-empty = λ x y g. ap is_empty g.same;
+      fine_none = record { same = refl; few = omega arith; ports = refl; values = refl };
+      fine_empty = λ x y g. ap is_empty g.same;
       same_out = λ now x y rs st a g. subst
           (λ y. SameOutput (cond (leb now limit) (step m now x rs) (record { out = nothing; state = rs })).out (cond (leb now limit) (sim.step now y st) (record { out = nothing; state = st })).out)
           g.same (out-by (leb now limit) now x rs st a (own g));

@@ -107,9 +107,9 @@ place_kept : (cs : List Component) (c : ℕ) → component_fits cs c ≡ true �
 unfolding component_fits
 place_kept cs c e z = and_right (kind_fields (component_at cs c)) (place_fits cs c) (rw (ne_eqb c 0 z) at e)
 
-parent-below : (cs : List Component) (c : ℕ) → component_fits cs c ≡ true → (c ≡ 0 → ⊥) → (component_at cs c).parent < c
+parent_below : (cs : List Component) (c : ℕ) → component_fits cs c ≡ true → (c ≡ 0 → ⊥) → (component_at cs c).parent < c
 unfolding place_fits
-parent-below cs c e z =
+parent_below cs c e z =
     let p = (component_at cs c).parent in
     ltb-true p c (and_left (ltb p c) (eqb (component_at cs p).kind 0) (and_left (ltb p c && eqb (component_at cs p).kind 0) (root_within max_ancestors cs c) (place_kept cs c e z)))
 
@@ -182,7 +182,7 @@ module _ (cs : List Component) (c p : ℕ) (z : c ≡ 0 → ⊥) (e : p ≡ (com
   -- Where c is accepted, it is one deeper than its parent.
   module _ (k : component_fits cs c ≡ true) where
     pub over_below : p < c
-    over_below = rw e (parent-below cs c k z)
+    over_below = rw e (parent_below cs c k z)
 
     pub depth-fits : get_or depths p 0 < max_ancestors
     depth-fits = depth_below cs c z (get_or depths p 0) (up over_below) k
@@ -214,7 +214,7 @@ related-self cs n c a l = go (eqb c 0) refl
         || (not t && eqb (component_at cs c).parent c)) ≡ false
     go true f = simp (and-false)
     go false f =
-        let p = parent-below cs c (a.fit c l) (eqb-false c 0 f) in
+        let p = parent_below cs c (a.fit c l) (eqb-false c 0 f) in
         rw (ne_eqb (component_at cs c).parent c (λ q. absurd (omega arith)), eq-eqb c c refl)
 
 or_self : (a : Bool) → (a || a) ≡ a

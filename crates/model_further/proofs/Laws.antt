@@ -38,6 +38,6 @@ module _ (rs : List Rule) where
   unfolding end_of_file
   left_over s p l = sym (rw (in_order_lem rs s p.some, p.fifth, p.differ, lt-ltb 0 (length (drop fifth_size s)) (omega (arith, length-drop fifth_size s))))
 
-  pub half-open : (s : Bytes) → Present s → length s ≤ fifth_size → ok half_open ≡ further_sections rs s
+  pub half_open_lem : (s : Bytes) → Present s → length s ≤ fifth_size → ok half_open ≡ further_sections rs s
   unfolding end_of_file
-  half-open s p l = sym (rw (in_order_lem rs s p.some, p.fifth, p.differ, le-ltb 0 (length (drop fifth_size s)) (omega (arith, length-drop fifth_size s))))
+  half_open_lem s p l = sym (rw (in_order_lem rs s p.some, p.fifth, p.differ, le-ltb 0 (length (drop fifth_size s)) (omega (arith, length-drop fifth_size s))))

@@ -64,8 +64,8 @@ chain-end F t port (suc n) link st h = go (ltb 0 link) refl h
 
 -- A turn of the loop over a node's couplings: what is put so far and what the rest of the chain gives is the whole.
 pub record Turn (F : ℕ → List ℕ) (t : List ℕ) (port : ℕ) (first : List ℕ) (whole : List ℕ × ℕ) (buf : List ℕ) (next left link : ℕ) : Type 0 where
-  pub left-most : left ≤ max_couplings
-  pub link-most : link ≤ max_couplings
+  pub left_most : left ≤ max_couplings
+  pub link_most : link ≤ max_couplings
   pub same_size : length buf ≡ length first
   pub rest : puts port (joined F (rows_from t left link)) (buf, next) ≡ whole
 
@@ -73,8 +73,8 @@ pub turn-first : {F : ℕ → List ℕ} {t : List ℕ} {all buf : List ℕ} {por
     → joined F (rows_from t max_couplings (get_or t (first_at + x) 0)) ≡ all → link ≡ get_or t (first_at + x) 0
     → Turn F t port buf (puts port all (buf, end)) buf end max_couplings link
 turn-first {all = all} {buf = buf} {port = port} {end = end} x r h k e = record {
-  left-most = omega arith;
-  link-most = rw e (r.firsts x h);
+  left_most = omega arith;
+  link_most = rw e (r.firsts x h);
   same_size = refl;
   rest = rw e (ap (λ l. puts port l (buf, end)) k);
 }
@@ -85,8 +85,8 @@ module _ {F : ℕ → List ℕ} {t first buf : List ℕ} {whole : List ℕ × �
       → (buf', next') ≡ puts port (F source) (buf, next) → source ≡ get_or t (source_at + link) 0 → link' ≡ get_or t (next_at + link) 0
       → Turn F t port first whole buf' next' (left - 1) link'
   turn_more r h size put from to = record {
-    left-most = omega (arith, turn.left-most);
-    link-most = rw to (r.nexts link turn.link-most);
+    left_most = omega (arith, turn.left_most);
+    link_most = rw to (r.nexts link turn.link_most);
     same_size = size ∙ turn.same_size;
     rest = rw (put, from, to) (chain_more F t port left link (buf, next) h ∙ turn.rest);
   }

@@ -28,8 +28,8 @@ pub agree-self : {S₁ S₂ : Type 0} {At Between : ℕ → S₁ → S₂ → Ty
     → Agree (λ now s s'. (s ≡ s') × (q : S₂) × At now s q) (λ o s s'. (s ≡ s') × (q : S₂) × Between o s q) ◌≡◌ k₁ k₁
 agree-self {k₁ = k₁} {k₂ = k₂} a = record {
   same_next = λ now s s' h. ap k₁.next h.0;
-  fine-none = refl;
-  fine-empty = λ x y e. ap is_empty e;
+  fine_none = refl;
+  fine_empty = λ x y e. ap is_empty e;
   same_out = λ now x y s s' h e. equal-output _ _ (ap₂ (λ z r. (k₁.step now z r).out) e h.0);
   steps = λ now x y s s' h e. (ap₂ (λ z r. (k₁.step now z r).state) e h.0, (k₂.step now x h.1).state, a.steps now x x s h.1 h.2 refl);
   early = λ o s s' h. a.early o s h.1 h.2;
@@ -89,8 +89,8 @@ module _ (m : Model) (w : WellFormed m) where
   unfolding is_due
   agree-carried = record {
     same_next = due-carried;
-    fine-none = refl;
-    fine-empty = λ x y e. ap is_empty e;
+    fine_none = refl;
+    fine_empty = λ x y e. ap is_empty e;
     same_out = λ now x y q rs h e. equal-output _ _ ((any-split m w now x rs (ready m w now rs h.1.0) q (stands-now now q rs h.0)).0 ∙ ap (λ z. (step m now z rs).out) e);
     steps = λ now x y q rs h e. subst (λ z. AtStands now ((carried m).step now x q).state (step m now z rs).state) e (carried_step now x q rs h);
     early = λ o q rs h. ap (not_before o) (due-between o q rs h) ∙ fit-early m w o rs h.1;

@@ -73,7 +73,7 @@ module _ (file : Bytes) (m : Model) (w : WellFormed m) (e : accepted file ≡ ok
 
   -- Still to go: its own advance succeeds, and leaves what it is to leave.
   record ToGo (end run : Bytes) : Type 0 where
-    pub succeeds-yet : (whole run).number ≡ 0
+    pub succeeds_yet : (whole run).number ≡ 0
     pub leaves : (whole run).run ≡ end
 
   -- it is done by this turn, or a later moment is open
@@ -86,7 +86,7 @@ module _ (file : Bytes) (m : Model) (w : WellFormed m) (e : accepted file ≡ ok
       a = turn m t has (channel run tr)
 
       not-15 : (whole run).number ≡ 15 → ⊥
-      not-15 z = omega (arith, g.succeeds-yet, z)
+      not-15 z = omega (arith, g.succeeds_yet, z)
 
       go : (b : Bool) → eqb a.number 22 ≡ b → (a.run ≡ end) ⊎ (ToGo end a.run × (opening_of m run < opening_of m a.run))
       go false z =
@@ -101,7 +101,7 @@ module _ (file : Bytes) (m : Model) (w : WellFormed m) (e : accepted file ≡ ok
           let two = goes-on-in file m w e t has (channel run tr) bag refl n trace T size in
           inr (
             record {
-              succeeds-yet = sym (ap (λ (y : Advanced). y.number) two) ∙ ap (λ (y : Advanced). y.number) one ∙ g.succeeds-yet;
+              succeeds_yet = sym (ap (λ (y : Advanced). y.number) two) ∙ ap (λ (y : Advanced). y.number) one ∙ g.succeeds_yet;
               leaves = sym (ap (λ (y : Advanced). y.run) two) ∙ ap (λ (y : Advanced). y.run) one ∙ g.leaves;
             },
             (opens-later file m w e t has (channel run tr) bag refl n l).0,
@@ -147,7 +147,7 @@ module _ (file : Bytes) (m : Model) (w : WellFormed m) (e : accepted file ≡ ok
   ends_so : (end : Bytes) → run_fits m end ≡ true → opening_of m end ≡ suc t → (bs : List ChannelsCall) (runs : Bytes) → Every (Repeated n i t bag (length trace)) bs
       → ToGo file m w e t bag trace end (part n i runs) → t < opening_of m (part n i runs) + length bs → part n i (runs_after file runs bs) ≡ end
   unfolding runs_after
-  ends_so end f o [] runs h g c = absurd (omega (arith, c, (may-advance file m w e t bag trace (part n i runs) g.succeeds-yet).not_early))
+  ends_so end f o [] runs h g c = absurd (omega (arith, c, (may-advance file m w e t bag trace (part n i runs) g.succeeds_yet).not_early))
   ends_so end f o (b ∷ bs) runs h g c =
       go (one_turn file m w e t bag trace s.has end (part n i runs) s.lent s.enough s.long g) (λ r. ends_so end f o bs r h.1)
     where
@@ -170,4 +170,4 @@ module _ (file : Bytes) (m : Model) (w : WellFormed m) (e : accepted file ≡ ok
       → (advance file (part n i runs) t bag trace []).number ≡ 0 → part n i (runs_after file runs bs) ≡ (advance file (part n i runs) t bag trace []).run
   ends_as_one runs bs h c z =
       let k = success file m w e t bag trace (part n i runs) z in
-      ends_so _ k.0 k.1 bs runs h (record { succeeds-yet = z; leaves = refl }) c
+      ends_so _ k.0 k.1 bs runs h (record { succeeds_yet = z; leaves = refl }) c

@@ -42,20 +42,20 @@ module _ (Makes : Bytes → Type 0) (r : Result Bytes) (makes : (made : Bytes) �
 
     -- what the call does, one of three
     data Answers : Type 0 where
-      makes-nothing : ((made : Bytes) → Makes made → ⊥) → wrote buffer r ≡ refused_write nothing buffer → Answers
+      makes_nothing : ((made : Bytes) → Makes made → ⊥) → wrote buffer r ≡ refused_write nothing buffer → Answers
       too_short : (made : Bytes) → Makes made → length buffer < length made → wrote buffer r ≡ refused_write 15 buffer → Answers
-      makes-it : (made : Bytes) → Makes made → wrote buffer r ≡ record { number = 0; written = length made; buffer = stored made buffer } → Answers
+      makes_it : (made : Bytes) → Makes made → wrote buffer r ≡ record { number = 0; written = length made; buffer = stored made buffer } → Answers
 
     answers : Answers
     answers = go r refl
       where
         go : (q : Result Bytes) → r ≡ q → Answers
-        go (refused j) e = makes-nothing (λ made h. never-ok j made (sym e ∙ makes made h)) (refuses j e)
+        go (refused j) e = makes_nothing (λ made h. never-ok j made (sym e ∙ makes made h)) (refuses j e)
         go (ok made) e = room (ltb (length buffer) (length made)) refl
           where
             room : (b : Bool) → ltb (length buffer) (length made) ≡ b → Answers
             room true f = let l = ltb-true (length buffer) (length made) f in too_short made (Made-so made e) l (short made (Made-so made e) l)
-            room false f = makes-it made (Made-so made e) (done made (Made-so made e) (ltb-false (length buffer) (length made) f))
+            room false f = makes_it made (Made-so made e) (done made (Made-so made e) (ltb-false (length buffer) (length made) f))
 
     row-of : 0 < (wrote buffer r).number → RearrangingRefusal Makes nothing buffer (wrote buffer r).number
     row-of l = go answers
@@ -64,18 +64,18 @@ module _ (Makes : Bytes → Type 0) (r : Result Bytes) (makes : (made : Bytes) �
         number n e h = subst (RearrangingRefusal Makes nothing buffer) (sym (ap (λ w. w.number) e)) h
 
         go : Answers → RearrangingRefusal Makes nothing buffer (wrote buffer r).number
-        go (makes-nothing none e) = number nothing e (nothing_to_make none)
+        go (makes_nothing none e) = number nothing e (nothing_to_make none)
         go (too_short made h k e) = number 15 e (rearranging_refuses_buffer made h k)
-        go (makes-it made h e) = absurd (omega (arith, l, ap (λ w. w.number) e))
+        go (makes_it made h e) = absurd (omega (arith, l, ap (λ w. w.number) e))
 
     -- where it answers 0, what it wrote is what it makes
     made_by : 0 < nothing → (wrote buffer r).number ≡ 0 → Makes (written (wrote buffer r))
     made_by some fine = go answers
       where
         go : Answers → Makes (written (wrote buffer r))
-        go (makes-nothing none e) = absurd (omega (arith, some, fine, ap (λ w. w.number) e))
+        go (makes_nothing none e) = absurd (omega (arith, some, fine, ap (λ w. w.number) e))
         go (too_short made h k e) = absurd (omega (arith, fine, ap (λ w. w.number) e))
-        go (makes-it made h e) = subst Makes (sym (ap written e ∙ stored-front made buffer)) h
+        go (makes_it made h e) = subst Makes (sym (ap written e ∙ stored-front made buffer)) h
 
 -- ---- a trace into its columns
 

@@ -204,7 +204,7 @@ pub record LedTo {S : Type 0} (k : Simulator S) (room t : ℕ) (p q : Progress S
 
 -- The instant that is left undone is done by an advance to its moment, with the bag where that is t.
 pub record DoneNext {S : Type 0} (k : Simulator S) (room t : ℕ) (x : Bag) (p on : Progress S) (now : ℕ) (given : Bag) : Type 0 where
-  pub from-open : p.opening ≤ now
+  pub from_open : p.opening ≤ now
   pub which : ((now < t) × (given ≡ [])) ⊎ ((now ≡ t) × (given ≡ x))
   pub ends_so : Ends k room now given p (succeeded now on)
 
@@ -260,7 +260,7 @@ module _ {S : Type 0} {At Between : ℕ → S → S → Type 0} {Fine : Bag → 
       led u g (inr h) =
           let same : h.last ≡ u = omega (arith, h.opened) in
           record {
-            from-open = omega (arith, h.later);
+            from_open = omega (arith, h.later);
             which = inl (g, refl);
             ends_so = subst (λ i. Ends k room i [] p (ended 0 (on u))) same h.ends_so;
           }
@@ -269,7 +269,7 @@ module _ {S : Type 0} {At Between : ℕ → S → S → Type 0} {Fine : Bag → 
           → length (q.trace ++ instant_trace now (c.first ∷ c.others)) ≤ room → DoneNext k room t x p (on now) now y
       go now y (before u f g) w v = led u g (leads (one_on k u c.first c.others c.after c.chain f g w v) b)
       go now y (at_end f) w v = record {
-        from-open = o;
+        from_open = o;
         which = inr (refl, refl);
         ends_so = follows k room x _ c.chain (omega (arith, length-append q.trace (instant_trace t (c.first ∷ c.others)))) (AdvanceRelation.succeeds q c.first c.others c.after f w v);
       }

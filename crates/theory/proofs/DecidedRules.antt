@@ -77,7 +77,7 @@ entry_at (j ∷ is) rest (suc i) l =
 -- What a progress leaves of a table: all as it was, or its rules at the front of one that has room for them.
 data Leaves (n : ℕ) (ps : List ℕ) (table : Bytes) : Bytes → Type 0 where
   as_it_was : Leaves n ps table table
-  with-rules : length ps ≡ n → position_size * n ≤ length table → Leaves n ps table (stored (table_bytes ps) table)
+  with_rules_lem : length ps ≡ n → position_size * n ≤ length table → Leaves n ps table (stored (table_bytes ps) table)
 
 leaves : {S : Type 0} (n : ℕ) (p : Progress S) (table : Bytes) → Long n p → Leaves n p.rules table (with_rules n p table)
 unfolding written
@@ -87,17 +87,17 @@ leaves n p table long = go (eqb p.instants 0) refl long (ltb (length table) (pos
     go true e h d f = rw (with_none n p table (eqb-true p.instants 0 e)) as_it_was
     go false e (inl h) d f = absurd (eqb-false p.instants 0 e h)
     go false e (inr h) true f = rw (with-written n p table (eqb-false p.instants 0 e), f) as_it_was
-    go false e (inr h) false f = rw (with-written n p table (eqb-false p.instants 0 e), f) (with-rules h (ltb-false _ _ f))
+    go false e (inr h) false f = rw (with-written n p table (eqb-false p.instants 0 e), f) (with_rules_lem h (ltb-false _ _ f))
 
 module _ (n : ℕ) (ps : List ℕ) (table : Bytes) where
   leaves-short : (s : Bytes) → Leaves n ps table s → length table < position_size * n → s ≡ table
   leaves-short s as_it_was l = refl
-  leaves-short s (with-rules e h) l = absurd (omega (arith, l, h))
+  leaves-short s (with_rules_lem e h) l = absurd (omega (arith, l, h))
 
   leaves-past : (s : Bytes) → Leaves n ps table s → (length s ≡ length table) × (drop (position_size * n) s ≡ drop (position_size * n) table)
   unfolding stored
   leaves-past s as_it_was = (refl, refl)
-  leaves-past s (with-rules e h) =
+  leaves-past s (with_rules_lem e h) =
       let size : length (table_bytes ps) ≡ position_size * n = table-size ps ∙ ap (λ k. position_size * k) e in (
         length-append (table_bytes ps) (drop (length (table_bytes ps)) table) ∙ omega (arith, size, h, length-drop (length (table_bytes ps)) table),
         drop_at (table_bytes ps) (drop (length (table_bytes ps)) table) (position_size * n) size ∙ ap (λ k. drop k table) size,

@@ -89,7 +89,7 @@ stored-both front more trace =
 
 -- So many bytes, at the front of the lent trace.
 pub record WroteOn (s trace : Bytes) (f : Fed) : Type 0 where
-  pub length-is : f.used ≡ length s
+  pub length_is : f.used ≡ length s
   pub trace_left : f.trace ≡ stored s trace
 
 module _ (a : Advanced) (trace front : Bytes) (e : a.used ≡ length front) (g : a.trace ≡ stored front trace) where
@@ -102,14 +102,14 @@ module _ (a : Advanced) (trace front : Bytes) (e : a.used ≡ length front) (g :
   wrote_then : (s : Bytes) (on : Fed) → WroteOn s (drop a.used a.trace) on → WroteOn (take a.used a.trace ++ s) trace (followed_by a on)
   unfolding followed_by
   wrote_then s on h = record {
-    length-is = omega (arith, e, h.length-is, length-append (take a.used a.trace) s, ap length own);
+    length_is = omega (arith, e, h.length_is, length-append (take a.used a.trace) s, ap length own);
     trace_left = ap₂ ◌++◌ own (h.trace_left ∙ ap (stored s) left) ∙ stored-both front s trace ∙ ap (λ b. stored (b ++ s) trace) (sym own);
   }
 
   wrote-stop : WroteOn (take a.used a.trace ++ []) trace (stopped_by a)
   unfolding stopped_by
   wrote-stop = record {
-    length-is = e ∙ ap length (sym own ∙ sym (append-nil (take a.used a.trace)));
+    length_is = e ∙ ap length (sym own ∙ sym (append-nil (take a.used a.trace)));
     trace_left = g ∙ ap (λ b. stored b trace) (sym own ∙ sym (append-nil (take a.used a.trace)));
   }
 
@@ -121,7 +121,7 @@ in-turn : (file : Bytes) (cs : List FeedBag) (run trace : Bytes)
     × WroteOn (joined file run (made_calls (engine file) run trace cs)) trace (fed_in_turn file run trace cs)
 unfolding fed_in_turn nothing_fed made_calls run_calls called joined_traces engine last_number count sum stored
 in-turn file [] run trace =
-    (record { number = refl; bags = refl; instants = refl; steps = refl; used = refl; run_left = refl }, record { length-is = refl; trace_left = refl })
+    (record { number = refl; bags = refl; instants = refl; steps = refl; used = refl; run_left = refl }, record { length_is = refl; trace_left = refl })
 in-turn file (c ∷ cs) run trace = go (eqb a.number 0) refl (in-turn file cs a.run (drop a.used a.trace))
   where
     a : Advanced
@@ -159,6 +159,6 @@ in-calls file run trace bs end =
       steps = f.steps;
       used = f.used;
       run_left = f.run_left;
-      written = ap₂ take g.length-is g.trace_left ∙ stored-front _ trace;
+      written = ap₂ take g.length_is g.trace_left ∙ stored-front _ trace;
       trace_left = g.trace_left;
     }

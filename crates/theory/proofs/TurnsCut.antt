@@ -197,9 +197,9 @@ module _ (file : Bytes) (m : Model) (w : WellFormed m) (e : accepted file ≡ ok
       go : ((x.cut.now < t) × (x.cut.given ≡ [])) ⊎ ((x.cut.now ≡ t) × (x.cut.given ≡ to_bag bag)) → NextTooLong file t has c bag (turn m t has c)
       go (inl z) =
           told [] (inl (z.0, refl))
-          (advance-to x.cut.now [] x.cut.given (empty-bag.1 ∙ sym z.1) empty-bag.0 n.from-open (omega (arith, z.0)) (succeeded x.cut.now on) n.ends_so)
+          (advance-to x.cut.now [] x.cut.given (empty-bag.1 ∙ sym z.1) empty-bag.0 n.from_open (omega (arith, z.0)) (succeeded x.cut.now on) n.ends_so)
       go (inr z) =
-          told bag (inr (z.0, refl)) (advance-to x.cut.now bag x.cut.given (sym z.1) h.bag_fits_lem n.from-open (omega (arith, z.0)) (succeeded x.cut.now on) n.ends_so)
+          told bag (inr (z.0, refl)) (advance-to x.cut.now bag x.cut.given (sym z.1) h.bag_fits_lem n.from_open (omega (arith, z.0)) (succeeded x.cut.now on) n.ends_so)
 
 pub left_by_22 : (file : Bytes) (m : Model) → WellFormed m → accepted file ≡ ok m → (t has : ℕ) (c : Channel) → (turn m t has c).number ≡ 22
     → LeftBy22 file m t has c (turn m t has c)

@@ -1,4 +1,4 @@
--- The channels left give from here what all of them give from the start (`from-here`); a turn keeps that (`one_more`), and at the end what was told is
+-- The channels left give from here what all of them give from the start (`from_here`); a turn keeps that (`one_more`), and at the end what was told is
 -- the answer (`boxes-told`). What is left over is at most the shares before, so that no sum overflows.
 use native.Mathlib.Omega.{arith}
 use mathlib.Core.Path.{◌≡◌, refl, sym, ap, ◌∙◌}
@@ -20,13 +20,13 @@ loop-i-init c =
     let a = c.args in
     rw c.refused-channel.ensures (record {
       upto = omega arith;
-      runs-long = refl;
-      traces-long = refl;
-      same-words = refl;
+      runs_long = refl;
+      traces_long = refl;
+      same_words = refl;
       eight = refl;
-      left-most = omega arith;
+      left_most = omega arith;
       others = refl;
-      from-here = from_start _ _ _ _ a.count _;
+      from_here = from_start _ _ _ _ a.count _;
     })
 
 -- the parts of channel i lie inside
@@ -37,7 +37,7 @@ trace-inside : (c : In-loop-i) → let q = length c.args.traces.now / c.args.cou
 trace-inside c = inside c.args.traces.now c.args.count c.loop-i.i c.loop-i-test.true
 
 pub turn-told-requires : goal.turn-told-requires
-turn-told-requires c = rw c.loop-i.invariant.same-words c.requires.lent
+turn-told-requires c = rw c.loop-i.invariant.same_words c.requires.lent
 
 -- ---- channel i
 
@@ -68,8 +68,8 @@ loop-i-preserved c =
     } in
     let e : advanced_of run trace [] told ≡ Definition.turn m a.t has lent = r.ensures in
     let keeps = told-keeps m a.t has lent run trace told e in
-    let in-run : qr * i + qr ≤ length l.runs = omega (arith, run_inside here, l.invariant.runs-long) in
-    let in-trace : qt * i + qt ≤ length l.traces = omega (arith, trace-inside here, l.invariant.traces-long) in
+    let in-run : qr * i + qr ≤ length l.runs = omega (arith, run_inside here, l.invariant.runs_long) in
+    let in-trace : qt * i + qt ≤ length l.traces = omega (arith, trace-inside here, l.invariant.traces_long) in
     let few : i < length l.channel = omega (arith, l.invariant.eight, c.requires.few, c.loop-i-test.true) in
     let runs : take (qr * i) l.runs ++ (run ++ drop (qr * i + qr - qr * i) (drop (qr * i) l.runs)) ≡ put_back (qr * i) run l.runs
     = came-back l.runs run (qr * i) (qr * i + qr) qr refl (keeps.1 ∙ length_taken l.runs (qr * i) (qr * i + qr) qr refl in-run) in
@@ -88,13 +88,13 @@ loop-i-preserved c =
     let on = one_more (Definition.turn m a.t) b qr qt i l.left l.runs l.traces _ _ run trace l.channel told few (e ∙ same) runs traces in
     record {
       upto = omega (arith, c.loop-i-test.true);
-      runs-long = ap length runs ∙ length_back l.runs run (qr * i) qr in-run (keeps.1 ∙ length_taken l.runs (qr * i) (qr * i + qr) qr refl in-run) ∙ l.invariant.runs-long;
-      traces-long = ap length traces ∙ length_back l.traces trace (qt * i) qt in-trace (keeps.2 ∙ length_taken l.traces (qt * i) (qt * i + qt) qt refl in-trace) ∙ l.invariant.traces-long;
-      same-words = r.auto.work ∙ l.invariant.same-words;
+      runs_long = ap length runs ∙ length_back l.runs run (qr * i) qr in-run (keeps.1 ∙ length_taken l.runs (qr * i) (qr * i + qr) qr refl in-run) ∙ l.invariant.runs_long;
+      traces_long = ap length traces ∙ length_back l.traces trace (qt * i) qt in-trace (keeps.2 ∙ length_taken l.traces (qt * i) (qt * i + qt) qt refl in-trace) ∙ l.invariant.traces_long;
+      same_words = r.auto.work ∙ l.invariant.same_words;
       eight = length-set l.channel i told ∙ l.invariant.eight;
-      left-most = omega (arith, l.invariant.left-most, keeps.0);
+      left_most = omega (arith, l.invariant.left_most, keeps.0);
       others = others-more l.channel i told (omega (arith, few, l.invariant.eight)) l.invariant.others;
-      from-here = ap (one_by_one (Definition.turn m a.t) b qr qt (a.count - (i + 1)) (i + 1)) on ∙ more (Definition.turn m a.t) b qr qt a.count i _ c.loop-i-test.true ∙ l.invariant.from-here;
+      from_here = ap (one_by_one (Definition.turn m a.t) b qr qt (a.count - (i + 1)) (i + 1)) on ∙ more (Definition.turn m a.t) b qr qt a.count i _ c.loop-i-test.true ∙ l.invariant.from_here;
     }
 
 pub returns : goal.returns
@@ -103,4 +103,4 @@ returns c =
     let l = c.loop-i in
     let none = none_left _ _ _ _ a.count l.i _ c.loop-i-test.false in
     boxes-told a.runs.now a.traces.now l.runs l.traces l.left l.channel l.i (omega (arith, l.invariant.eight, l.invariant.upto, c.requires.few)) l.invariant.others
-    ∙ ap (λ (g : Box). boxed a.runs.now a.traces.now (ok g)) (sym none ∙ l.invariant.from-here)
+    ∙ ap (λ (g : Box). boxed a.runs.now a.traces.now (ok g)) (sym none ∙ l.invariant.from_here)

@@ -27,15 +27,15 @@ loop-left-init c =
 -- ---- a bag
 
 -- The feed from it on.
-abbrev from-here : At-loop-left → Bytes
-from-here c = drop c.loop-left.at c.args.feed.now
+abbrev from_here : At-loop-left → Bytes
+from_here c = drop c.loop-left.at c.args.feed.now
 
 -- There is one more to read.
 one_more : (c : In-loop-left) → c.loop-left.left ≡ suc (c.loop-left.left - 1)
 one_more c = omega (arith, c.loop-left-test.true)
 
 -- What the reader tells of all bags, where it tells r of those that are left.
-whole : (c : At-loop-left) → (r : Result ℕ) → last_after c.loop-left.last (bags_from c.loop-left.left c.loop-left.least (from-here c)) ≡ r
+whole : (c : At-loop-left) → (r : Result ℕ) → last_after c.loop-left.last (bags_from c.loop-left.left c.loop-left.least (from_here c)) ≡ r
     → bags_told (feed_of c.args.feed.now) ≡ (r >>= λ l. ok (record { count = c.u16_at-count.result; last = l }))
 whole c r e = feed-told c.args.feed.now c.u16_at-count.result c.u16_at-count.ensures c.if-feed-count.false r (sym c.loop-left.invariant.1 ∙ e)
 
@@ -56,8 +56,8 @@ stood c = sym (c.stands.ensures ∙ ap (λ (s : Bytes). Standing s c.loop-left.l
 moment-is : (c : After-moment_of-last) → c.moment_of-last.result ≡ (to_feed_bag (drop c.loop-left.at c.args.feed.now)).moment
 moment-is c = c.moment_of-last.ensures ∙ ap (λ (s : Bytes). (to_feed_bag s).moment) c.rest-here.ensures
 
-length-is : (c : After-length_of-at) → c.length_of-at.result ≡ bag_length (drop c.loop-left.at c.args.feed.now)
-length-is c = c.length_of-at.ensures ∙ ap bag_length c.rest-here.ensures
+length_is : (c : After-length_of-at) → c.length_of-at.result ≡ bag_length (drop c.loop-left.at c.args.feed.now)
+length_is c = c.length_of-at.ensures ∙ ap bag_length c.rest-here.ensures
 
 pub overflow_add-least : goal.overflow_add-least
 overflow_add-least c =
@@ -69,7 +69,7 @@ reaches : (c : After-length_of-at) → Standing (drop c.loop-left.at c.args.feed
 reaches c stands =
     let l = c.loop-left in
     let s = c.args.feed.now in
-    omega (arith, length-is c, standing-long (drop l.at s) _ stands, length-drop l.at s, l.invariant.0)
+    omega (arith, length_is c, standing-long (drop l.at s) _ stands, length-drop l.at s, l.invariant.0)
 
 pub overflow_add-at : goal.overflow_add-at
 overflow_add-at c =
@@ -83,7 +83,7 @@ loop-left-preserved c =
     let s : Bytes = c.args.feed.now in
     let here : Bytes = drop l.at s in
     let moment = moment-is at.After-moment_of-last in
-    let long = length-is at.After-length_of-at in
+    let long = length_is at.After-length_of-at in
     let next : c.moment_of-last.result + 1 ≡ suc (to_feed_bag here).moment = omega (arith, moment) in
     let behind : drop (l.at + c.length_of-at.result) s ≡ drop (bag_length here) here = ap (λ n. drop (l.at + n) s) long ∙ sym (drop-drop (bag_length here) l.at s) in (
       reaches at.After-length_of-at (stood at.Else-not-stands),

@@ -41,7 +41,7 @@ loop-left-init c =
       few = q.few;
       beyond = record { within = q.used; size = refl; same = refl };
       ready = q.ready;
-      from-here = refl;
+      from_here = refl;
     }
 
 -- ---- a bag
@@ -121,7 +121,7 @@ all-here : (c : After-advance_on-e) → let a = c.args in let l = c.loop-left in
     ≡ bags_onward (sim c) (length a.trace.now) (bags_in a.feed.now) 0 (progress_of a.trace.now a.tables.now a.state.now a.from)
 all-here c =
     let l = c.loop-left in
-    ap (λ bs. bags_onward (sim c) (length c.args.trace.now) bs l.bags (before c)) (read-here c).same ∙ l.invariant.from-here
+    ap (λ bs. bags_onward (sim c) (length c.args.trace.now) bs l.bags (before c)) (read-here c).same ∙ l.invariant.from_here
 
 pub returns-then-e-ne0 : goal.returns-then-e-ne0
 returns-then-e-ne0 c =
@@ -141,15 +141,15 @@ returns-then-e-ne0 c =
     }
 
 -- The next bag.
-length-is : (c : After-length_of-at) → c.length_of-at.result ≡ bag_length (drop c.loop-left.at c.args.feed.now)
-length-is c = c.length_of-at.ensures ∙ ap bag_length c.rest-here.ensures
+length_is : (c : After-length_of-at) → c.length_of-at.result ≡ bag_length (drop c.loop-left.at c.args.feed.now)
+length_is c = c.length_of-at.ensures ∙ ap bag_length c.rest-here.ensures
 
 -- It is near: a bag is short.
 near : (c : After-length_of-at) → let l = c.loop-left in OneRead (l.left - 1) l.invariant.least (drop l.at c.args.feed.now) l.invariant.others
     → l.at + c.length_of-at.result ≤ count_size + (bag_head + message_size * max_given) * suc l.bags
 near c r =
     let l = c.loop-left in
-    omega (arith, length-is c, short l.invariant.least (drop l.at c.args.feed.now) r.whole r.fits, l.invariant.near)
+    omega (arith, length_is c, short l.invariant.least (drop l.at c.args.feed.now) r.whole r.fits, l.invariant.near)
 
 -- There are few bags.
 few-bags : (feed : Bytes) (count bags left : ℕ) → feed_of feed ≡ ok (bags_in feed) → count ≡ length (bags_in feed) → bags + left ≡ count → bags + left ≤ max_bags
@@ -180,7 +180,7 @@ loop-left-preserved c =
     let r = read-here at in
     let call = this-call at in
     let here : Bytes = drop l.at a.feed.now in
-    let long = length-is after in
+    let long = length_is after in
     let next : suc l.bags ≡ l.bags + 1 = omega arith in
     let behind : drop (bag_length here) here ≡ drop (l.at + c.length_of-at.result) a.feed.now
     = drop-drop (bag_length here) l.at a.feed.now ∙ ap (λ n. drop (l.at + n) a.feed.now) (sym long) in
@@ -195,7 +195,7 @@ loop-left-preserved c =
       few = subst (λ n. Few n e.result.progress) next call.few;
       beyond = call.beyond;
       ready = (did at).ready;
-      from-here = rw (← next) (call-goes (sim at) (length a.trace.now) e.new.trace a.tables.now e.new.state e.result (bag-here at) r.others l.bags (before at) _
+      from_here = rw (← next) (call-goes (sim at) (length a.trace.now) e.new.trace a.tables.now e.new.state e.result (bag-here at) r.others l.bags (before at) _
           call.same (all-here at) c.if-e-ne0.false);
     }
 
@@ -213,7 +213,7 @@ returns c =
     let last = (read_none v.least here v.others (ap (λ n. bags_from n v.least here) (sym none) ∙ v.read)).0 in
     record {
       went = record {
-        same = sym (onward-none k (length a.trace.now) l.bags from) ∙ ap (λ bs. bags_onward k (length a.trace.now) bs l.bags from) last ∙ v.from-here;
+        same = sym (onward-none k (length a.trace.now) l.bags from) ∙ ap (λ bs. bags_onward k (length a.trace.now) bs l.bags from) last ∙ v.from_here;
         beyond = v.beyond;
       };
       ready = v.ready;

@@ -31,7 +31,7 @@ loop-left-init c =
       instants = omega (arith, q.instants);
       steps = omega (arith, q.steps);
       beyond = record { within = q.used; size = refl; same = refl };
-      from-here = rw o;
+      from_here = rw o;
       ready = q.ready;
     }
 
@@ -96,7 +96,7 @@ returns-then-e-t c =
     let l = c.loop-left in
     let r = c.attempt-e in
     ends-turn a.phases.now a.tables.now (sim here) a.has a.t.0 (to_bag a.bag.now) (whole here) a.trace.now l.trace l.state l.p l.left
-    c.loop-left-test.true l.invariant.from-here l.invariant.beyond r.new.trace r.new.state r.result c.next_moment-at.result.0 (next here)
+    c.loop-left-test.true l.invariant.from_here l.invariant.beyond r.new.trace r.new.state r.result c.next_moment-at.result.0 (next here)
     a.bag.now refl (tried here) (most moment) c.if-e-t.true c.finish.result c.finish.ensures
 
 pub loop-left-preserved : goal.loop-left-preserved
@@ -107,7 +107,7 @@ loop-left-preserved c =
     let r = c.attempt-e in
     let more = c.loop-left-test.true in
     let on = goes-turn a.phases.now a.tables.now (sim here) a.has a.t.0 (to_bag a.bag.now) (whole here) a.trace.now l.trace l.state l.p l.left more
-    l.invariant.from-here l.invariant.beyond r.new.trace r.new.state r.result c.next_moment-at.result.0 (next here)
+    l.invariant.from_here l.invariant.beyond r.new.trace r.new.state r.result c.next_moment-at.result.0 (next here)
     a.bag.now refl (tried here) c.if-e-t.false in record {
       turns = omega (arith, l.invariant.turns);
       words = r.auto.work ∙ l.invariant.words;
@@ -115,7 +115,7 @@ loop-left-preserved c =
       instants = omega (arith, more, r.ensures.instants, l.invariant.instants);
       steps = omega (arith, more, r.ensures.steps, l.invariant.steps);
       beyond = on.0;
-      from-here = on.1;
+      from_here = on.1;
       ready = r.ensures.ready;
     }
 
@@ -127,4 +127,4 @@ returns c =
     let l = c.loop-left in
     let k = sim_of a.phases.now a.rules.now a.tables.now (length a.work.now) in
     let none = no-turn-within k a.has (length a.trace.now) a.t.0 (to_bag a.bag.now) l.left (progress_of l.trace a.tables.now l.state l.p) (omega arith) in
-    record { same = sym none ∙ l.invariant.from-here; beyond = l.invariant.beyond; ready = l.invariant.ready }
+    record { same = sym none ∙ l.invariant.from_here; beyond = l.invariant.beyond; ready = l.invariant.ready }

@@ -4,7 +4,7 @@ use mathlib.Core.Path.{sym, ap, ◌∙◌}
 use Rattle.definition.specs.Bytes.{refused}
 use Rattle.law_base.proofs.Tests.{not-passed, not-failed}
 use Rattle.model_records.specs.Values.{rules_in}
-use Rattle.model_further.proofs.Laws.{Present, nothing-follows, no-section, equal_ends, left_over, half-open}
+use Rattle.model_further.proofs.Laws.{Present, nothing-follows, no-section, equal_ends, left_over, half_open_lem}
 use Rattle.model_further.proofs.read_further.Goals as goal
 
 pub returns-then-rest_of_file-eq0 : goal.returns-then-rest_of_file-eq0
@@ -25,4 +25,4 @@ returns-then-rest_of_file-gt-FIFTH_SIZE c = let passed : Present (rules_in c.arg
 
 pub returns : goal.returns
 returns c = let passed : Present (rules_in c.args.rules.now) c.args.rest_of_file.now = record { some = c.if-rest_of_file-eq0.false; fifth = sym c.is_fifth.ensures ∙ not-failed _ c.if-not-is_fifth.false-raw; differ = sym c.ends_differ.ensures ∙ not-failed _ c.if-not-ends_differ.false-raw } in
-    half-open _ _ (passed) c.if-rest_of_file-gt-FIFTH_SIZE.false
+    half_open_lem _ _ (passed) c.if-rest_of_file-gt-FIFTH_SIZE.false

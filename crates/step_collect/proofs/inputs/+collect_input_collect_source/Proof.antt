@@ -101,7 +101,7 @@ collect-input-collect-source-requires t c κs =
     let at-loop : collect-input-lts.At-loop (collect-input-calls t) (collect-input-at t) collect-input.Post collect-input-Inv-loop collect-input-μ-loop = search in
     let r = start.pre.1.in_range in
     let l = at-loop.loop in
-    (search rules, record { below = rw c.before.source_of.ensures (r.sources l.link l.inv.link-most); in_range = r })
+    (search rules, record { below = rw c.before.source_of.ensures (r.sources l.link l.inv.link_most); in_range = r })
 
 collect-input-loop-again : (t : ℕ) → collect-input-lts.Need-loop-preserved (collect-input-calls t) (collect-input-at t) collect-input.Post collect-input-Inv-loop collect-input-μ-loop
 collect-input-loop-again t c =

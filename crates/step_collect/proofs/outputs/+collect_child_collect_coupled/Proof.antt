@@ -110,7 +110,7 @@ collect-coupled-collect-child-requires t c κs =
     let at-loop : collect-coupled-lts.At-loop (collect-coupled-calls t) (collect-coupled-at t) collect-coupled.Post collect-coupled-Inv-loop collect-coupled-μ-loop = search in
     let r = start.pre.1.in_range in
     let l = at-loop.loop in
-    (search rules, record { below = rw c.before.source_of.ensures (r.sources l.link l.inv.link-most); in_range = r })
+    (search rules, record { below = rw c.before.source_of.ensures (r.sources l.link l.inv.link_most); in_range = r })
 
 collect-coupled-loop-again : (t : ℕ) → collect-coupled-lts.Need-loop-preserved (collect-coupled-calls t) (collect-coupled-at t) collect-coupled.Post collect-coupled-Inv-loop collect-coupled-μ-loop
 collect-coupled-loop-again t c =
