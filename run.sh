@@ -10,7 +10,7 @@ cd "$here"
 . host/progress.sh
 log=$(mktemp)
 trap 'rm -f "$log"' EXIT
-rt check print_run 2>&1 | tee "$log" | follow 'proving' "$(needed_crates print_run)" >/dev/null
+./build.sh program 2>&1 | tee "$log" | follow 'proving' "$(needed_crates print_run)" >/dev/null
 if [ "${PIPESTATUS[0]}" -ne 0 ]; then
   cat "$log" >&2
   exit 1

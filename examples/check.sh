@@ -9,7 +9,7 @@ trap 'rm -rf "$made"' EXIT
 failed=0
 
 cd "$top" || exit 1
-[ -f target/bin/print_run ] || rt check print_run || exit 1
+[ -f target/bin/print_run ] || ./build.sh program || exit 1
 
 # agree NAME FILE FILE
 agree() {
@@ -36,7 +36,7 @@ for input in "$here"/*.bin; do
 done
 
 # The C boundary.
-[ -f target/staticlib/libc_interface.a ] || rt staticlib c_interface || exit 1
+[ -f target/staticlib/libc_interface.a ] || ./build.sh library || exit 1
 
 # build NAME SOURCE..: a C program over the library
 build() {

@@ -8,5 +8,5 @@ set -eu
 cd "$(dirname "$0")"
 calls=${1:-100000}
 seed=${2:-1}
-[ -f ../target/staticlib/libc_interface.a ] || (cd .. && rt staticlib c_interface)
+[ -f ../target/staticlib/libc_interface.a ] || ../build.sh library
 exec cargo run --release --offline --quiet -p compare --features library -- --calls "$calls" --seed "$seed"

@@ -21,18 +21,11 @@ needed_crates() {
 # minutes: the time since the start of the script
 minutes() { printf '%d min %02d s' $((SECONDS / 60)) $((SECONDS % 60)); }
 
-# at_work SINCE: the crates and edits that rt is trying now. Their files of output are empty until their verdict.
-at_work() {
-  find target/log target/must-fail -name '*.out' -size 0 -newer "$1" 2>/dev/null |
-    sed -e 's|^target/log/||' -e 's|^target/must-fail/||' -e 's|\.out$||' | sort | tr '\n' ' '
-}
-
 # follow TITLE [CRATES [EDITS]]: passes standard input on, and tells how many crates of so many are left to prove, then how
 # many edits of so many to try, and which are at work.
 follow() {
   local title=$1 crates=${2:-0} edits=${3:-0} proved=0 tried=0
-  local line='' piece status next=$((SECONDS + 10)) since on_terminal=0 width
-  since=$(mktemp)
+  local line='' piece status next=$((SECONDS + 10)) on_terminal=0 width
   [ ! -t 2 ] || on_terminal=1 next=0
   width=$(tput cols 2>/dev/null || echo 80)
   while true; do
@@ -45,7 +38,7 @@ follow() {
       printf '%s\n' "$line"
       case $line in
       'rt: must-fail '* | 'refused: '* | 'WRONG: '*) tried=$((tried + 1)) ;;
-      'rt: '*' proved '*) proved=$((proved + 1)) ;;
+      'rt: '*' proved') proved=$((proved + 1)) ;;
       esac
       line=''
     elif [ "$status" -le 128 ]; then
@@ -58,20 +51,17 @@ follow() {
   done
   [ -z "$line" ] || printf '%s\n' "$line"
   [ "$on_terminal" -eq 0 ] || printf '\r\033[K' >&2
-  rm -f "$since"
 }
 
 # The line itself, from what follow has counted.
 tell_progress() {
-  local told now
+  local told
   told="$title, $(minutes)"
   if [ "$proved" -lt "$crates" ] && [ "$tried" -eq 0 ]; then
     told+=", $((crates - proved)) of $crates crates left"
   elif [ "$edits" -gt 0 ]; then
     told+=", $((edits - tried)) of $edits edits left"
   fi
-  now=$(at_work "$since")
-  [ -z "$now" ] || told+=", at ${now% }"
   if [ "$on_terminal" -eq 1 ]; then
     printf '\r\033[K%.*s' $((width - 1)) "$told" >&2
   else

@@ -38,7 +38,7 @@ def read_edit(path):
 
 def copy_of_repository(folder):
     shutil.copy(ROOT / "crates.txt", folder / "crates.txt")
-    shutil.copytree(ROOT / "crates", folder / "crates")
+    shutil.copytree(ROOT / "crates", folder / "crates", ignore=shutil.ignore_patterns("out"))
     for part in ("proofs", "must-fail"):
         shutil.rmtree(folder / "crates/definition" / part, ignore_errors=True)
 
@@ -55,14 +55,16 @@ def try_edit(path):
             return path.stem, False, "the old text does not stand there once"
         target.write_text(text.replace(edit["old"], edit["new"]))
         run = subprocess.run(
-            ["rt", "check", crate], cwd=folder, capture_output=True, text=True, env=dict(os.environ, RT_JOBS="1")
+            ["rt", "check", "--jobs", "1"], cwd=folder / "crates" / crate, capture_output=True, text=True
         )
         said = run.stdout + run.stderr
         if run.returncode == 0:
             return path.stem, False, "not refused"
+        # A crate below it that falls is named after its errors.
+        fallen = re.search(r"the library (\w+) did not build", said)
         first = next((line for line in said.splitlines() if ": error" in line), "no error line")
-        first = first.replace(str(folder) + "/", "")
-        right = first.startswith(f"crates/{crate}/") and f": error: `{law}`" in first
+        first = f"{fallen.group(1) if fallen else crate}: {first}"
+        right = first.startswith(f"{crate}: ./proofs/") and f": error: `{law}`" in first
         return path.stem, right, first[:200]
 
 

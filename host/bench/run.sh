@@ -1,6 +1,6 @@
 #!/usr/bin/env bash
 # The benchmark: engines against each other in one process, without checks (profile bench-release).
-# Where the proved library has been built (rt staticlib c_interface) it is measured too, with its ratios.
+# Where the proved library has been built (./build.sh library) it is measured too, with its ratios.
 # Fewer rounds, or a part: host/bench/run.sh --rounds 5 --only nest (feeds: --only feed, several channels: --only channels,
 # traces by column: --only columns)
 set -eu

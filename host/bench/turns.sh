@@ -1,6 +1,6 @@
 #!/usr/bin/env bash
 # The library of this checkout against that of an earlier one, in turn: host/bench/turns.sh BEFORE [LAYOUTS] [words for the benchmark]
-# BEFORE is a folder with the project at another commit. Both libraries must be built (rt staticlib c_interface).
+# BEFORE is a folder with the project at another commit. Both libraries must be built (./build.sh library).
 # A loop takes up to a tenth more or less by where it lies, and any change moves what lies behind it. So each library is linked in several
 # layouts, by default twelve: in each its functions begin at other multiples of 16 bytes.
 set -eu

@@ -1,6 +1,6 @@
 //! Says where the proved static library lies, when this crate is built with the feature `linked`.
 //!
-//! `rt staticlib c_interface` writes `target/staticlib/libc_interface.a` at the top of the project;
+//! `./build.sh library` writes `target/staticlib/libc_interface.a` at the top of the project;
 //! PDEVS_LIBRARY_DIR names another folder that holds the archive.
 
 use std::path::PathBuf;
