@@ -1,10 +1,11 @@
 -- The keys counted so far and those among the rest of the bag are all that lie between the two.
-use Rattle.std.proofs.Common.{◌≡◌, ◌+◌, ◌-◌, ◌≤◌, cond, leb, length, get_or, drop, sym, ◌∙◌, ⊎_elim, arith, rules, le-leb}
+use Rattle.std.proofs.Common.{◌≡◌, ◌+◌, ◌-◌, ◌≤◌, cond, leb, length, get_or, drop, sym, ◌∙◌, arith, le-leb}
 use borrow.Author.Tests.{lt-leb}
 use Rattle.definition.specs.Lists.{count}
 use Rattle.step_rule.specs.Search.{between}
 use Rattle.step_rule.proofs.Laws.{count-more, count-end, none_between, between-above}
 use Rattle.step_rule.proofs.count_between.Goals as goal
+use Rattle.step_rule.proofs.count_between.Goals.{then-above-width, else-above-width}
 
 pub returns-then-high-low : goal.returns-then-high-low
 returns-then-high-low c = sym (none_between c.args.low c.args.high c.if-high-low.true c.args.bag.now)
@@ -15,10 +16,13 @@ loop-i-preserved c =
     let l = c.loop-i in
     let k = get_or a.bag.now l.i 0 in
     let r = c.wrapping_sub_u32-above.result in
-    let same : leb r (a.high - a.low) ≡ between a.low a.high k = between-above a.low a.high k r (omega arith) (omega arith) (omega arith) c.wrapping_sub_u32-above.ensures in
+    let same : leb r (a.high - a.low) ≡ between a.low a.high k = between-above a.low a.high k r (omega arith) (omega arith) (omega arith) c.wrapping_sub_u32-above.ensures.value in
     let e : c.if-above-width.n ≡ cond (between a.low a.high k) (l.n + 1) l.n =
-    ⊎_elim (λ w. rw (sym same, le-leb r (a.high - a.low) w.0.taken) w.1) (λ w. rw (sym same, lt-leb r (a.high - a.low) w.0.left) w.1) c.if-above-width.branch in
-    let b : c.if-above-width.n ≤ l.i + 1 = ⊎_elim (λ w. omega arith) (λ w. omega arith) c.if-above-width.branch in
+    elim c.if-above-width.branch [
+      | then-above-width w ↦ rw (sym same, le-leb r (a.high - a.low) w.if-above-width.true) w.n-is
+      | else-above-width w ↦ rw (sym same, lt-leb r (a.high - a.low) w.if-above-width.false) w.n-is
+    ] in
+    let b : c.if-above-width.n ≤ l.i + 1 = elim c.if-above-width.branch [ then-above-width w ↦ omega arith | else-above-width w ↦ omega arith ] in
     (l.invariant.0, omega arith, b, rw e (count-more (between a.low a.high) a.bag.now l.i l.n (omega arith)) ∙ l.invariant.3)
 
 pub returns : goal.returns

@@ -1,5 +1,5 @@
 -- A rule with another head does not hold; any other is read, and what is found in the slice of it alone is found at its position.
-use Rattle.std.proofs.Common.{◌≡◌, ◌*◌, ◌<◌, cond, map, get_or, sym, ap, ◌∙◌, arith, rules}
+use Rattle.std.proofs.Common.{◌≡◌, ◌*◌, ◌<◌, cond, map, get_or, sym, ap, ◌∙◌, arith}
 use mathlib.Core.Option.{none, some}
 use Rattle.definition.specs.Limits.{rule_size}
 use Rattle.definition.specs.Pinned.Decoder.{to_rule}
@@ -31,15 +31,13 @@ returns-in_default c =
     one-moved (ranges_of a.elapsed.half_open) a.component a.phase a.elapsed.time.0 (map message_of a.bag.now) (rules_in a.rules.now) a.i (rule_of c.rule_in-rule.result) none
     c.rule_in-rule.ensures (ap found_of (sym c.in_default.is) ∙ c.deciding_of-found.ensures)
 
--- NO GOAL overflow-add-position
--- add-position : tie.Need-overflow-add-position
--- add-position c =
---     let start : tie.Start = search in let after-deciding-of : tie.After-deciding-of = search in
---     let a = start.args in
---     let j = c.before.found.given.0.0 in
---     let z : j ≡ 0 = first_alone (ranges_of a.elapsed.half_open) a.component a.phase a.elapsed.time.0 (map message_of a.bag.now) _ j (ap found_of (sym
---     c.before.found.given.1) ∙ after-deciding-of.deciding-of.ensures) in
---     record { fits = omega arith }
+pub overflow_add-position : goal.overflow_add-position
+overflow_add-position c =
+    let a = c.args in
+    let j = c.in-At.j in
+    let z : j ≡ 0 = first_alone (ranges_of a.elapsed.half_open) a.component a.phase a.elapsed.time.0 (map message_of a.bag.now) _ j
+    (ap found_of (sym c.in-At.is) ∙ c.deciding_of-found.ensures) in
+    record { fits = omega arith }
 
 pub returns : goal.returns
 returns c =

@@ -1,5 +1,5 @@
 -- No position is left; or the first one decides; or it does not, and no later one does.
-use Rattle.std.proofs.Common.{◌≡◌, ℕ, Bool, map, get_or, sym, ap, ◌∙◌, arith, rules}
+use Rattle.std.proofs.Common.{◌≡◌, ℕ, Bool, map, get_or, sym, ap, ◌∙◌, arith}
 use Rattle.step_rule.proofs.Heads.{none-past}
 use Rattle.step_rule.proofs.Laws.{first-here, first-none}
 use Rattle.spec_step.specs.TableStep.{deciding_in}

@@ -1,8 +1,7 @@
 -- The first rule that holds from i on is the first from the range's begin on; each break is one case of the definition.
-use Rattle.std.proofs.Common.{◌≡◌, ◌-◌, ◌*◌, map, sym, ap, ◌∙◌, arith, rules}
+use Rattle.std.proofs.Common.{map, sym, ap, ◌∙◌, arith}
 use Rattle.step_rule.proofs.OneRule.{one_more}
 use Rattle.step_rule.specs.Search.{found_of}
-use Rattle.spec_step.specs.TableStep.{deciding_in}
 use Rattle.law_base.specs.Keys.{message_of}
 use Rattle.law_base.specs.Ranges.{ranges_of}
 use Rattle.model_records.specs.Values.{rules_in}

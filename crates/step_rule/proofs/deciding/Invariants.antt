@@ -1,11 +1,8 @@
-use Rattle.std.proofs.Common.{◌≡◌, ◌-◌, ◌*◌, map, sym, ap, ◌∙◌, arith, rules}
-use Rattle.step_rule.proofs.OneRule.{one_more}
-use Rattle.step_rule.specs.Search.{found_of}
+use Rattle.std.proofs.Common.{◌≡◌, ◌-◌, ◌*◌, map}
 use Rattle.spec_step.specs.TableStep.{deciding_in}
 use Rattle.law_base.specs.Keys.{message_of}
 use Rattle.law_base.specs.Ranges.{ranges_of}
 use Rattle.model_records.specs.Values.{rules_in}
-use mathlib.Core.Option.{none, some}
 use Rattle.step_rule.proofs.deciding.Given as goal
 
 abbrev pub invariant-loop-i : goal.invariant-loop-i

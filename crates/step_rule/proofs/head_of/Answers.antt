@@ -1,5 +1,5 @@
 -- The two cases of the definition.
-use Rattle.std.proofs.Common.{rules, le-ltb, lt-ltb}
+use Rattle.std.proofs.Common.{le-ltb, lt-ltb}
 use Rattle.step_rule.specs.Search.{head_of}
 use Rattle.step_rule.proofs.head_of.Goals as goal
 

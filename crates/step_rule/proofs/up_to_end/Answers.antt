@@ -1,5 +1,5 @@
 -- Below the high end and its ticks is up to the end (`below_end`).
-use Rattle.std.proofs.Common.{◌+◌, ltb, ◌∙◌, ap₂, rules}
+use Rattle.std.proofs.Common.{◌+◌, ltb, ◌∙◌, ap₂}
 use Rattle.law_base.specs.Ranges.{ranges_of}
 use Rattle.step_rule.proofs.Laws.{below_end}
 use Rattle.step_rule.proofs.up_to_end.Goals as goal

@@ -1,5 +1,4 @@
 -- The expression is the definition's, the low end as a 64-bit number.
-use Rattle.std.proofs.Common.{rules}
 use Rattle.definition.specs.Atomic.{within_elapsed}
 use Rattle.step_rule.proofs.within_elapsed.Goals as goal
 

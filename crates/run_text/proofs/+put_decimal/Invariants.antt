@@ -1,0 +1,5 @@
+-- The digits that are left to put fall.
+use Rattle.run_text.proofs.+put_decimal.Given as goal
+
+abbrev pub decreases-put_decimal : goal.decreases-put_decimal
+decreases-put_decimal l = l.k
