@@ -138,7 +138,7 @@ fn deciding_in(
     }
 }
 
-// The same in an array, which it lends: an array by value asks no proof by hand of its callers, where a lent slice of structs does.
+// The same in an array, which it lends as a slice.
 fn deciding_of(rules: [Rule; 1], component: u16, phase: u8, elapsed: Elapsed, bag: &[u32]) -> Found
     requires { length bag.now ≤ max_atomic_bag }
     ensures { found_of result ≡ deciding_in (ranges_of elapsed.half_open) (map rule_of rules) 0 1 component phase elapsed.time.0 (map message_of bag.now) }

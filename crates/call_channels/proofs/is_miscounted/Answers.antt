@@ -6,11 +6,5 @@ use Rattle.call_channels.proofs.is_miscounted.Goals as goal
 pub returns-then-count : goal.returns-then-count
 returns-then-count c = counts-out c.args.count c.args.allowance c.if-count.true
 
--- NO GOAL overflow-mul-result
--- mul-result : tie.Need-overflow-mul-result
--- mul-result c =
---     let start : tie.Start = search in
---     record { fits = omega (arith, in_count start.args.count start.args.allowance c.if1.false) }
-
 pub returns : goal.returns
 returns c = counts-in c.args.count c.args.allowance c.if-count.false

@@ -8,9 +8,5 @@ use Rattle.model_sections.proofs.length_of.Goals as goal
 few : (count size : ℕ) → count ≤ 65535 → size ≤ 255 → count * size ≤ 16711425
 few count size h l = mul-le-mul {n₁ = count} {m₁ = size} {n₂ = 65535} {m₂ = 255} h l
 
--- NO GOAL overflow-mul-result
--- mul-result : tie.Need-overflow-mul-result
--- mul-result c = omega (arith, few c.u16-to-usize.result c.before.args.size (omega arith) (omega arith))
-
 pub returns : goal.returns
 returns c = (rw c.u16_to_usize.ensures, omega (arith, few c.u16_to_usize.result c.args.size (omega arith) (omega arith)))

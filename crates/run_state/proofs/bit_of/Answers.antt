@@ -11,13 +11,5 @@ use Rattle.run_state.proofs.bit_of.Goals as goal
 one_shifted : (i : ℕ) → i < 64 → (1 * 2 ^ i) % 2 ^ 64 ≡ 2 ^ i
 one_shifted i h = shl_exact {a = 1} 1 i 64 (lit< tt) (omega arith) ∙ one-mul (2 ^ i)
 
--- NO GOAL overflow-cast-result-2
--- cast-result-2 : tie.Need-overflow-cast-result-2
--- cast-result-2 c = record { fits = omega (arith, c.requires) }
-
--- NO GOAL overflow-shl-result
--- shl-result : tie.Need-overflow-shl-result
--- shl-result c = omega (arith, c.requires)
-
 pub returns : goal.returns
 returns c = one_shifted c.args.position c.requires

@@ -5,10 +5,6 @@ use lib.Pow.{pow_pos}
 use Rattle.run_state.specs.Held.{is_told}
 use Rattle.run_state.proofs.is_told.Goals as goal
 
--- NO GOAL nonzero-div-result
--- div-result : tie.Need-nonzero-div-result
--- div-result c = rw c.bit-of.ensures (pow_pos _)
-
 pub returns : goal.returns
 unfolding is_told
 returns c = rw (c.bit_of.ensures, c.bits_in.ensures) refl

@@ -23,10 +23,6 @@ searched : (k : After-deciding) → Searched k
 unfolding rule_in
 searched k = rw (k.half_open_in.ensures, k.row_in-end.ensures, k.row_in-first.ensures) at k.deciding.ensures
 
--- NO GOAL overflow-add-result
--- add-result : tie.Need-overflow-add-result
--- add-result c = record { fits = omega (arith, c.told.ensures.0) }
-
 pub returns-in_default : goal.returns-in_default
 unfolding leads told_as
 returns-in_default c =
