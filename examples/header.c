@@ -266,6 +266,6 @@ int main(void) {
     holds(PDEVS_MAX_RUN == 577, "the longest run");
     holds(PDEVS_MAX_RULES_TABLE == 126, "the longest rules table");
     holds(PDEVS_MAX_CHANNELS == 8 && PDEVS_LEAST_STEPS_A_CHANNEL == 1024, "the channels of a call");
-    holds(strcmp(PDEVS_VERSION, "2.5") == 0, "the version");
+    holds(strcmp(PDEVS_VERSION, "2.4") == 0, "the version");
     return failed;
 }

@@ -76,8 +76,8 @@
 /* The version of this interface: the major number rises where programs must change, the minor where something is added or retired
    and they may stay as they are. */
 #define PDEVS_VERSION_MAJOR 2
-#define PDEVS_VERSION_MINOR 5
-#define PDEVS_VERSION PDEVS_VERSION_OF(PDEVS_VERSION_MAJOR, PDEVS_VERSION_MINOR) /* the same as a text, "2.5" */
+#define PDEVS_VERSION_MINOR 4
+#define PDEVS_VERSION PDEVS_VERSION_OF(PDEVS_VERSION_MAJOR, PDEVS_VERSION_MINOR) /* the same as a text, "2.4" */
 #define PDEVS_VERSION_OF(major, minor) PDEVS_VERSION_TEXT(major, minor)
 #define PDEVS_VERSION_TEXT(major, minor) #major "." #minor
 

@@ -27,7 +27,7 @@ module _ (Makes : Bytes → Type 0) (r : Result Bytes) (makes : (made : Bytes) �
   unfolding wrote
   short made h l = rw (makes made h, lt-ltb (length buffer) (length made) l)
 
-  module _ (nothing : ℕ) (Made-so : (made : Bytes) → r ≡ ok made → Makes made) (numbered : (n : ℕ) → r ≡ refused n → n ≡ nothing) where
+  module _ (nothing : ℕ) (made_so : (made : Bytes) → r ≡ ok made → Makes made) (numbered : (n : ℕ) → r ≡ refused n → n ≡ nothing) where
     refuses : (n : ℕ) → r ≡ refused n → wrote buffer r ≡ refused_write nothing buffer
     unfolding wrote
     refuses n e = rw e (ap (λ k. refused_write k buffer) (numbered n e))
@@ -36,7 +36,7 @@ module _ (Makes : Bytes → Type 0) (r : Result Bytes) (makes : (made : Bytes) �
     row-refused n (nothing_to_make none) = go r refl
       where
         go : (q : Result Bytes) → r ≡ q → wrote buffer r ≡ refused_write nothing buffer
-        go (ok made) e = absurd (none made (Made-so made e))
+        go (ok made) e = absurd (none made (made_so made e))
         go (refused j) e = refuses j e
     row-refused n (rearranging_refuses_buffer made h l) = short made h l
 
@@ -54,8 +54,8 @@ module _ (Makes : Bytes → Type 0) (r : Result Bytes) (makes : (made : Bytes) �
         go (ok made) e = room (ltb (length buffer) (length made)) refl
           where
             room : (b : Bool) → ltb (length buffer) (length made) ≡ b → Answers
-            room true f = let l = ltb-true (length buffer) (length made) f in too_short made (Made-so made e) l (short made (Made-so made e) l)
-            room false f = makes_it made (Made-so made e) (done made (Made-so made e) (ltb-false (length buffer) (length made) f))
+            room true f = let l = ltb-true (length buffer) (length made) f in too_short made (made_so made e) l (short made (made_so made e) l)
+            room false f = makes_it made (made_so made e) (done made (made_so made e) (ltb-false (length buffer) (length made) f))
 
     row-of : 0 < (wrote buffer r).number → RearrangingRefusal Makes nothing buffer (wrote buffer r).number
     row-of l = go answers
