@@ -27,7 +27,7 @@ use Rattle.instant_steps.specs.declared.Verdict.TheVariants as VV
 use Rattle.instant_attempt.specs.Progress.{progress_of}
 use Rattle.instant_attempt.specs.Pass.{hindrance_of, after_of, ended_by, Decided}
 use Rattle.instant_attempt.specs.declared.Progress.{Progress}
-use Rattle.instant_attempt.specs.declared.Turn.{Turn}
+use Rattle.instant_attempt.specs.declared.TurnWithin.{TurnWithin}
 use Rattle.instant_attempt.specs.declared.Ended.{Ended}
 
 -- ---- an instant without a step
@@ -94,7 +94,7 @@ told now i r e v h = subst (λ (w : Verdict). Said now i r w) h (subst (λ (q : 
 
 -- ---- where the instant ends
 
-module _ (turn : Turn) (tables w₀ : List ℕ) (trace : Bytes) (h : turn.progress.used ≤ length trace) where
+module _ (turn : TurnWithin) (tables w₀ : List ℕ) (trace : Bytes) (h : turn.progress.used ≤ length trace) where
   abbrev now : ℕ
   now = turn.at.0
 

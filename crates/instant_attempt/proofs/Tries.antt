@@ -24,17 +24,17 @@ use Rattle.instant_steps.specs.Sim.{Ready, rules_shown}
 use Rattle.instant_steps.specs.Verdicts.{ran_of, Recorded, Left, RulesLeft}
 use Rattle.instant_steps.specs.declared.Ran.{Ran}
 use Rattle.instant_steps.specs.declared.Verdict.TheVariants as VV
-use Rattle.instant_attempt.specs.Progress.{rules_by, progress_of, tried_of, Tried}
+use Rattle.instant_attempt.specs.Progress.{rules_by, progress_of, tried_of, TriedWithin}
 use Rattle.instant_attempt.specs.Pass.{after_of, Hindered, Stands, Decided}
 use Rattle.instant_attempt.specs.declared.Progress.{Progress}
-use Rattle.instant_attempt.specs.declared.Turn.{Turn}
+use Rattle.instant_attempt.specs.declared.TurnWithin.{TurnWithin}
 use Rattle.instant_attempt.specs.declared.Ended.{Ended}
 use Rattle.instant_attempt.proofs.Passes.{no-records}
 
 -- ---- a number leaves the instant undone
 
-pub hindered-tried : (phases tables : List ℕ) (turn : Turn) (w₀ w : List ℕ) (trace : Bytes) (i : Instant State) (r : Ended) → turn.progress.used ≤ length trace
-    → (r.number ≡ 0 → ⊥) → Hindered turn tables w₀ trace i r → Ready phases tables w₀ → w ≡ w₀ → Tried phases tables turn w₀ w trace trace i r
+pub hindered-tried : (phases tables : List ℕ) (turn : TurnWithin) (w₀ w : List ℕ) (trace : Bytes) (i : Instant State) (r : Ended) → turn.progress.used ≤ length trace
+    → (r.number ≡ 0 → ⊥) → Hindered turn tables w₀ trace i r → Ready phases tables w₀ → w ≡ w₀ → TriedWithin phases tables turn w₀ w trace trace i r
 hindered-tried phases tables turn w₀ w trace i r l z h ready back =
     let e : r.progress ≡ turn.progress = h.progress in record {
       same = rw (ne_eqb r.number 0 z) h.same;
@@ -65,7 +65,7 @@ module _ (now : ℕ) (p : Progress) (steps size : ℕ) where
       go true e = rw (after_none (eqb-true steps 0 e)) (omega (arith, z (eqb-true steps 0 e)))
       go false e = rw (after-some (eqb-false steps 0 e))
 
-module _ {turn : Turn} {room : ℕ} {i : Instant State} {q : Progress} (s : Stands turn room i q) where
+module _ {turn : TurnWithin} {room : ℕ} {i : Instant State} {q : Progress} (s : Stands turn room i q) where
   abbrev now : ℕ
   now = turn.at.0
 
@@ -99,7 +99,7 @@ module _ {turn : Turn} {room : ℕ} {i : Instant State} {q : Progress} (s : Stan
   verdict-again from ran e =
       ap (λ (d : Ran). d.verdict) (e ∙ ap (λ (j : Instant State). ran_of now from j) s.same)
 
-pub decided-more : {turn : Turn} {tables w₀ : List ℕ} {trace : Bytes} {i : Instant State} {r : Ended} → Decided turn tables w₀ trace i r
+pub decided-more : {turn : TurnWithin} {tables w₀ : List ℕ} {trace : Bytes} {i : Instant State} {r : Ended} → Decided turn tables w₀ trace i r
     → turn.progress.used ≤ r.progress.used
 decided-more {turn = turn} {r = r} e = go (eqb r.number 0) refl
   where
@@ -119,7 +119,7 @@ rules-some n w₀ w (x ∷ xs) st h e = h
 
 -- ---- its records are in the trace
 
-module _ {turn : Turn} (tables w₀ w : List ℕ) (trace trace' : Bytes) {i : Instant State} (r : Ended) (s : Stands turn (length trace) i r.progress)
+module _ {turn : TurnWithin} (tables w₀ w : List ℕ) (trace trace' : Bytes) {i : Instant State} (r : Ended) (s : Stands turn (length trace) i r.progress)
     (zero : r.number ≡ 0) (idle : length s.outputs ≡ 0 → s.end ≡ held_in w₀) (left : held_in w ≡ s.end) (rules : RulesLeft (atomics_in tables) w₀ w i)
     (put : trace' ≡ sets trace turn.progress.used (recs s)) where
   abbrev at : ℕ
@@ -196,7 +196,7 @@ module _ {turn : Turn} (tables w₀ w : List ℕ) (trace trace' : Bytes) {i : In
       let steps : (progress_of trace' tables w r.progress).steps ≡ r.progress.steps = unfold progress_of in refl in
       ok-as ∙ sym (within-ok turn.has (length trace) at (progress_of trace tables w₀ g) i _ (sym same-tried ∙ ok-as) (omega (arith, steps, counts.2)))
 
-  pub stands-tried : (phases : List ℕ) → Ready phases tables w → Tried phases tables turn w₀ w trace trace' i r
+  pub stands-tried : (phases : List ℕ) → Ready phases tables w → TriedWithin phases tables turn w₀ w trace trace' i r
   stands-tried phases ready =
       let u = used-of s in record {
         same = same;

@@ -15,7 +15,7 @@ use Rattle.instant_steps.specs.declared.Verdict.{Verdict}
 use Rattle.instant_steps.specs.declared.Verdict.TheVariants as VV
 use Rattle.instant_attempt.specs.Progress.{progress_of}
 use Rattle.instant_attempt.specs.declared.Progress.{Progress}
-use Rattle.instant_attempt.specs.declared.Turn.{Turn}
+use Rattle.instant_attempt.specs.declared.TurnWithin.{TurnWithin}
 use Rattle.instant_attempt.specs.declared.Ended.{Ended}
 
 -- ---- the answer
@@ -36,19 +36,19 @@ after_of now p steps size =
     (record { opening = record { 0 = now + 1 }; instants = p.instants + 1; steps = p.steps + steps; used = p.used + size })
 
 -- Where the instant ends, by its first pass.
-unfoldable pub ended_by : ℕ → Turn → Ran → Ended
+unfoldable pub ended_by : ℕ → TurnWithin → Ran → Ended
 ended_by room turn ran =
     let p = turn.progress in
     let number = hindrance_of room turn.has (p.steps + ran.steps) ran in
     cond (eqb number 0) (record { number = 0; progress = after_of turn.at.0 p ran.steps ran.used }) (record { number = number; progress = p })
 
 -- A number leaves the instant undone.
-pub record Hindered (turn : Turn) (tables w₀ : List ℕ) (trace : Bytes) (i : Instant State) (r : Ended) : Type 0 where
+pub record Hindered (turn : TurnWithin) (tables w₀ : List ℕ) (trace : Bytes) (i : Instant State) (r : Ended) : Type 0 where
   pub same : refused r.number ≡ tried_within turn.has (length trace) turn.at.0 (progress_of trace tables w₀ turn.progress) i
   pub progress : r.progress ≡ turn.progress
 
 -- The instant stands: what its steps gave and the state that it leaves, room for its records, steps enough, and the progress q with it.
-pub record Stands (turn : Turn) (room : ℕ) (i : Instant State) (q : Progress) : Type 0 where
+pub record Stands (turn : TurnWithin) (room : ℕ) (i : Instant State) (q : Progress) : Type 0 where
   pub outputs : List Output
   pub end : State
   pub same : i ≡ done outputs end
@@ -58,7 +58,7 @@ pub record Stands (turn : Turn) (room : ℕ) (i : Instant State) (q : Progress) 
   pub progress : q ≡ after_of turn.at.0 turn.progress (length outputs) (length (instant_trace turn.at.0 outputs))
 
 -- Where the instant ends: undone by a number, or standing.
-pub record Decided (turn : Turn) (tables w₀ : List ℕ) (trace : Bytes) (i : Instant State) (r : Ended) : Type 0 where
+pub record Decided (turn : TurnWithin) (tables w₀ : List ℕ) (trace : Bytes) (i : Instant State) (r : Ended) : Type 0 where
   pub hindered : (r.number ≡ 0 → ⊥) → Hindered turn tables w₀ trace i r
   pub stands : r.number ≡ 0 → Stands turn (length trace) i r.progress
 
@@ -77,7 +77,7 @@ pub record Kept (phases tables : List ℕ) (now : ℕ) (w₀ w scratch₀ scratc
 
 -- Where the instant of a turn ends by its first pass, and what the pass leaves: by whether its records are in the scratch, the instant's
 -- state or the one before it.
-pub record Passed (phases tables : List ℕ) (turn : Turn) (w₀ w scratch₀ scratch trace : List ℕ) (i : Instant State) (r : Ended) : Type 0 where
+pub record Passed (phases tables : List ℕ) (turn : TurnWithin) (w₀ w scratch₀ scratch trace : List ℕ) (i : Instant State) (r : Ended) : Type 0 where
   pub decided : Decided turn tables w₀ trace i r
   pub kept : in_scratch turn.progress (length scratch) r ≡ true → Kept phases tables turn.at.0 w₀ w scratch₀ scratch i
   pub back : in_scratch turn.progress (length scratch) r ≡ false → w ≡ w₀

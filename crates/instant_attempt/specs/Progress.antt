@@ -4,6 +4,7 @@ use Rattle.definition.specs.Bytes.{Bytes, Result, ok, refused}
 use Rattle.definition.specs.Limits.{max_steps}
 use Rattle.definition.specs.Instant.{Instant}
 use Rattle.definition.specs.Channels.{tried_within}
+use Rattle.definition.specs.Advance.{tried}
 use Rattle.definition.specs.Advance as Definition
 use Rattle.clock.specs.Times.{latest}
 use Rattle.run_state.specs.declared.State.{State}
@@ -12,6 +13,7 @@ use Rattle.spec_step.specs.Tables.{atomics_in}
 use Rattle.instant_steps.specs.Sim.{Lent, Ready, Steppable, rules_shown}
 use Rattle.instant_attempt.specs.declared.Progress.{Progress}
 use Rattle.instant_attempt.specs.declared.Turn.{Turn}
+use Rattle.instant_attempt.specs.declared.TurnWithin.{TurnWithin}
 use Rattle.instant_attempt.specs.declared.Ended.{Ended}
 
 -- The rules of the last instant done, if the call has done one.
@@ -57,6 +59,12 @@ pub record CanTry (phases tables : List ℕ) (turn : Turn) (w : List ℕ) (work 
   pub steppable : Steppable phases tables turn.at.0 w
   pub room : Room turn.progress trace
 
+-- The same of a turn with the steps that the call may do.
+pub record CanTryWithin (phases tables : List ℕ) (turn : TurnWithin) (w : List ℕ) (work trace : ℕ) : Type 0 where
+  pub lent : Lent work
+  pub steppable : Steppable phases tables turn.at.0 w
+  pub room : Room turn.progress trace
+
 -- Nothing has changed.
 pub record Undone (p : Progress) (w₀ w : List ℕ) (trace₀ trace : Bytes) (r : Ended) : Type 0 where
   pub progress : r.progress ≡ p
@@ -66,6 +74,16 @@ pub record Undone (p : Progress) (w₀ w : List ℕ) (trace₀ trace : Bytes) (r
 -- An instant i, tried in a turn with the state and the trace as they were lent: the definition's progress or number, the whole trace, and a
 -- state that is ready for another instant. An undone instant leaves the state, and every byte of the trace, as it was.
 pub record Tried (phases tables : List ℕ) (turn : Turn) (w₀ w : List ℕ) (trace₀ trace : Bytes) (i : Instant State) (r : Ended) : Type 0 where
+  pub same : tried_of trace tables w r ≡ tried (length trace₀) turn.at.0 (progress_of trace₀ tables w₀ turn.progress) i
+  pub beyond : Beyond trace₀ trace r.progress.used
+  pub undone : (r.number ≡ 0 → ⊥) → Undone turn.progress w₀ w trace₀ trace r
+  pub more : turn.progress.used ≤ r.progress.used
+  pub instants : r.progress.instants ≤ turn.progress.instants + 1
+  pub steps : r.progress.steps ≤ turn.progress.steps + max_steps
+  pub ready : Ready phases tables w
+
+-- The same within the steps that the call may do.
+pub record TriedWithin (phases tables : List ℕ) (turn : TurnWithin) (w₀ w : List ℕ) (trace₀ trace : Bytes) (i : Instant State) (r : Ended) : Type 0 where
   pub same : tried_of trace tables w r ≡ tried_within turn.has (length trace₀) turn.at.0 (progress_of trace₀ tables w₀ turn.progress) i
   pub beyond : Beyond trace₀ trace r.progress.used
   pub undone : (r.number ≡ 0 → ⊥) → Undone turn.progress w₀ w trace₀ trace r

@@ -3,12 +3,12 @@
 
 ghost use Rattle.std.specs.Prelude.{◌≡◌, ◌+◌, length};
 ghost use Rattle.instant_steps.specs.Sim.{instant_of};
-ghost use Rattle.instant_attempt.specs.Progress.{Countable, CanTry, Tried};
+ghost use Rattle.instant_attempt.specs.Progress.{Countable, CanTry, CanTryWithin, Tried, TriedWithin};
 ghost use Rattle.instant_attempt.specs.Pass.{hindrance_of, after_of, ended_by, Passed};
 
 use clock::Moment;
 use instant_steps::{Ran, Verdict, instant};
-use limits::{BUFFER_TOO_SHORT, OUT_OF_STEPS, STILL_DUE};
+use limits::{BUFFER_TOO_SHORT, NO_LIMIT, OUT_OF_STEPS, STILL_DUE};
 use little_endian::{front, put_bytes};
 use run_state::STATE_SIZE;
 use table_words::TABLE_SIZE;
@@ -22,9 +22,16 @@ pub struct Progress {
     pub used: usize,
 }
 
-// The moment of an instant, the steps that the call may do in all, and how far it has come before the instant.
+// The moment of an instant, and how far the call has come before it.
 #[derive(Clone, Copy)]
 pub struct Turn {
+    pub at: Moment,
+    pub progress: Progress,
+}
+
+// The moment of an instant, the steps that the call may do in all, and how far it has come before the instant.
+#[derive(Clone, Copy)]
+pub struct TurnWithin {
     pub at: Moment,
     pub has: u64,
     pub progress: Progress,
@@ -76,7 +83,7 @@ fn after(at: Moment, p: Progress, steps: u64, size: usize) -> Progress
 }
 
 // Where an instant ends, by its first pass and the bytes that the trace has left.
-fn ended_by(room: usize, turn: Turn, ran: Ran) -> Ended
+fn ended_by(room: usize, turn: TurnWithin, ran: Ran) -> Ended
     requires { Countable turn.at.0 turn.progress ran.steps room }
     ensures { result ≡ ended_by room turn ran }
 {
@@ -100,14 +107,14 @@ fn first_pass(
     phases: &[u8],
     rules: &[u8],
     tables: &[u16; TABLE_SIZE],
-    turn: Turn,
+    turn: TurnWithin,
     given: &[u8],
     state: &mut [u64; STATE_SIZE],
     work: &mut [u32],
     scratch: &mut [u8],
     trace: &[u8],
 ) -> Ended
-    requires { CanTry phases.now tables.now turn state.old (length work.old) (length trace.now) }
+    requires { CanTryWithin phases.now tables.now turn state.old (length work.old) (length trace.now) }
     ensures { Passed phases.now tables.now turn state.old state.new scratch.old scratch.new trace.now
         (instant_of phases.now rules.now tables.now (length work.old) turn.at.0 given.now state.old) result }
 {
@@ -121,6 +128,41 @@ fn first_pass(
         return e;
     }
     *state = old;
+    e
+}
+
+// The instant of a turn, within the steps that the call may do. Where the records of the first pass fit into the scratch they are copied,
+// and otherwise a second pass, from the old state, puts them into the trace.
+pub fn attempt_within(
+    phases: &[u8],
+    rules: &[u8],
+    tables: &[u16; TABLE_SIZE],
+    turn: TurnWithin,
+    given: &[u8],
+    state: &mut [u64; STATE_SIZE],
+    work: &mut [u32],
+    scratch: &mut [u8],
+    trace: &mut [u8],
+) -> Ended
+    requires { CanTryWithin phases.now tables.now turn state.old (length work.old) (length trace.old) }
+    ensures { TriedWithin phases.now tables.now turn state.old state.new trace.old trace.new
+        (instant_of phases.now rules.now tables.now (length work.old) turn.at.0 given.now state.old) result }
+{
+    let p = turn.progress;
+    let e = first_pass(
+        phases, rules, tables, turn, given, state, work, scratch, trace,
+    );
+    if e.number != 0 {
+        return e;
+    }
+    let size = e.progress.used - p.used;
+    if size <= scratch.len() {
+        put_bytes(front(scratch, size), trace, p.used);
+        return e;
+    }
+    let _second = instant(
+        phases, rules, tables, turn.at, given, state, work, trace, p.used,
+    );
     e
 }
 
@@ -141,20 +183,12 @@ pub fn attempt(
     ensures { Tried phases.now tables.now turn state.old state.new trace.old trace.new
         (instant_of phases.now rules.now tables.now (length work.old) turn.at.0 given.now state.old) result }
 {
-    let p = turn.progress;
-    let e = first_pass(
-        phases, rules, tables, turn, given, state, work, scratch, trace,
-    );
-    if e.number != 0 {
-        return e;
-    }
-    let size = e.progress.used - p.used;
-    if size <= scratch.len() {
-        put_bytes(front(scratch, size), trace, p.used);
-        return e;
-    }
-    let _second = instant(
-        phases, rules, tables, turn.at, given, state, work, trace, p.used,
-    );
-    e
+    let within = TurnWithin {
+        at: turn.at,
+        has: NO_LIMIT,
+        progress: turn.progress,
+    };
+    attempt_within(
+        phases, rules, tables, within, given, state, work, scratch, trace,
+    )
 }

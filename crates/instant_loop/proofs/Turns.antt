@@ -27,7 +27,7 @@ use Rattle.run_state.specs.Held.{held_in}
 use Rattle.law_step.proofs.Carried.{before-number, moment-number}
 use Rattle.instant_steps.specs.Sim.{Ready}
 use Rattle.instant_steps.proofs.Steps.{bag-none}
-use Rattle.instant_attempt.specs.Progress.{rules_by, progress_of, tried_of, Beyond, Tried}
+use Rattle.instant_attempt.specs.Progress.{rules_by, progress_of, tried_of, Beyond, TriedWithin}
 use Rattle.instant_attempt.specs.declared.Progress.{Progress}
 use Rattle.instant_attempt.specs.declared.Ended.{Ended}
 use Rattle.instant_loop.specs.Ends.{within_of, given_to, ended_of, Advanced, finished_of}
@@ -108,7 +108,7 @@ state-in trace tables ws g = refl
 
 -- An instant at v after the progress g, tried.
 abbrev pub TriedAt : List ℕ → List ℕ → (has v : ℕ) → Progress → List ℕ → List ℕ → Bytes → Bytes → Instant State → Ended → Type 0
-TriedAt phases tables has v g ws ws' trace trace' i e = Tried phases tables (record { at = record { 0 = v }; has = has; progress = g }) ws ws' trace trace' i e
+TriedAt phases tables has v g ws ws' trace trace' i e = TriedWithin phases tables (record { at = record { 0 = v }; has = has; progress = g }) ws ws' trace trace' i e
 
 -- An undone instant leaves the progress as it was.
 left_as : {phases tables : List ℕ} {has : ℕ} (v : ℕ) (g : Progress) (ws ws' : List ℕ) (trace trace' : Bytes) (i : Instant State) (e : Ended) → TriedAt phases tables has v g ws ws' trace trace' i e

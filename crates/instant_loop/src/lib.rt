@@ -8,7 +8,7 @@ ghost use Rattle.instant_attempt.specs.Progress.{progress_of};
 ghost use Rattle.instant_loop.specs.Ends.{Callable, Startable, given_to, within_of, advancing_of, turned_by, advanced_by, Advanced, finished_of, Outcome};
 
 use clock::Moment;
-use instant_attempt::{Ended, Progress, Turn, attempt};
+use instant_attempt::{Ended, Progress, TurnWithin, attempt_within};
 use limits::NO_LIMIT;
 use run_state::STATE_SIZE;
 use table_words::{TABLE_SIZE, atomics_in};
@@ -82,12 +82,12 @@ fn advance_within(
     while 0 < left {
         let at = next_moment(run_state::next_due(state), t);
         let given = given_to(bag, at, t);
-        let turn = Turn {
+        let turn = TurnWithin {
             at,
             has,
             progress: p,
         };
-        let e = attempt(
+        let e = attempt_within(
             phases,
             rules,
             tables,
