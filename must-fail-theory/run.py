@@ -11,7 +11,7 @@ Each *.edit beside this file changes one line of a crate's specs/ and names the 
     law: law_flat `flat-sound`
 
 The edit is made in a copy of the repository without the computed tables (which refuse most of these edits too), and the crates up to the
-one with that law are checked there. It passes where the check fails and the first error names that law. Two edits run at a time;
+one with that law are checked there. It passes where the check fails and the first error names that law. As many edits run at a time as there are processors;
 run.py NAME.. tries those alone.
 """
 import concurrent.futures
@@ -72,7 +72,7 @@ def main():
     names = sys.argv[1:]
     edits = sorted(path for path in HERE.glob("*.edit") if not names or path.stem in names)
     good = 0
-    with concurrent.futures.ThreadPoolExecutor(max_workers=2) as pool:
+    with concurrent.futures.ThreadPoolExecutor(max_workers=os.cpu_count() or 2) as pool:
         for name, right, first in pool.map(try_edit, edits):
             good += right
             print(f"{'refused' if right else 'WRONG'}: {name}: {first}", flush=True)
