@@ -13,7 +13,7 @@ needed_crates() {
       count = split(needs[crate], own, " ")
       for (k = 1; k <= count; k++) visit(own[k])
     }
-    { split($0, sides, ":"); needs[sides[1]] = sides[2] }
+    { split($0, sides, ":"); sub(/ .*/, "", sides[1]); needs[sides[1]] = sides[2] }
     END { visit(name); print total + 0 }
   ' crates.txt
 }
@@ -22,7 +22,7 @@ needed_crates() {
 minutes() { printf '%d min %02d s' $((SECONDS / 60)) $((SECONDS % 60)); }
 
 # follow TITLE [CRATES [EDITS]]: passes standard input on, and tells how many crates of so many are left to prove, then how
-# many edits of so many to try, and which are at work.
+# many edits of so many to try.
 follow() {
   local title=$1 crates=${2:-0} edits=${3:-0} proved=0 tried=0
   local line='' piece status next=$((SECONDS + 10)) on_terminal=0 width
