@@ -1,6 +1,6 @@
 #!/usr/bin/env bash
 # Runs the proved programs and the C library on the example files and compares what they write with what is kept here. The
-# programs are built first where they are missing. The exit status is 0 only where everything agreed.
+# programs are built first, so that none of an older source is tried. The exit status is 0 only where everything agreed.
 set -u
 here=$(cd "$(dirname "$0")" && pwd)
 top=$(dirname "$here")
@@ -9,7 +9,7 @@ trap 'rm -rf "$made"' EXIT
 failed=0
 
 cd "$top" || exit 1
-[ -f target/bin/print_run ] || ./build.sh program || exit 1
+./build.sh program >"$made/build.log" 2>&1 || { cat "$made/build.log"; exit 1; }
 
 # agree NAME FILE FILE
 agree() {
@@ -36,7 +36,7 @@ for input in "$here"/*.bin; do
 done
 
 # The C boundary.
-[ -f target/staticlib/libc_interface.a ] || ./build.sh library || exit 1
+./build.sh library >"$made/build.log" 2>&1 || { cat "$made/build.log"; exit 1; }
 
 # build NAME SOURCE..: a C program over the library
 build() {
