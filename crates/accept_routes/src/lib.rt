@@ -10,11 +10,12 @@ ghost use Rattle.model_file.specs.Checked.{checked_as};
 ghost use Rattle.law_routes.specs.Nodes.{port_nodes};
 ghost use Rattle.law_routes.specs.Ways.{ways_cap, four, table_routes};
 ghost use Rattle.table_couplings.specs.Links.{zeros};
-ghost use Rattle.accept_routes.specs.Routed.{Routed, LinkedBy};
+ghost use Rattle.accept_routes.specs.Routed.{accepted_as, Routed, LinkedBy};
 
 use accept_ways::capped;
-use limits::{MAX_NODES, MAX_ROUTES, OUTPUTS_AT, PORT_NODES, TOO_MANY_ROUTES};
-use model_file::Checked;
+use limits::{MAX_NODES, MAX_ROUTES, OUTPUTS_AT, PORT_NODES};
+use model_file::Counts;
+use refusals::Refusal;
 use table_words::{LINKS, TABLE_SIZE};
 
 // The sum of four entries.
@@ -45,20 +46,17 @@ fn route_total(components: &[u8], ways: &[u16; MAX_NODES]) -> u16
     requires { length (components_in components.now) ≤ max_components }
     ensures { result ≡ min ways_cap (table_routes (components_in components.now) ways.now) }
 {
-    let n = model_records::component_count(components);
     let mut total = four_ways(ways, 0);
-    let mut c: usize = 0;
-    while c < n {
+    for c in 0..model_records::component_count(components) {
         total = capped(total, own_ways(components, ways, c));
-        c = c + 1;
     }
     total
 }
 
-// The whole check of a model file, and the number of routes where it is accepted.
+// What the whole check tells of an accepted model file: how many records each section has, and the number of routes.
 #[derive(Clone, Copy)]
-pub struct RoutesCounted {
-    pub checked: Checked,
+pub struct Accepted {
+    pub counts: Counts,
     pub routes: u16,
 }
 
@@ -67,61 +65,39 @@ pub fn check_routes(
     file: &[u8],
     tables: &mut [u16; TABLE_SIZE],
     targets: &mut [u16; LINKS],
-) -> RoutesCounted
+) -> Result<Accepted, Refusal>
     requires { (tables.old ≡ zeros) × (length targets.old ≡ max_couplings + 1) }
-    ensures { (checked_as file.now result.checked ≡ accepted file.now) × Routed file.now result.checked result.routes
-        × LinkedBy file.now result.checked targets.new tables.new }
+    ensures { (accepted_as file.now result ≡ accepted file.now) × Routed file.now result × LinkedBy file.now result targets.new tables.new }
 {
-    let read = model_file::decode_model(file);
-    let Checked::Accepted(n) = read else {
-        return RoutesCounted {
-            checked: Checked::Refused(read.refusal()),
-            routes: 0,
-        };
-    };
-    let components = model_file::components_of(file, n);
-    let couplings = model_file::couplings_of(file, n);
+    let counts = model_file::decode_model(file)?;
+    let components = model_file::components_of(file, counts);
+    let couplings = model_file::couplings_of(file, counts);
     table_couplings::put_ends(components, couplings, targets, tables);
     let mut ways = [0u16; MAX_NODES];
     accept_ways::count_ways(components, couplings, tables, targets, &mut ways);
     let routes = route_total(components, &ways);
     if MAX_ROUTES < routes {
-        return RoutesCounted {
-            checked: Checked::Refused(TOO_MANY_ROUTES),
-            routes: 0,
-        };
+        return Err(Refusal::TooManyRoutes);
     }
-    RoutesCounted {
-        checked: Checked::Accepted(n),
-        routes,
-    }
-}
-
-// The same without the number of routes.
-pub fn check_linked(
-    file: &[u8],
-    tables: &mut [u16; TABLE_SIZE],
-    targets: &mut [u16; LINKS],
-) -> Checked
-    requires { (tables.old ≡ zeros) × (length targets.old ≡ max_couplings + 1) }
-    ensures { (checked_as file.now result ≡ accepted file.now) × LinkedBy file.now result targets.new tables.new }
-{
-    let counted = check_routes(file, tables, targets);
-    counted.checked
+    Ok(Accepted { counts, routes })
 }
 
 // The same for a call that fills no tables.
-pub fn check(file: &[u8]) -> Checked
+pub fn check(file: &[u8]) -> Result<Counts, Refusal>
     ensures { checked_as file.now result ≡ accepted file.now }
 {
     let mut tables = [0u16; TABLE_SIZE];
     let mut targets = [0u16; LINKS];
-    check_linked(file, &mut tables, &mut targets)
+    let accepted = check_routes(file, &mut tables, &mut targets)?;
+    Ok(accepted.counts)
 }
 
-// The number by which a model file is refused, or 0.
-pub fn check_model(file: &[u8]) -> u16
+// The number by which a model file is refused, or 0, as the call answers it to C.
+pub fn check_model(file: &[u8]) -> u64
     ensures { result ≡ check_model file.now }
 {
-    check(file).refusal()
+    match check(file) {
+        Ok(_) => 0,
+        Err(refusal) => u64::from(refusal),
+    }
 }

@@ -4,14 +4,15 @@
 ghost use Rattle.std.specs.Prelude.{◌≡◌};
 ghost use Rattle.definition.specs.Bytes.{ok};
 ghost use Rattle.definition.specs.Pinned.Decoder.{accepted};
-ghost use Rattle.model_file.specs.Checked.{model_of, checked_as};
+ghost use Rattle.model_file.specs.Checked.{model_of};
 ghost use Rattle.table_couplings.specs.Links.{zeros};
-ghost use Rattle.accept_routes.specs.Routed.{Routed, Linked};
+ghost use Rattle.accept_routes.specs.Routed.{accepted_as, Routed, Linked};
 ghost use Rattle.spec_step.specs.TablesOf.{TablesOf};
 ghost use Rattle.accept_tables.specs.Opened.{Opened};
 
-use accept_routes::RoutesCounted;
-use model_file::{Checked, Counts};
+use accept_routes::Accepted;
+use model_file::Counts;
+use refusals::Refusal;
 use table_words::{LINKS, TABLE_SIZE};
 
 // The other tables, where the words of the links stand.
@@ -30,17 +31,12 @@ fn fill(file: &[u8], n: Counts, targets: &[u16; LINKS], tables: &mut [u16; TABLE
 }
 
 // The tables are lent as zeros.
-pub fn open_model(file: &[u8], tables: &mut [u16; TABLE_SIZE]) -> RoutesCounted
+pub fn open_model(file: &[u8], tables: &mut [u16; TABLE_SIZE]) -> Result<Accepted, Refusal>
     requires { tables.old ≡ zeros }
-    ensures { (checked_as file.now result.checked ≡ accepted file.now) × Routed file.now result.checked result.routes
-        × Opened file.now result.checked tables.new }
+    ensures { (accepted_as file.now result ≡ accepted file.now) × Routed file.now result × Opened file.now result tables.new }
 {
     let mut targets = [0u16; LINKS];
-    let counted = accept_routes::check_routes(file, tables, &mut targets);
-    let checked = counted.checked;
-    let Checked::Accepted(n) = checked else {
-        return counted;
-    };
-    fill(file, n, &targets, tables);
-    counted
+    let accepted = accept_routes::check_routes(file, tables, &mut targets)?;
+    fill(file, accepted.counts, &targets, tables);
+    Ok(accepted)
 }

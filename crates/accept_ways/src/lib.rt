@@ -12,14 +12,13 @@ ghost use Rattle.accept_ways.specs.Words.{link_taken, link_on, ways_down, ways_u
 
 use limits::{MAX_NODES, OUTPUTS_AT, PORT_NODES, WAYS_CAP};
 use table_words::{LINKS, SOURCE_AT, TABLE_SIZE};
-use widen::{u16_to_u32, u16_to_usize};
 
 // A sum up to the cap.
 pub fn capped(a: u16, b: u16) -> u16
     ensures { result ≡ min ways_cap (a + b) }
 {
-    let sum = u16_to_u32(a) + u16_to_u32(b);
-    if sum < u16_to_u32(WAYS_CAP) {
+    let sum = a as u32 + b as u32;
+    if sum < WAYS_CAP as u32 {
         sum as u16
     } else {
         WAYS_CAP
@@ -54,15 +53,16 @@ fn take_side(
     requires { (j ≤ max_couplings) × (source_in tables.now j < port_nodes * max_components) × (get_or targets.now j 0 < port_nodes * max_components) }
     ensures { ways.new ≡ link_on output (source_in tables.now j) (get_or targets.now j 0) ways.old }
 {
-    let x = u16_to_usize(tables[SOURCE_AT + j]);
+    let x = tables[SOURCE_AT + j] as usize;
     if is_output(x) == output {
-        take_link(x, u16_to_usize(targets[j]), ways);
+        take_link(x, targets[j] as usize, ways);
     }
 }
 
 // ---- all links
 
-// The links that lead down, from the last to the first: a child's links stand behind its parent's.
+// The links that lead down, from the last to the first: a child's links stand behind its parent's. Two directions, two functions: one for both
+// would take the range and the side, for a loop of one line.
 fn ways_down(
     tables: &[u16; TABLE_SIZE],
     targets: &[u16; LINKS],
@@ -72,10 +72,8 @@ fn ways_down(
     requires { (n ≤ max_couplings) × OnNodes (source_in tables.now) (λ j. get_or targets.now j 0) n }
     ensures { ways.new ≡ ways_down (source_in tables.now) (λ j. get_or targets.now j 0) n ways.old }
 {
-    let mut j = n;
-    while 0 < j {
+    for j in (1..n + 1).rev() {
         take_side(tables, targets, j, false, ways);
-        j = j - 1;
     }
 }
 
@@ -89,10 +87,8 @@ fn ways_up(
     requires { (n ≤ max_couplings) × OnNodes (source_in tables.now) (λ j. get_or targets.now j 0) n }
     ensures { ways.new ≡ ways_up (source_in tables.now) (λ j. get_or targets.now j 0) n 1 ways.old }
 {
-    let mut j: usize = 1;
-    while j <= n {
+    for j in 1..n + 1 {
         take_side(tables, targets, j, true, ways);
-        j = j + 1;
     }
 }
 

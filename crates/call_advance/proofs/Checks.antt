@@ -4,7 +4,6 @@ use Prim.Native.Nat.{ℕ}
 use mathlib.Core.Bool.{true, false, ◌||◌}
 use lib.Dec.{ltb}
 use lib.ListN.{length}
-use borrow.Author.Tests.{ne_eqb}
 use Rattle.definition.specs.Bytes.{Bytes, ok, refused}
 use Rattle.definition.specs.Limits.{max_moment}
 use Rattle.definition.specs.Model.{Model}
@@ -15,7 +14,6 @@ use Rattle.definition.specs.Advance.{advance_from}
 use Rattle.definition.specs.Engine.{advance_checks, advanced, advance, bag_fits, to_bag}
 use Rattle.definition.specs.Demands.{refused_advance}
 use Rattle.law_model.proofs.Answers.{advance-model}
-use Rattle.call_advance.specs.LetIn.{checked_by}
 
 pub model-refused : (file run : Bytes) (t : ℕ) (bag trace table : Bytes) (k : ℕ) → refused k ≡ accepted file → refused_advance k run trace table ≡ advance file run t bag trace table
 model-refused file run t bag trace table k e = sym (advance-model file run t bag trace table k (sym e))
@@ -23,30 +21,30 @@ model-refused file run t bag trace table k e = sym (advance-model file run t bag
 -- ---- the first check that fails
 
 module _ (m : Model) (run : Bytes) (t : ℕ) (bag : Bytes) where
-  pub run-unfit : run_fits m run ≡ false → checked_by 10 ≡ advance_checks m run t bag
+  pub run-unfit : run_fits m run ≡ false → refused 10 ≡ advance_checks m run t bag
   unfolding advance_checks
   run-unfit f = rw f
 
   module _ (f : run_fits m run ≡ true) where
-    pub bad-moment : (ltb t (run_of m run).opening || ltb max_moment t) ≡ true → checked_by 11 ≡ advance_checks m run t bag
+    pub bad-moment : (ltb t (run_of m run).opening || ltb max_moment t) ≡ true → refused 11 ≡ advance_checks m run t bag
     unfolding advance_checks
     bad-moment o = rw (f, o)
 
     module _ (o : (ltb t (run_of m run).opening || ltb max_moment t) ≡ false) where
-      pub bag-unfit : bag_fits bag ≡ false → checked_by 12 ≡ advance_checks m run t bag
+      pub bag-unfit : bag_fits bag ≡ false → refused 12 ≡ advance_checks m run t bag
       unfolding advance_checks
       bag-unfit b = rw (f, o, b)
 
-      pub let-in : bag_fits bag ≡ true → checked_by 0 ≡ advance_checks m run t bag
+      pub let-in : bag_fits bag ≡ true → ok tt ≡ advance_checks m run t bag
       unfolding advance_checks
       let-in b = rw (f, o, b)
 
 -- ---- what the checks leave
 
 module _ (file run : Bytes) (t : ℕ) (bag trace table : Bytes) (m : Model) (e : ok m ≡ accepted file) where
-  pub check-refused : (number : ℕ) → checked_by number ≡ advance_checks m run t bag → (number ≡ 0 → ⊥) → refused_advance number run trace table ≡ advance file run t bag trace table
+  pub check-refused : (number : ℕ) → refused number ≡ advance_checks m run t bag → refused_advance number run trace table ≡ advance file run t bag trace table
   unfolding advance advanced
-  check-refused number c z = let r : refused number ≡ advance_checks m run t bag = rw (ne_eqb number 0 z) at c in rw (← e, ← r)
+  check-refused number r = rw (← e, ← r)
 
   -- what is let in is advanced
   pub advance-is : advance_checks m run t bag ≡ ok tt

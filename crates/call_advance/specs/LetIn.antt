@@ -1,6 +1,9 @@
 -- What the functions of the call advance have of its file, once the model is accepted and once the checks have passed. Assumes nothing.
-use Rattle.std.specs.Prelude.{◌≡◌, List, cond, eqb, ℕ, ◌*◌, ◌≤◌, length}
-use Rattle.definition.specs.Bytes.{Bytes, Result, ok, refused}
+use Rattle.std.specs.Prelude.{◌≡◌, List, Result, ℕ, ◌*◌, ◌≤◌, length}
+use Rattle.definition.specs.Bytes.{Bytes, ok}
+use Rattle.definition.specs.Bytes as Definition
+use Rattle.refusals.specs.Refusals.{result_as}
+use Rattle.refusals.specs.declared.Refusal.{Refusal}
 use Rattle.definition.specs.Limits.{max_given}
 use Rattle.definition.specs.Routes.{routes}
 use Rattle.definition.specs.Pinned.Decoder.{accepted}
@@ -16,9 +19,9 @@ pub record ModelOpened (file : Bytes) (n : Counts) (tables : List ℕ) (route_co
   pub tabled : TablesOf (model_of file n) tables
   pub counted : length (routes (model_of file n)) ≡ route_count
 
--- What the number of a check says: 0 for a call that is let in.
-abbrev pub checked_by : ℕ → Result (Unit {0})
-checked_by number = cond (eqb number 0) (ok tt) (refused number)
+-- What a check says that answers nothing else.
+abbrev pub checked_by : {T : Type 0} → Result T Refusal → Definition.Result (Unit {0})
+checked_by read = result_as (λ _. tt) read
 
 -- The checks of run, time and bag let the call in.
 pub record LetIn (file : Bytes) (n : Counts) (tables : List ℕ) (run : Bytes) (t : ℕ) (bag : Bytes) : Type 0 where

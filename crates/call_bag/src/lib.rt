@@ -13,12 +13,10 @@ fn ports_fit(bag: &[u8]) -> bool
     ensures { result ≡ all port_fits (to_bag bag.now) }
 {
     let n = bag.len() / MESSAGE_SIZE;
-    let mut i: usize = 0;
-    while i < n {
+    for i in 0..n {
         if PORT_COUNT <= little_endian::byte_at(bag, MESSAGE_SIZE * i) {
             return false;
         }
-        i = i + 1;
     }
     true
 }

@@ -1,5 +1,5 @@
 -- What the functions of a channel call have of its file and its counts. Nothing here has to be believed. Assumes nothing.
-use Rattle.std.specs.Prelude.{◌≡◌, List, false, ℕ, ◌≤◌, replicate}
+use Rattle.std.specs.Prelude.{◌≡◌, List, false, ℕ, ◌≤◌}
 use Rattle.definition.specs.Bytes.{Bytes, ok}
 use Rattle.definition.specs.Limits.{max_channels}
 use Rattle.definition.specs.Pinned.Decoder.{accepted}
@@ -7,12 +7,7 @@ use Rattle.definition.specs.Channels.{miscounted}
 use Rattle.model_file.specs.Checked.{model_of}
 use Rattle.model_file.specs.declared.Counts.{Counts}
 use Rattle.spec_step.specs.TablesOf.{TablesOf}
-use Rattle.call_answers.specs.declared.Channels.{Channels}
 use Rattle.call_advance.specs.LetIn.{ModelOpened}
-
--- A number for the whole call, and zeros for each channel.
-abbrev pub refused_by : ℕ → Channels
-refused_by number = record { number = number; channel = replicate 8 (record { number = 0; instants = 0; steps = 0; trace_bytes = 0 }) }
 
 -- The file's model is accepted, with its tables, and there are one to eight channels.
 pub record ChannelsLetIn (file : Bytes) (n : Counts) (tables : List ℕ) (count : ℕ) : Type 0 where

@@ -2,32 +2,24 @@
 // are filled once and the buffer for bags is made once for all of them.
 #![tactic(auto)]
 
-ghost use Rattle.std.specs.Prelude.{◌≡◌, ◌≤◌, length};
+ghost use Rattle.std.specs.Prelude.{◌≡◌};
 ghost use Rattle.definition.specs.Bytes.{ok};
-ghost use Rattle.definition.specs.Routes.{routes};
 ghost use Rattle.definition.specs.Channels.{miscounted, advance_channels};
 ghost use Rattle.definition.specs.FlatChannels.{boxed};
 ghost use Rattle.model_file.specs.Checked.{model_of};
-ghost use Rattle.call_answers.specs.Answers.{channels_call_of, channelled_of};
+ghost use Rattle.refusals.specs.Refusals.{settled};
+ghost use Rattle.call_answers.specs.Answers.{channels_call_of, channelled_of, refused_channels};
+ghost use Rattle.call_advance.specs.LetIn.{Roomy};
 ghost use Rattle.channel_loop.specs.InTurn.{all_in_turn};
-ghost use Rattle.call_channels.specs.ChannelsLetIn.{ChannelsLetIn, ChannelsOpened, refused_by};
+ghost use Rattle.call_channels.specs.ChannelsLetIn.{ChannelsLetIn, ChannelsOpened};
 
+use accept_routes::Accepted;
 use call_answers::{Channels, Places};
 use channel_loop::advance_parts;
-use limits::{BAD_CHANNELS, FEW_ROUTES, FEW_WORDS, MAX_CHANNELS, MAX_STEPS, MOST_WORDS};
-use model_file::{Checked, Counts};
+use limits::{FEW_ROUTES, FEW_WORDS, MAX_CHANNELS, MAX_STEPS, MOST_WORDS};
+use model_file::Counts;
+use refusals::Refusal;
 use table_words::TABLE_SIZE;
-use widen::u16_to_u64;
-
-// A call refused as a whole: its number, and zeros for each channel.
-fn refused(number: u64) -> Channels
-    ensures { result ≡ refused_by number }
-{
-    Channels {
-        number,
-        channel: [call_advance::refused(0); 8],
-    }
-}
 
 // "21 when the number of runs is not 1 to 8 or the allowance is below 1,024 a run"
 fn is_miscounted(count: u64, allowance: u64) -> bool
@@ -39,8 +31,8 @@ fn is_miscounted(count: u64, allowance: u64) -> bool
     allowance < MAX_STEPS * count
 }
 
-// A buffer for few routes, and one for as many as a model may have.
-fn channels_few(
+// The channels in turn, with a buffer of so many words for bags.
+fn channels_in<const WORDS: usize>(
     file: &[u8],
     n: Counts,
     tables: &[u16; TABLE_SIZE],
@@ -52,45 +44,21 @@ fn channels_few(
     places: Places,
     traces: &mut [u8],
 ) -> Channels
-    requires { ChannelsLetIn file.now n tables.now count × (length (routes (model_of file.now n)) ≤ 64) }
+    requires { ChannelsLetIn file.now n tables.now count × Roomy file.now n WORDS }
     ensures { channelled_of runs.new traces.new result
         ≡ boxed runs.old traces.old (ok (all_in_turn (model_of file.now n) runs.old
         (channels_call_of count t allowance bags.now places traces.old))) }
 {
-    let mut work = [0u32; FEW_WORDS];
+    let mut work = [0u32; WORDS];
     advance_parts(
         file, n, tables, runs, count, t, allowance, bags, places, traces, &mut work,
     )
 }
 
-fn channels_many(
-    file: &[u8],
-    n: Counts,
-    tables: &[u16; TABLE_SIZE],
-    runs: &mut [u8],
-    count: u64,
-    t: u64,
-    allowance: u64,
-    bags: &[u8],
-    places: Places,
-    traces: &mut [u8],
-) -> Channels
-    requires { ChannelsLetIn file.now n tables.now count }
-    ensures { channelled_of runs.new traces.new result
-        ≡ boxed runs.old traces.old (ok (all_in_turn (model_of file.now n) runs.old
-        (channels_call_of count t allowance bags.now places traces.old))) }
-{
-    let mut work = [0u32; MOST_WORDS];
-    advance_parts(
-        file, n, tables, runs, count, t, allowance, bags, places, traces, &mut work,
-    )
-}
-
-// The channels on an accepted model with so many routes.
+// The channels on an accepted model.
 fn channels_accepted(
     file: &[u8],
-    n: Counts,
-    route_count: u16,
+    accepted: Accepted,
     tables: &[u16; TABLE_SIZE],
     runs: &mut [u8],
     count: u64,
@@ -100,20 +68,45 @@ fn channels_accepted(
     places: Places,
     traces: &mut [u8],
 ) -> Channels
-    requires { ChannelsOpened file.now n tables.now route_count count allowance }
+    requires { ChannelsOpened file.now accepted.counts tables.now accepted.routes count allowance }
     ensures { channelled_of runs.new traces.new result
         ≡ advance_channels file.now runs.old
         (channels_call_of count t allowance bags.now places traces.old) }
 {
-    if route_count <= FEW_ROUTES {
-        channels_few(
+    let n = accepted.counts;
+    if accepted.routes <= FEW_ROUTES {
+        channels_in::<FEW_WORDS>(
             file, n, tables, runs, count, t, allowance, bags, places, traces,
         )
     } else {
-        channels_many(
+        channels_in::<MOST_WORDS>(
             file, n, tables, runs, count, t, allowance, bags, places, traces,
         )
     }
+}
+
+fn try_channels(
+    file: &[u8],
+    runs: &mut [u8],
+    count: u64,
+    t: u64,
+    allowance: u64,
+    bags: &[u8],
+    places: Places,
+    traces: &mut [u8],
+) -> Result<Channels, Refusal>
+    ensures { channelled_of runs.new traces.new (settled refused_channels result)
+        ≡ advance_channels file.now runs.old
+        (channels_call_of count t allowance bags.now places traces.old) }
+{
+    if is_miscounted(count, allowance) {
+        return Err(Refusal::BadChannels);
+    }
+    let mut tables = [0u16; TABLE_SIZE];
+    let accepted = accept_tables::open_model(file, &mut tables)?;
+    Ok(channels_accepted(
+        file, accepted, &tables, runs, count, t, allowance, bags, places, traces,
+    ))
 }
 
 pub fn advance_channels(
@@ -130,26 +123,8 @@ pub fn advance_channels(
         ≡ advance_channels file.now runs.old
         (channels_call_of count t allowance bags.now places traces.old) }
 {
-    if is_miscounted(count, allowance) {
-        return refused(BAD_CHANNELS);
+    match try_channels(file, runs, count, t, allowance, bags, places, traces) {
+        Ok(answer) => answer,
+        Err(refusal) => Channels::from(refusal),
     }
-    let mut tables = [0u16; TABLE_SIZE];
-    let counted = accept_tables::open_model(file, &mut tables);
-    let checked = counted.checked;
-    let Checked::Accepted(n) = checked else {
-        return refused(u16_to_u64(checked.refusal()));
-    };
-    channels_accepted(
-        file,
-        n,
-        counted.routes,
-        &tables,
-        runs,
-        count,
-        t,
-        allowance,
-        bags,
-        places,
-        traces,
-    )
 }

@@ -3,64 +3,62 @@
 
 ghost use Rattle.std.specs.Prelude.{◌≡◌};
 ghost use Rattle.definition.specs.Pinned.TraceReader.{trace_to_columns, columns_to_trace};
-ghost use Rattle.call_answers.specs.Answers.{wrote_of};
+ghost use Rattle.refusals.specs.Refusals.{settled};
+ghost use Rattle.call_answers.specs.Answers.{wrote_of, refused_writing};
 
 use call_answers::Written;
 use columns_check::scan_columns;
-use columns_forms::Found;
 use columns_scan::scan_trace;
 use columns_write::{write_columns, write_trace};
-use limits::{BUFFER_TOO_SHORT, COLUMNS_HEAD, NOT_A_TRACE, NOT_COLUMNS};
+use limits::COLUMNS_HEAD;
+use refusals::Refusal;
 
 // Columns are as long as their trace and the record count. No sum is made before the buffer is known to hold it.
+fn try_columns(trace: &[u8], out: &mut [u8]) -> Result<Written, Refusal>
+    ensures { wrote_of out.new (settled refused_writing result) ≡ trace_to_columns trace.now out.old }
+{
+    let size = scan_trace(trace).ok_or(Refusal::NotATrace)?;
+    if out.len() < COLUMNS_HEAD {
+        return Err(Refusal::BufferTooShort);
+    }
+    if out.len() - COLUMNS_HEAD < trace.len() {
+        return Err(Refusal::BufferTooShort);
+    }
+    write_columns(trace, size.records, size.messages, out);
+    Ok(Written {
+        number: 0,
+        bytes: (trace.len() + COLUMNS_HEAD) as u64,
+    })
+}
+
 pub fn trace_to_columns(trace: &[u8], out: &mut [u8]) -> Written
     ensures { wrote_of out.new result ≡ trace_to_columns trace.now out.old }
 {
-    let found = scan_trace(trace);
-    let Found::Of(size) = found else {
-        return Written {
-            number: NOT_A_TRACE,
-            bytes: 0,
-        };
-    };
-    if out.len() < COLUMNS_HEAD {
-        return Written {
-            number: BUFFER_TOO_SHORT,
-            bytes: 0,
-        };
+    match try_columns(trace, out) {
+        Ok(written) => written,
+        Err(refusal) => Written::from(refusal),
     }
-    if out.len() - COLUMNS_HEAD < trace.len() {
-        return Written {
-            number: BUFFER_TOO_SHORT,
-            bytes: 0,
-        };
+}
+
+fn try_trace(columns: &[u8], out: &mut [u8]) -> Result<Written, Refusal>
+    ensures { wrote_of out.new (settled refused_writing result) ≡ columns_to_trace columns.now out.old }
+{
+    let size = scan_columns(columns).ok_or(Refusal::NotColumns)?;
+    if out.len() < columns.len() - COLUMNS_HEAD {
+        return Err(Refusal::BufferTooShort);
     }
-    write_columns(trace, size.records, size.messages, out);
-    Written {
+    write_trace(columns, size.records, size.messages, out);
+    Ok(Written {
         number: 0,
-        bytes: (trace.len() + COLUMNS_HEAD) as u64,
-    }
+        bytes: (columns.len() - COLUMNS_HEAD) as u64,
+    })
 }
 
 pub fn columns_to_trace(columns: &[u8], out: &mut [u8]) -> Written
     ensures { wrote_of out.new result ≡ columns_to_trace columns.now out.old }
 {
-    let found = scan_columns(columns);
-    let Found::Of(size) = found else {
-        return Written {
-            number: NOT_COLUMNS,
-            bytes: 0,
-        };
-    };
-    if out.len() < columns.len() - COLUMNS_HEAD {
-        return Written {
-            number: BUFFER_TOO_SHORT,
-            bytes: 0,
-        };
-    }
-    write_trace(columns, size.records, size.messages, out);
-    Written {
-        number: 0,
-        bytes: (columns.len() - COLUMNS_HEAD) as u64,
+    match try_trace(columns, out) {
+        Ok(written) => written,
+        Err(refusal) => Written::from(refusal),
     }
 }

@@ -1,6 +1,7 @@
 -- What the functions of a feed's call have of its file and its feed, once the checks have passed. Nothing here has to be believed. Assumes nothing.
-use Rattle.std.specs.Prelude.{◌≡◌, List, ℕ, length}
-use Rattle.definition.specs.Bytes.{Bytes, Result, ok, refused}
+use Rattle.std.specs.Prelude.{◌≡◌, List, Result, ℕ, length}
+use Rattle.definition.specs.Bytes.{Bytes, ok}
+use Rattle.definition.specs.Bytes as Definition
 use Rattle.definition.specs.Pinned.Decoder.{accepted}
 use Rattle.definition.specs.Pinned.FeedReader.{feed_of}
 use Rattle.definition.specs.FeedCall.{feed_checks}
@@ -10,7 +11,8 @@ use Rattle.spec_step.specs.TablesOf.{TablesOf}
 use Rattle.feed_bags.specs.declared.Bags.{Bags}
 use Rattle.feed_bags.specs.Bags.{bags_of}
 use Rattle.feed_loop.specs.Onwards.{bags_in}
-use Rattle.call_feed.specs.declared.FeedChecked.{FeedChecked}
+use Rattle.refusals.specs.Refusals.{result_as}
+use Rattle.refusals.specs.declared.Refusal.{Refusal}
 
 -- The bytes are a feed of so many bags.
 pub record Counted (feed : Bytes) (count : ℕ) : Type 0 where
@@ -18,9 +20,8 @@ pub record Counted (feed : Bytes) (count : ℕ) : Type 0 where
   pub counted : count ≡ length (bags_in feed)
 
 -- What the checks' answer says.
-abbrev pub checked_by : FeedChecked → Result Bags
-checked_by (FeedChecked.Refused number) = refused number
-checked_by (FeedChecked.Of b) = ok b
+abbrev pub checked_by : Result Bags Refusal → Definition.Result Bags
+checked_by read = result_as (λ b. b) read
 
 -- The checks of run, feed and times let the feed in, with the bags that were found.
 pub record FeedLetIn (file : Bytes) (n : Counts) (tables : List ℕ) (run : Bytes) (end : ℕ) (feed : Bytes) (found : Bags) : Type 0 where

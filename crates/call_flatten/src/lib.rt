@@ -3,15 +3,15 @@
 
 ghost use Rattle.std.specs.Prelude.{◌≡◌, length};
 ghost use Rattle.definition.specs.Flatten.{flatten};
-ghost use Rattle.call_answers.specs.Answers.{wrote_of};
+ghost use Rattle.refusals.specs.Refusals.{settled};
+ghost use Rattle.call_answers.specs.Answers.{wrote_of, refused_writing};
 ghost use Rattle.call_flatten.specs.Found.{CanFlatten, FlatFound};
 
-use accept_routes::RoutesCounted;
+use accept_routes::Accepted;
 use call_answers::Written;
-use limits::BUFFER_TOO_SHORT;
-use model_file::{Checked, Counts};
+use model_file::Counts;
+use refusals::Refusal;
 use table_words::TABLE_SIZE;
-use widen::{u16_to_u64, usize_to_u64};
 
 // A flat form has at most as many rows as a model may have routes.
 const MAX_ROWS: usize = 1024;
@@ -49,15 +49,12 @@ fn write_flat(
     rows: &[u32],
     found: Found,
     out: &mut [u8],
-) -> Written
+) -> Result<Written, Refusal>
     requires { FlatFound file.now n tables.now rows.now found }
-    ensures { wrote_of out.new result ≡ flatten file.now out.old }
+    ensures { wrote_of out.new (settled refused_writing result) ≡ flatten file.now out.old }
 {
     if out.len() < found.size {
-        return Written {
-            number: BUFFER_TOO_SHORT,
-            bytes: 0,
-        };
+        return Err(Refusal::BufferTooShort);
     }
     let components = model_file::components_of(file, n);
     let phases = model_file::phases_of(file, n);
@@ -66,26 +63,29 @@ fn write_flat(
     flat_writer::put_flat(
         components, phases, rules, tables, atomics, rows, found.rows, out,
     );
-    Written {
+    Ok(Written {
         number: 0,
-        bytes: usize_to_u64(found.size),
-    }
+        bytes: found.size as u64,
+    })
+}
+
+fn try_flatten(file: &[u8], out: &mut [u8]) -> Result<Written, Refusal>
+    ensures { wrote_of out.new (settled refused_writing result) ≡ flatten file.now out.old }
+{
+    let mut tables = [0u16; TABLE_SIZE];
+    let accepted: Accepted = accept_tables::open_model(file, &mut tables)?;
+    let counts = accepted.counts;
+    let mut rows: [u32; ROW_WORDS] = [0; ROW_WORDS];
+    let found = find_flat(file, counts, &tables, &mut rows);
+    write_flat(file, counts, &tables, &rows, found, out)
 }
 
 // Flatten: the flat form at the front of the buffer; the bytes beyond it stay.
 pub fn flatten(file: &[u8], out: &mut [u8]) -> Written
     ensures { wrote_of out.new result ≡ flatten file.now out.old }
 {
-    let mut tables = [0u16; TABLE_SIZE];
-    let counted: RoutesCounted = accept_tables::open_model(file, &mut tables);
-    let checked = counted.checked;
-    let Checked::Accepted(n) = checked else {
-        return Written {
-            number: u16_to_u64(checked.refusal()),
-            bytes: 0,
-        };
-    };
-    let mut rows: [u32; ROW_WORDS] = [0; ROW_WORDS];
-    let found = find_flat(file, n, &tables, &mut rows);
-    write_flat(file, n, &tables, &rows, found, out)
+    match try_flatten(file, out) {
+        Ok(written) => written,
+        Err(refusal) => Written::from(refusal),
+    }
 }

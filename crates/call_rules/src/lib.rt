@@ -13,7 +13,6 @@ ghost use Rattle.instant_loop.specs.Ends.{table_left};
 use limits::POSITION_SIZE;
 use run_state::STATE_SIZE;
 use table_words::{TABLE_SIZE, atomics_in};
-use widen::{u8_to_usize, u16_to_u64};
 
 // The entries of n atomics at the front of a table that is long enough.
 fn put_entries(state: &[u64; STATE_SIZE], n: usize, table: &mut [u8])
@@ -21,11 +20,9 @@ fn put_entries(state: &[u64; STATE_SIZE], n: usize, table: &mut [u8])
     ensures { table.new ≡ stored (table_bytes (rules_shown n state.now)) table.old }
 {
     run_state::whole(state);
-    let mut i: usize = 0;
-    while i < n {
-        let rule = u16_to_u64(run_state::rule_at(state, i));
+    for i in 0..n {
+        let rule = run_state::rule_at(state, i) as u64;
         little_endian::put_number(table, POSITION_SIZE * i, POSITION_SIZE, rule);
-        i = i + 1;
     }
 }
 
@@ -39,7 +36,7 @@ pub fn put_rules(
     requires { atomics_in tables.now ≤ max_components }
     ensures { table.new ≡ table_left tables.now state.now instants table.old }
 {
-    let n = u8_to_usize(atomics_in(tables));
+    let n = atomics_in(tables) as usize;
     if (instants == 0) | (table.len() < POSITION_SIZE * n) {
         return;
     }

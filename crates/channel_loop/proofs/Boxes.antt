@@ -63,6 +63,9 @@ length_taken s a e size h l = length-take-le (e - a) (drop a s) (omega (arith, l
 abbrev pub untold : Advanced
 untold = record { number = 0; instants = 0; steps = 0; trace_bytes = 0 }
 
+pub all-zeros : (r : Advanced) → r.number ≡ 0 → r.instants ≡ 0 → r.steps ≡ 0 → r.trace_bytes ≡ 0 → r ≡ untold
+all-zeros r n i s t = λ j. record { number = n j; instants = i j; steps = s j; trace_bytes = t j }
+
 -- The buffers, what is left over, and what the first i channels were told.
 abbrev pub box_at : Bytes → Bytes → ℕ → List Advanced → ℕ → Box
 box_at runs traces left channel i = record { runs = runs; traces = traces; left = left; answers = map numbers_in (take i channel) }
@@ -117,7 +120,6 @@ told-keeps m t has c run trace told e =
 -- ---- what holds with i channels done
 
 pub record Going (m : Model) (runs₀ : Bytes) (b : ChannelsCall) (words : ℕ) (runs traces : Bytes) (work : ℕ) (channel : List Advanced) (left i : ℕ) : Type 0 where
-  pub upto : i ≤ b.count
   pub runs_long : length runs ≡ length runs₀
   pub traces_long : length traces ≡ length b.traces
   pub same_words : work ≡ words

@@ -9,8 +9,7 @@ ghost use Rattle.model_file.specs.Checked.{model_of};
 ghost use Rattle.call_answers.specs.Answers.{channels_call_of, channelled_of};
 ghost use Rattle.channel_loop.specs.InTurn.{all_in_turn, CanTurn};
 
-use call_advance::refused;
-use call_answers::{Channels, Places};
+use call_answers::{Advanced, Channels, Places};
 use channel_turn::turn;
 use model_file::Counts;
 use table_words::TABLE_SIZE;
@@ -37,10 +36,9 @@ pub fn advance_parts(
     let of_run = runs.len() / parts;
     let of_trace = traces.len() / parts;
     let share = allowance / count;
-    let mut channel = [refused(0); 8];
+    let mut channel = [Advanced::default(); 8];
     let mut left: u64 = 0;
-    let mut i: usize = 0;
-    while i < parts {
+    for i in 0..parts {
         let run_at = of_run * i;
         let run_end = run_at + of_run;
         let trace_at = of_trace * i;
@@ -60,7 +58,6 @@ pub fn advance_parts(
         );
         left = has - told.steps;
         channel[i] = told;
-        i = i + 1;
     }
     Channels { number: 0, channel }
 }

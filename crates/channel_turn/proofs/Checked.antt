@@ -4,7 +4,6 @@ use mathlib.Core.Option.{none, some}
 use mathlib.Core.Bool.{Bool, true, false, ◌&&◌, ◌||◌, not}
 use Prim.Native.Nat.{ℕ}
 use lib.Dec.{ltb}
-use borrow.Author.Tests.{ne_eqb}
 use Rattle.definition.specs.Bytes.{Bytes, Result, ok, refused, refuse_if, ◌>>=◌}
 use Rattle.definition.specs.Limits.{max_moment}
 use Rattle.definition.specs.Model.{Model}
@@ -14,27 +13,26 @@ use Rattle.definition.specs.Channels.{Channel, or_past_end, turn_checks, turn}
 use Rattle.definition.specs.ChannelRows.{refused_turn}
 use Rattle.law_base.proofs.Results.{never-ok}
 use Rattle.law_channels.proofs.TurnRows.{turn_inside}
-use Rattle.call_advance.specs.LetIn.{checked_by}
 use Rattle.channel_turn.specs.Turns.{turn_rows, turned_from}
 
 -- ---- the first row that refuses
 
 module _ (m : Model) (run : Bytes) (t : ℕ) (inside : Bool) (bag : Bytes) where
-  pub run-unfit : run_fits m run ≡ false → checked_by 10 ≡ turn_rows m run t inside bag
+  pub run-unfit : run_fits m run ≡ false → refused 10 ≡ turn_rows m run t inside bag
   unfolding turn_rows
   run-unfit f = rw f
 
   module _ (f : run_fits m run ≡ true) where
-    pub bad-moment : (ltb t (run_of m run).opening || ltb max_moment t) ≡ true → checked_by 11 ≡ turn_rows m run t inside bag
+    pub bad-moment : (ltb t (run_of m run).opening || ltb max_moment t) ≡ true → refused 11 ≡ turn_rows m run t inside bag
     unfolding turn_rows
     bad-moment o = rw (f, o)
 
     module _ (o : (ltb t (run_of m run).opening || ltb max_moment t) ≡ false) where
-      pub bag-unfit : (inside && bag_fits bag) ≡ false → checked_by 12 ≡ turn_rows m run t inside bag
+      pub bag-unfit : (inside && bag_fits bag) ≡ false → refused 12 ≡ turn_rows m run t inside bag
       unfolding turn_rows
       bag-unfit b = rw (f, o, b)
 
-      pub let-in : (inside && bag_fits bag) ≡ true → checked_by 0 ≡ turn_rows m run t inside bag
+      pub let-in : (inside && bag_fits bag) ≡ true → ok tt ≡ turn_rows m run t inside bag
       unfolding turn_rows
       let-in b = rw (f, o, b)
 
@@ -68,17 +66,14 @@ module _ (m : Model) (t has : ℕ) (c : Channel) where
       go false true h = never-ok 11 tt h
       go false false h = never-ok 12 tt h
 
-  checked-no : (number : ℕ) → (number ≡ 0 → ⊥) → checked_by number ≡ refused number
-  checked-no number z = rw (ne_eqb number 0 z)
-
   -- a row refuses it
-  pub refused-inside : (bag : Bytes) → c.bag ≡ some bag → (number : ℕ) → (number ≡ 0 → ⊥) → checked_by number ≡ turn_rows m c.run t true bag → refused_turn number c ≡ turn m t has c
+  pub refused-inside : (bag : Bytes) → c.bag ≡ some bag → (number : ℕ) → refused number ≡ turn_rows m c.run t true bag → refused_turn number c ≡ turn m t has c
   unfolding advanced
-  refused-inside bag p number z e = sym (turn_inside m t has c bag p ∙ rw (sym (rows_inside bag) ∙ sym e ∙ checked-no number z))
+  refused-inside bag p number e = sym (turn_inside m t has c bag p ∙ rw (sym (rows_inside bag) ∙ sym e))
 
-  pub refused-past : (bag : Bytes) → c.bag ≡ none → (number : ℕ) → (number ≡ 0 → ⊥) → checked_by number ≡ turn_rows m c.run t false bag → refused_turn number c ≡ turn m t has c
+  pub refused-past : (bag : Bytes) → c.bag ≡ none → (number : ℕ) → refused number ≡ turn_rows m c.run t false bag → refused_turn number c ≡ turn m t has c
   unfolding turn advanced
-  refused-past bag p number z e = rw (rows-past bag p, sym e ∙ checked-no number z)
+  refused-past bag p number e = rw (rows-past bag p, sym e)
 
   -- what passes all rows is let in
   pub turn-let-in : (bag : Bytes) → c.bag ≡ some bag → advance_checks m c.run t bag ≡ ok tt → turned_from m t has c.run bag c.trace ≡ turn m t has c

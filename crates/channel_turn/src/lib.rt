@@ -11,16 +11,15 @@ ghost use Rattle.call_answers.specs.Answers.{advanced_of, place_of};
 ghost use Rattle.call_advance.specs.LetIn.{checked_by, LetIn, Roomy};
 ghost use Rattle.channel_turn.specs.Turns.{ModelLent, inside_of, bag_lent, turn_rows, turned_from};
 
-use call_advance::refused;
 use call_answers::{Advanced, Place};
 use call_run::run_fits;
 use clock::Moment;
 use instant_loop::turn_from;
-use limits::{BAD_BAG, BAD_MOMENT, MAX_MOMENT, RUN_DOES_NOT_FIT};
+use limits::MAX_MOMENT;
 use model_file::Counts;
+use refusals::Refusal;
 use run_state::STATE_SIZE;
 use table_words::{TABLE_SIZE, atomics_in};
-use widen::{u8_to_usize, usize_to_u64};
 
 // The place does not run past the end of a buffer of so many bytes. No sum that could overflow is made.
 fn lies_inside(size: u64, place: Place) -> bool
@@ -45,23 +44,30 @@ fn bag_lent<'a>(bags: &'a [u8], place: Place, inside: bool) -> &'a [u8]
     &bags[start..start + size]
 }
 
-// The number of the first check of run, time and bag that fails, and 0 for a turn that is let in. An advance has checks of its own: what two calls
-// share is not inlined.
-fn check_turn(file: &[u8], n: Counts, run: &[u8], t: u64, inside: bool, bag: &[u8]) -> u64
+// The checks of run, time and bag, in this order. An advance has checks of its own: what two calls share is not inlined, and three short calls took
+// 1.09 to 1.12 of their time (docs/PERFORMANCE.md).
+fn check_turn(
+    file: &[u8],
+    n: Counts,
+    run: &[u8],
+    t: u64,
+    inside: bool,
+    bag: &[u8],
+) -> Result<(), Refusal>
     requires { ok (model_of file.now n) ≡ accepted file.now }
     ensures { checked_by result ≡ turn_rows (model_of file.now n) run.now t inside bag.now }
 {
     if !run_fits(file, n, run) {
-        return RUN_DOES_NOT_FIT;
+        return Err(Refusal::RunDoesNotFit);
     }
     let opening = run_saved::opening_of(run);
     if (t < opening.0) | (MAX_MOMENT < t) {
-        return BAD_MOMENT;
+        return Err(Refusal::BadMoment);
     }
     if !(inside & call_bag::bag_fits(bag)) {
-        return BAD_BAG;
+        return Err(Refusal::BadBag);
     }
-    0
+    Ok(())
 }
 
 // The instants of a turn that the checks let in.
@@ -81,18 +87,12 @@ fn turn_let_in(
         ≡ turned_from (model_of file.now n) t.0 has run.old bag.now trace.old }
 {
     let mut state = [0u64; STATE_SIZE];
-    run_saved::load(run, u8_to_usize(atomics_in(tables)), &mut state);
+    run_saved::load(run, atomics_in(tables) as usize, &mut state);
     let phases = model_file::phases_of(file, n);
     let rules = model_file::rules_of(file, n);
-    let r = turn_from(
+    turn_from(
         phases, rules, tables, run, &mut state, t, bag, has, work, trace,
-    );
-    Advanced {
-        number: r.number,
-        instants: r.instants,
-        steps: r.steps,
-        trace_bytes: usize_to_u64(r.used),
-    }
+    )
 }
 
 pub fn turn(
@@ -112,11 +112,10 @@ pub fn turn(
         ≡ turn (model_of file.now n) t has
         (record { run = run.entry.now; trace = trace.old; bag = bag_at bags.now (place_of place) }) }
 {
-    let inside = lies_inside(usize_to_u64(bags.len()), place);
+    let inside = lies_inside(bags.len() as u64, place);
     let bag = bag_lent(bags, place, inside);
-    let number = check_turn(file, n, run, t, inside, bag);
-    if number != 0 {
-        return refused(number);
+    if let Err(refusal) = check_turn(file, n, run, t, inside, bag) {
+        return Advanced::from(refusal);
     }
     turn_let_in(file, n, tables, run, Moment(t), bag, has, trace, work)
 }

@@ -18,12 +18,8 @@ pub struct Moment(pub u64);
 #[derive(Clone, Copy)]
 pub struct Stay(pub u64);
 
-// When something is due: never is a case of its own.
-#[derive(Clone, Copy)]
-pub enum Due {
-    At(Moment),
-    Never,
-}
+// When something is due; none where it never is.
+pub type Due = Option<Moment>;
 
 // The latest moment that there is, which no run comes to: as a number it stands for never.
 const LATEST: u64 = NEVER_MOMENT;
@@ -51,6 +47,7 @@ impl Moment {
         }
     }
 
+    // By hand, and not derived: moments are compared by this alone, and its edit (before_itself) is about this line.
     pub fn is_before(self, other: Moment) -> bool
         ensures { result ≡ ltb self.0 other.0 }
     {
@@ -65,16 +62,16 @@ pub fn due_after(last: Moment, advance: u32) -> Due
     ensures { time_of result ≡ due_after last.0 advance }
 {
     if advance == NEVER_FIELD {
-        return Due::Never;
+        return None;
     }
-    Due::At(last.plus(Stay(widen::u32_to_u64(advance))))
+    Some(last.plus(Stay(advance as u64)))
 }
 
 // Nothing is due before a moment.
 pub fn not_before(moment: Moment, due: Due) -> bool
     ensures { result ≡ not_before moment.0 (time_of due) }
 {
-    let Due::At(at) = due else {
+    let Some(at) = due else {
         return true;
     };
     moment.0 <= at.0
@@ -85,7 +82,7 @@ pub fn due_number(due: Due) -> u64
     ensures { result ≡ due_number (time_of due) }
 {
     match due {
-        Due::At(moment) => moment.0,
-        Due::Never => NEVER_MOMENT,
+        Some(moment) => moment.0,
+        None => NEVER_MOMENT,
     }
 }

@@ -4,12 +4,13 @@ use Prim.Native.Nat.{ℕ, ◌+◌, ◌*◌, ◌<◌, ◌≤◌}
 use mathlib.Core.Bool.{Bool, true, false, not}
 use native.Mathlib.Omega.{arith}
 use lib.Dec.{ltb, eqb}
+use Rattle.std.specs.Prelude.{None}
 use lib.ListN.{length}
 use borrow.Author.Tests.{lt-ltb, le-ltb, eq-eqb, ne_eqb}
 use Rattle.definition.specs.Bytes.{Bytes, ok, refused, ◌>>=◌, refuse_if, number_at}
 use Rattle.definition.specs.Pinned.TraceReader.{record_count}
 use Rattle.law_columns.specs.ByPosition.{none_yet, counts_from, columns_good, columns_scanned}
-use Rattle.columns_forms.specs.Forms.{columns_from, no_last, counts_by, columns_fit}
+use Rattle.columns_forms.specs.Forms.{columns_from, counts_by, columns_fit}
 use Rattle.columns_forms.proofs.InColumns.{from_start, columns-fit, counts-by}
 
 module _ (s : Bytes) where
@@ -20,14 +21,14 @@ module _ (s : Bytes) where
   total_in = counts_by count_in (4 + 10 * count_in) s
 
   abbrev pub fit_in : Bool
-  fit_in = columns_fit count_in no_last (columns_from count_in total_in) s
+  fit_in = columns_fit count_in None (columns_from count_in total_in) s
 
   total-is : counts_from count_in s count_in 0 ≡ total_in
   total-is = counts-by count_in s count_in 0 (4 + 10 * count_in) (omega arith)
 
   fit_is : columns_good count_in total_in s count_in 0 0 none_yet ≡ fit_in
   unfolding none_yet
-  fit_is = columns-fit count_in total_in s count_in 0 0 none_yet ∙ ap (λ at. columns_fit count_in no_last at s) (sym (from_start count_in total_in))
+  fit_is = columns-fit count_in total_in s count_in 0 0 none_yet ∙ ap (λ at. columns_fit count_in None at s) (sym (from_start count_in total_in))
 
   by_tests : columns_scanned s
       ≡ (refuse_if (ltb (length s) (4 + 12 * count_in)) 18 >>= λ _. refuse_if (not (eqb (length s) (4 + 12 * count_in + 3 * total_in))) 18 >>= λ _.

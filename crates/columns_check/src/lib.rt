@@ -1,28 +1,25 @@
 // Columns gone over: whether they come from a trace, and how many records and messages they have. Nothing is written.
 #![tactic(auto)]
 
-ghost use Rattle.std.specs.Prelude.{◌≡◌, length, ◌+◌, ◌*◌, ◌≤◌};
+ghost use Rattle.std.specs.Prelude.{◌≡◌, length, ◌+◌, ◌*◌, ◌≤◌, None};
 ghost use Rattle.law_columns.specs.ByPosition.{columns_scanned};
-ghost use Rattle.columns_forms.specs.Forms.{columns_from, no_last, counts_by, columns_fit, found_of};
+ghost use Rattle.columns_forms.specs.Forms.{columns_from, counts_by, columns_fit, found_of};
 
-use columns_forms::{Found, Sizes, columns_from, in_columns, next_column, pair_at};
-use columns_records::{Last, record_fits};
+use columns_forms::{Sizes, columns_from, in_columns, next_column, pair_at};
+use columns_records::{Pair, record_fits};
 use limits::{COLUMNS_HEAD, MESSAGE_SIZE, RECORD_COUNT_AT, RECORD_HEAD};
 use little_endian::{u16_within, u32_at};
-use widen::{u16_to_usize, u32_to_usize};
 
 // The message counts of n records, added up. As n has 32 bits, the sum is in range.
 fn count_messages(s: &[u8], n: u32) -> usize
     requires { 4 + 12 * n ≤ length s.now }
     ensures { (result ≡ counts_by n (4 + 10 * n) s.now) × (result ≤ 65535 * n) }
 {
-    let mut left = n;
-    let mut at = COLUMNS_HEAD + RECORD_COUNT_AT * u32_to_usize(n);
+    let mut at = COLUMNS_HEAD + RECORD_COUNT_AT * n as usize;
     let mut sum: usize = 0;
-    while 0 < left {
-        sum = sum + u16_to_usize(u16_within(s, at));
-        at = at + 2;
-        left = left - 1;
+    for _ in 0..n {
+        sum += u16_within(s, at) as usize;
+        at += 2;
     }
     sum
 }
@@ -30,44 +27,38 @@ fn count_messages(s: &[u8], n: u32) -> usize
 // Each of n records passes after the one before it; they have k messages.
 fn columns_fit(s: &[u8], n: usize, k: usize) -> bool
     requires { (4 + 12 * n + 3 * k ≤ length s.now) × (counts_by n (4 + 10 * n) s.now ≤ k) }
-    ensures { result ≡ columns_fit n no_last (columns_from n k) s.now }
+    ensures { result ≡ columns_fit n None (columns_from n k) s.now }
 {
-    let mut left = n;
     let mut at = columns_from(n, k);
-    let mut last = Last {
-        some: false,
-        moment: 0,
-        step: 0,
-    };
-    while 0 < left {
+    let mut last: Option<Pair> = None;
+    for _ in 0..n {
         if !record_fits(s, at, in_columns(), last) {
             return false;
         }
-        last = pair_at(s, at);
-        at = next_column(at, u16_to_usize(u16_within(s, at.count)));
-        left = left - 1;
+        last = Some(pair_at(s, at));
+        at = next_column(at, u16_within(s, at.count) as usize);
     }
     true
 }
 
 // "18 when the columns do not come from a trace"
-pub fn scan_columns(s: &[u8]) -> Found
+pub fn scan_columns(s: &[u8]) -> Option<Sizes>
     ensures { found_of 18 result ≡ columns_scanned s.now }
 {
     let count = u32_at(s, 0);
-    let n = u32_to_usize(count);
+    let n = count as usize;
     let heads = COLUMNS_HEAD + RECORD_HEAD * n;
     if s.len() < heads {
-        return Found::Nothing;
+        return None;
     }
     let k = count_messages(s, count);
     if s.len() != heads + MESSAGE_SIZE * k {
-        return Found::Nothing;
+        return None;
     }
     if !columns_fit(s, n, k) {
-        return Found::Nothing;
+        return None;
     }
-    Found::Of(Sizes {
+    Some(Sizes {
         records: n,
         messages: k,
     })

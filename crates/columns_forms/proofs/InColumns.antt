@@ -5,6 +5,7 @@ use mathlib.Core.List.{[], ◌∷◌, map}
 use mathlib.Core.Bool.{◌&&◌, not}
 use native.Mathlib.Omega.{arith}
 use lib.Dec.{eqb}
+use Rattle.std.specs.Prelude.{Some}
 use Rattle.definition.specs.Lists.{up_from}
 use Rattle.definition.specs.Bytes.{Bytes, number_at}
 use Rattle.definition.specs.Model.{Bag}
@@ -67,9 +68,9 @@ module _ (n k i j : ℕ) (s : Bytes) where
 
 next-fit : (n k i j : ℕ) (s : Bytes) (left : ℕ) (c : Scan)
     → columns_fit left (last_of (scan_next c (number_at 8 (4 + 8 * i) s) (number_at 2 (4 + 8 * n + 2 * i) s) (count n k i j s))) (columns_at n k (suc i) (j + count n k i j s)) s
-    ≡ columns_fit left (pair_of (columns_at n k i j) s) (next_column (columns_at n k i j) (number_at 2 (columns_at n k i j).count s)) s
+    ≡ columns_fit left (Some (pair_of (columns_at n k i j) s)) (next_column (columns_at n k i j) (number_at 2 (columns_at n k i j).count s)) s
 unfolding scan_next pair_of columns_at
-next-fit n k i j s left c = ap (λ at. columns_fit left (pair_of (columns_at n k i j) s) at s) (sym (next-at n k i j (count n k i j s)))
+next-fit n k i j s left c = ap (λ at. columns_fit left (Some (pair_of (columns_at n k i j) s)) at s) (sym (next-at n k i j (count n k i j s)))
 
 pub columns-fit : (n k : ℕ) (s : Bytes) (left i j : ℕ) (c : Scan) → columns_good n k s left i j c ≡ columns_fit left (last_of c) (columns_at n k i j) s
 unfolding columns_good columns_fit

@@ -2,9 +2,10 @@
 use mathlib.Core.Path.{◌≡◌, refl, sym, ap, ap₂, ◌∙◌}
 use Prim.Native.Nat.{ℕ, zero, suc, ◌+◌, ◌*◌, ◌-◌, ◌≤◌}
 use mathlib.Core.List.{[], ◌∷◌, ◌++◌, map, append-nil}
-use mathlib.Core.Bool.{Bool, true, false, ◌&&◌, not}
+use mathlib.Core.Bool.{Bool, true, false, ◌&&◌, ◌||◌, not, cond}
 use native.Mathlib.Omega.{arith}
-use lib.Dec.{leb, eqb}
+use lib.Dec.{leb, ltb, eqb}
+use Rattle.std.specs.Prelude.{Option, Some, None}
 use lib.ListN.{length, take, drop, length-append}
 use lib.Seq.{sets, drop-drop, take-take}
 use Rattle.definition.specs.Lists.{concat}
@@ -17,7 +18,7 @@ use Rattle.law_bytes.proofs.Rows.{drop-take}
 use Rattle.law_model.proofs.Codec.{length-bytes}
 use Rattle.law_stores.proofs.Stores.{sets-append}
 use Rattle.law_columns.specs.ByPosition.{Scan, keys_rise, pair_next, bag_from, record_from, record_next}
-use Rattle.columns_records.specs.declared.Last.{Last}
+use Rattle.columns_records.specs.declared.Pair.{Pair}
 use Rattle.columns_records.specs.Places.{messages_at, record_at, pair_above, fits_after, messages_put, head_put, record_put, MessagesWithin, RecordWithin}
 use Rattle.columns_forms.specs.Forms.{in_row, row_places}
 
@@ -54,12 +55,16 @@ module _ (at : ℕ) (s : Bytes) where
 -- ---- judged
 
 -- What a scan carries of the record before.
-abbrev pub last_of : Scan → Last
-last_of c = record { some = c.some; moment = c.moment; step = c.step }
+abbrev pub last_of : Scan → Option Pair
+last_of c = cond c.some (Some (record { moment = c.moment; step = c.step })) None
 
 pub pair-last : (c : Scan) (t k : ℕ) → pair_next c t k ≡ pair_above (last_of c) t k
 unfolding pair_next pair_above
-pair-last c t k = refl
+pair-last c t k = cases c.some
+  where
+    cases : (b : Bool) → (not b || (ltb c.moment t || (eqb c.moment t && ltb c.step k))) ≡ pair_above (cond b (Some (record { moment = c.moment; step = c.step })) None) t k
+    cases true = refl
+    cases false = refl
 
 pub fits-row : (c : Scan) (at : ℕ) (s : Bytes)
     → record_next c at s ≡ (leb (record_head + number_at 2 (at + 10) s * message_size) (length s - at) && fits_after (last_of c) in_row (row_places at) s)

@@ -1,11 +1,11 @@
 -- Where a record's numbers lie in a row and in columns, and what a loop over records meets. Nothing here has to be believed. Assumes nothing.
-use Rattle.std.specs.Prelude.{ℕ, zero, suc, ◌+◌, ◌*◌, ◌≤◌, Bool, true, false, ◌&&◌}
+use Rattle.std.specs.Prelude.{ℕ, zero, suc, ◌+◌, ◌*◌, ◌≤◌, Bool, true, ◌&&◌, Option, Some, None}
 use Rattle.definition.specs.Bytes.{Bytes, Result, ok, refused, number_at}
 use Rattle.columns_records.specs.declared.Places.{Places}
 use Rattle.columns_records.specs.declared.Apart.{Apart}
-use Rattle.columns_records.specs.declared.Last.{Last}
+use Rattle.columns_records.specs.declared.Pair.{Pair}
 use Rattle.columns_records.specs.Places.{record_at, fits_after, record_put}
-use Rattle.columns_forms.specs.declared.Found.{Found}
+use Rattle.columns_forms.specs.declared.Sizes.{Sizes}
 
 -- The greatest number of 64 bits.
 abbrev pub word_max : ℕ
@@ -30,12 +30,8 @@ columns_from n k = record { moment = 4; step = 4 + 8 * n; count = 4 + 10 * n; po
 unfoldable pub next_column : Places → ℕ → Places
 next_column at m = record { moment = at.moment + 8; step = at.step + 2; count = at.count + 2; ports = at.ports + m; values = at.values + 2 * m }
 
-unfoldable pub pair_of : Places → Bytes → Last
-pair_of at s = record { some = true; moment = number_at 8 at.moment s; step = number_at 2 at.step s }
-
--- No record came before.
-abbrev pub no_last : Last
-no_last = record { some = false; moment = 0; step = 0 }
+unfoldable pub pair_of : Places → Bytes → Pair
+pair_of at s = record { moment = number_at 8 at.moment s; step = number_at 2 at.step s }
 
 -- ---- n records from a place on
 
@@ -50,9 +46,9 @@ counts_by zero at s = 0
 counts_by (suc n) at s = number_at 2 at s + counts_by n (at + 2) s
 
 -- Each record of columns lies above the one before, and passes.
-unfoldable pub columns_fit : ℕ → Last → Places → Bytes → Bool
+unfoldable pub columns_fit : ℕ → Option Pair → Places → Bytes → Bool
 columns_fit zero l at s = true
-columns_fit (suc n) l at s = fits_after l in_columns at s && columns_fit n (pair_of at s) (next_column at (number_at 2 at.count s)) s
+columns_fit (suc n) l at s = fits_after l in_columns at s && columns_fit n (Some (pair_of at s)) (next_column at (number_at 2 at.count s)) s
 
 -- So many records of columns lie within so many bytes, and so do their messages.
 pub record ColumnsWithin (size left : ℕ) (at : Places) (messages : ℕ) : Type 0 where
@@ -79,6 +75,6 @@ into_row (suc n) at to s out =
 -- ---- what is found
 
 -- The number of a refusal, or how many records and messages there are.
-unfoldable pub found_of : ℕ → Found → Result (ℕ × ℕ)
-found_of n (Found.Nothing) = refused n
-found_of n (Found.Of z) = ok (z.records, z.messages)
+unfoldable pub found_of : ℕ → Option Sizes → Result (ℕ × ℕ)
+found_of n None = refused n
+found_of n (Some z) = ok (z.records, z.messages)

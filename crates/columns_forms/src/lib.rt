@@ -5,7 +5,7 @@ ghost use Rattle.std.specs.Prelude.{◌≡◌, length, ◌+◌, ◌*◌, ◌≤�
 ghost use Rattle.columns_records.specs.Places.{HeadWithin};
 ghost use Rattle.columns_forms.specs.Forms.{in_row, in_columns, row_places, columns_from, next_column, pair_of, word_max};
 
-use columns_records::{Apart, Last, Places};
+use columns_records::{Apart, Pair, Places};
 use limits::{COLUMNS_HEAD, MESSAGE_SIZE, RECORD_COUNT_AT, RECORD_HEAD, RECORD_STEP_AT};
 use little_endian::{u16_within, u64_within};
 
@@ -76,12 +76,11 @@ pub fn next_column(at: Places, count: usize) -> Places
 }
 
 // The pair of a record.
-pub fn pair_at(s: &[u8], at: Places) -> Last
+pub fn pair_at(s: &[u8], at: Places) -> Pair
     requires { HeadWithin (length s.now) at }
     ensures { result ≡ pair_of at s.now }
 {
-    Last {
-        some: true,
+    Pair {
         moment: u64_within(s, at.moment),
         step: u16_within(s, at.step),
     }
@@ -92,11 +91,4 @@ pub fn pair_at(s: &[u8], at: Places) -> Last
 pub struct Sizes {
     pub records: usize,
     pub messages: usize,
-}
-
-// What going over some bytes finds: that they are not in the form, or what they hold.
-#[derive(Clone, Copy)]
-pub enum Found {
-    Nothing,
-    Of(Sizes),
 }

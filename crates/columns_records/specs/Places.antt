@@ -1,6 +1,6 @@
 -- A record whose numbers lie at given places, read, judged and put: the same for records in a row and for columns. Nothing here has to be
 -- believed. Assumes nothing.
-use Rattle.std.specs.Prelude.{ℕ, zero, suc, ◌+◌, ◌≤◌, ◌<◌, [], ◌∷◌, Bool, ◌&&◌, ◌||◌, not, ltb, eqb, length}
+use Rattle.std.specs.Prelude.{ℕ, zero, suc, ◌+◌, ◌≤◌, ◌<◌, [], ◌∷◌, Bool, true, ◌&&◌, ◌||◌, not, Option, Some, None, ltb, eqb, length}
 use Rattle.std.proofs.lemmas.List.Edits.{sets}
 use Rattle.definition.specs.Bytes.{Bytes, number_at, bytes_of}
 use Rattle.definition.specs.Model.{Bag}
@@ -8,7 +8,7 @@ use Rattle.definition.specs.Instant.{TraceRecord}
 use Rattle.law_columns.specs.ByPosition.{keys_rise}
 use Rattle.columns_records.specs.declared.Places.{Places}
 use Rattle.columns_records.specs.declared.Apart.{Apart}
-use Rattle.columns_records.specs.declared.Last.{Last}
+use Rattle.columns_records.specs.declared.Pair.{Pair}
 
 -- ---- what is read
 
@@ -28,12 +28,13 @@ record_at a at s = record {
   messages = messages_at a at.ports at.values (count_at at s) s;
 }
 
--- A pair of moment and step lies above that of the record before.
-unfoldable pub pair_above : Last → ℕ → ℕ → Bool
-pair_above l t k = not l.some || (ltb l.moment t || (eqb l.moment t && ltb l.step k))
+-- A pair of moment and step lies above that of the record before, if there was one.
+unfoldable pub pair_above : Option Pair → ℕ → ℕ → Bool
+pair_above None t k = true
+pair_above (Some l) t k = ltb l.moment t || (eqb l.moment t && ltb l.step k)
 
 -- The record is not empty, lies above the one before, and its messages rise.
-unfoldable pub fits_after : Last → Apart → Places → Bytes → Bool
+unfoldable pub fits_after : Option Pair → Apart → Places → Bytes → Bool
 fits_after l a at s =
     not (eqb (count_at at s) 0) && pair_above l (number_at 8 at.moment s) (number_at 2 at.step s)
     && keys_rise 0 (messages_at a at.ports at.values (count_at at s) s)

@@ -10,7 +10,6 @@ ghost use Rattle.columns_records.specs.Places.{Near, MessagesWithin, HeadWithin,
 
 use limits::PORT_COUNT;
 use little_endian::{put_number, u16_within, u64_within};
-use widen::{u8_to_u32, u8_to_u64, u16_to_u32, u16_to_u64, u16_to_usize};
 
 // Where the numbers of a record lie: its moment, step and message count, its first port and its first value.
 #[derive(Clone, Copy)]
@@ -29,10 +28,9 @@ pub struct Apart {
     pub values: usize,
 }
 
-// The pair of the record before, if there was one.
+// Moment and step of a record, by which records rise.
 #[derive(Clone, Copy)]
-pub struct Last {
-    pub some: bool,
+pub struct Pair {
     pub moment: u64,
     pub step: u16,
 }
@@ -44,7 +42,7 @@ const MANY: usize = 16;
 fn key_of(port: u8, value: u16) -> u32
     ensures { result ≡ key_of port value }
 {
-    u8_to_u32(port) * 65536 + u16_to_u32(value)
+    port as u32 * 65536 + value as u32
 }
 
 // So many messages are on ports that there are, and do not fall: the first one that does not pass ends it.
@@ -55,8 +53,7 @@ fn rise_stopping(s: &[u8], ports: usize, values: usize, apart: Apart, count: usi
     let mut low: u32 = 0;
     let mut p = ports;
     let mut v = values;
-    let mut left = count;
-    while 0 < left {
+    for _ in 0..count {
         let port = s[p];
         if PORT_COUNT <= port {
             return false;
@@ -66,9 +63,8 @@ fn rise_stopping(s: &[u8], ports: usize, values: usize, apart: Apart, count: usi
             return false;
         }
         low = key;
-        p = p + apart.ports;
-        v = v + apart.values;
-        left = left - 1;
+        p += apart.ports;
+        v += apart.values;
     }
     true
 }
@@ -82,15 +78,13 @@ fn rise_unbroken(s: &[u8], ports: usize, values: usize, apart: Apart, count: usi
     let mut rise = true;
     let mut p = ports;
     let mut v = values;
-    let mut left = count;
-    while 0 < left {
+    for _ in 0..count {
         let port = s[p];
         let key = key_of(port, u16_within(s, v));
-        rise = rise & ((port < PORT_COUNT) & (low <= key));
+        rise &= (port < PORT_COUNT) & (low <= key);
         low = key;
-        p = p + apart.ports;
-        v = v + apart.values;
-        left = left - 1;
+        p += apart.ports;
+        v += apart.values;
     }
     rise
 }
@@ -106,15 +100,18 @@ fn messages_rise(s: &[u8], ports: usize, values: usize, apart: Apart, count: usi
     rise_stopping(s, ports, values, apart, count)
 }
 
-// A pair of moment and step lies above that of the record before.
-fn pair_above(last: Last, moment: u64, step: u16) -> bool
+// A pair of moment and step lies above that of the record before, if there was one.
+fn pair_above(last: Option<Pair>, moment: u64, step: u16) -> bool
     ensures { result ≡ pair_above last moment step }
 {
-    !last.some | ((last.moment < moment) | ((last.moment == moment) & (last.step < step)))
+    let Some(last) = last else {
+        return true;
+    };
+    (last.moment < moment) | ((last.moment == moment) & (last.step < step))
 }
 
 // The record is not empty, lies above the one before, and its messages rise.
-pub fn record_fits(s: &[u8], at: Places, apart: Apart, last: Last) -> bool
+pub fn record_fits(s: &[u8], at: Places, apart: Apart, last: Option<Pair>) -> bool
     requires { Near apart × RecordWithin (length s.now) apart at (count_at at s.now) }
     ensures { result ≡ fits_after last apart at s.now }
 {
@@ -125,7 +122,7 @@ pub fn record_fits(s: &[u8], at: Places, apart: Apart, last: Last) -> bool
     if !pair_above(last, u64_within(s, at.moment), u16_within(s, at.step)) {
         return false;
     }
-    messages_rise(s, at.ports, at.values, apart, u16_to_usize(count))
+    messages_rise(s, at.ports, at.values, apart, count as usize)
 }
 
 // The number in two bytes, put at another place.
@@ -133,7 +130,7 @@ fn put_two(s: &[u8], at: usize, out: &mut [u8], to: usize)
     requires { (at + 2 ≤ length s.now) × (to + 2 ≤ length out.old) }
     ensures { out.new ≡ sets out.old to (bytes_of 2 (number_at 2 at s.now)) }
 {
-    put_number(out, to, 2, u16_to_u64(u16_within(s, at)));
+    put_number(out, to, 2, u16_within(s, at) as u64);
 }
 
 // One message, its port and its value each put at another place.
@@ -141,7 +138,7 @@ fn put_message(s: &[u8], port: usize, value: usize, out: &mut [u8], to_port: usi
     requires { (port < length s.now) × (value + 2 ≤ length s.now) × (to_port < length out.old) × (to_value + 2 ≤ length out.old) }
     ensures { out.new ≡ sets (sets out.old to_port (bytes_of 1 (number_at 1 port s.now))) to_value (bytes_of 2 (number_at 2 value s.now)) }
 {
-    put_number(out, to_port, 1, u8_to_u64(s[port]));
+    put_number(out, to_port, 1, s[port] as u64);
     put_two(s, value, out, to_value);
 }
 
@@ -164,14 +161,12 @@ fn put_messages(
     let mut v = values;
     let mut q = to_ports;
     let mut w = to_values;
-    let mut left = count;
-    while 0 < left {
+    for _ in 0..count {
         put_message(s, p, v, out, q, w);
-        p = p + apart.ports;
-        v = v + apart.values;
-        q = q + to_apart.ports;
-        w = w + to_apart.values;
-        left = left - 1;
+        p += apart.ports;
+        v += apart.values;
+        q += to_apart.ports;
+        w += to_apart.values;
     }
 }
 
@@ -198,7 +193,7 @@ pub fn put_record(s: &[u8], at: Places, apart: Apart, out: &mut [u8], to: Places
         at.ports,
         at.values,
         apart,
-        u16_to_usize(count),
+        count as usize,
         out,
         to.ports,
         to.values,

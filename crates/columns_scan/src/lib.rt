@@ -7,11 +7,10 @@ ghost use Rattle.columns_records.specs.Places.{fits_after};
 ghost use Rattle.columns_forms.specs.Forms.{in_row, row_places, found_of};
 ghost use Rattle.columns_scan.specs.Scans.{whole_at, sizes_of};
 
-use columns_forms::{Found, Sizes, in_row, pair_at, row_places};
-use columns_records::{Last, record_fits};
+use columns_forms::{Sizes, in_row, pair_at, row_places};
+use columns_records::{Pair, record_fits};
 use limits::{MAX_RECORDS, MESSAGE_SIZE, RECORD_COUNT_AT, RECORD_HEAD};
 use little_endian::u16_within;
-use widen::u16_to_usize;
 
 // The record at a position is not cut.
 fn is_whole(s: &[u8], at: usize) -> bool
@@ -22,11 +21,11 @@ fn is_whole(s: &[u8], at: usize) -> bool
     if left < RECORD_HEAD {
         return false;
     }
-    RECORD_HEAD + MESSAGE_SIZE * u16_to_usize(u16_within(s, at + RECORD_COUNT_AT)) <= left
+    RECORD_HEAD + MESSAGE_SIZE * (u16_within(s, at + RECORD_COUNT_AT) as usize) <= left
 }
 
 // .. and passes after the one before it.
-fn row_fits(s: &[u8], at: usize, last: Last) -> bool
+fn row_fits(s: &[u8], at: usize, last: Option<Pair>) -> bool
     requires { at ≤ length s.now }
     ensures { result ≡ (whole_at at s.now && fits_after last in_row (row_places at) s.now) }
 {
@@ -37,29 +36,26 @@ fn row_fits(s: &[u8], at: usize, last: Last) -> bool
 }
 
 // "17 when the bytes to rearrange are no trace"
-pub fn scan_trace(s: &[u8]) -> Found
+pub fn scan_trace(s: &[u8]) -> Option<Sizes>
     ensures { found_of 17 result ≡ sizes_of (scanned s.now) }
 {
     let mut at: usize = 0;
-    let mut last = Last {
-        some: false,
-        moment: 0,
-        step: 0,
-    };
+    let mut last: Option<Pair> = None;
     let mut records: usize = 0;
     let mut messages: usize = 0;
+    // How far a turn goes is told by the record itself, so no range counts it.
     while at < s.len() {
         if !row_fits(s, at, last) {
-            return Found::Nothing;
+            return None;
         }
-        let count = u16_to_usize(u16_within(s, at + RECORD_COUNT_AT));
-        last = pair_at(s, row_places(at));
-        records = records + 1;
-        messages = messages + count;
-        at = at + RECORD_HEAD + MESSAGE_SIZE * count;
+        let count = u16_within(s, at + RECORD_COUNT_AT) as usize;
+        last = Some(pair_at(s, row_places(at)));
+        records += 1;
+        messages += count;
+        at += RECORD_HEAD + MESSAGE_SIZE * count;
     }
     if MAX_RECORDS < records {
-        return Found::Nothing;
+        return None;
     }
-    Found::Of(Sizes { records, messages })
+    Some(Sizes { records, messages })
 }

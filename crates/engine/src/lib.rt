@@ -17,7 +17,7 @@ use call_answers::{Advanced, Channels, Fed, Places, Reading, Written};
 pub fn check_model(file: &[u8]) -> u64
     ensures { result ≡ check_model file.now }
 {
-    widen::u16_to_u64(accept_routes::check_model(file))
+    accept_routes::check_model(file)
 }
 
 // Writes the first run of a model at the front of the run buffer.

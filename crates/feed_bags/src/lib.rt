@@ -7,19 +7,12 @@ ghost use Rattle.feed_bags.specs.Bags.{bags_told, bags_found};
 
 use limits::{BAG_COUNT_AT, BAG_HEAD, COUNT_SIZE, MAX_BAGS, MAX_MOMENT, MESSAGE_SIZE};
 use little_endian::{byte_at, front, rest};
-use widen::u8_to_usize;
 
 // How many bags a feed has, and the moment of the last one, 0 where there is none.
 #[derive(Clone, Copy)]
 pub struct Bags {
     pub count: u16,
     pub last: u64,
-}
-
-#[derive(Clone, Copy)]
-pub enum Found {
-    Broken,
-    Of(Bags),
 }
 
 // ---- the bag at the front of some bytes; bytes past the end count as 0
@@ -34,14 +27,14 @@ pub fn moment_of(here: &[u8]) -> u64
 pub fn length_of(here: &[u8]) -> usize
     ensures { result ≡ bag_length here.now }
 {
-    BAG_HEAD + MESSAGE_SIZE * u8_to_usize(byte_at(here, BAG_COUNT_AT))
+    BAG_HEAD + MESSAGE_SIZE * byte_at(here, BAG_COUNT_AT) as usize
 }
 
 // Its messages, as the bytes of a given bag.
 pub fn bag_of<'a>(here: &'a [u8]) -> &'a [u8]
     ensures { result.now ≡ (to_feed_bag here.now).bag }
 {
-    let size = MESSAGE_SIZE * u8_to_usize(byte_at(here, BAG_COUNT_AT));
+    let size = MESSAGE_SIZE * byte_at(here, BAG_COUNT_AT) as usize;
     front(rest(here, BAG_HEAD), size)
 }
 
@@ -59,29 +52,27 @@ fn stands(here: &[u8], least: u64) -> bool
 // ---- the feed
 
 // "19 when the feed breaks its layout, has a port above 3 or has bytes left over"
-pub fn find_bags(feed: &[u8]) -> Found
+pub fn find_bags(feed: &[u8]) -> Option<Bags>
     ensures { bags_found result ≡ bags_told (feed_of feed.now) }
 {
     let count = little_endian::u16_at(feed, 0);
     if (feed.len() < COUNT_SIZE) | (MAX_BAGS < count) {
-        return Found::Broken;
+        return None;
     }
     let mut at = COUNT_SIZE;
-    let mut left = count;
     let mut least: u64 = 0;
     let mut last: u64 = 0;
-    while 0 < left {
+    for _ in 0..count {
         let here = rest(feed, at);
         if !stands(here, least) {
-            return Found::Broken;
+            return None;
         }
         last = moment_of(here);
         least = last + 1;
-        at = at + length_of(here);
-        left = left - 1;
+        at += length_of(here);
     }
     if at != feed.len() {
-        return Found::Broken;
+        return None;
     }
-    Found::Of(Bags { count, last })
+    Some(Bags { count, last })
 }

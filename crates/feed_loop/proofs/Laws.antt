@@ -1,10 +1,9 @@
 -- One call of a feed as the code makes it: it stops the feed, or the calls that are left go on from where it ended. Assumes nothing.
 use mathlib.Core.Path.{◌≡◌, refl, sym, ap, ◌∙◌}
-use Prim.Native.Nat.{ℕ, suc, ◌+◌, ◌*◌, ◌≤◌}
+use Prim.Native.Nat.{ℕ, suc, ◌+◌, ◌-◌, ◌*◌, ◌≤◌}
 use mathlib.Core.List.{List, [], ◌∷◌}
-use mathlib.Core.Bool.{Bool, true, false, ◌&&◌, ◌||◌, not, cond}
+use mathlib.Core.Bool.{Bool, true, false, ◌||◌, not}
 use native.Mathlib.Omega.{arith}
-use lib.Dec.{eqb}
 use lib.ListN.{length, drop}
 use lib.Seq.{length-take-le}
 use borrow.Author.Tests.{eq-eqb, ne_eqb, not-false}
@@ -25,8 +24,13 @@ use Rattle.run_state.specs.declared.State.{State}
 use Rattle.instant_steps.specs.Sim.{sim_of, Ready}
 use Rattle.instant_attempt.specs.Progress.{progress_of, Beyond}
 use Rattle.instant_attempt.specs.declared.Progress.{Progress}
-use Rattle.instant_attempt.specs.declared.Ended.{Ended}
-use Rattle.instant_loop.specs.Ends.{ended_of, Advanced}
+use Rattle.std.proofs.Common.{Option, Some, None}
+use Rattle.std.specs.Option.{is_some}
+use Rattle.refusals.specs.Refusals.{number_in}
+use Rattle.refusals.proofs.Numbers.{number-above}
+use Rattle.refusals.specs.declared.Refusal.{Refusal}
+use Rattle.instant_loop.specs.declared.Ended.{Ended}
+use Rattle.instant_loop.specs.Ends.{ended_of, AdvancedTo}
 use Rattle.instant_loop.proofs.Turns.{beyond-on}
 use Rattle.feed_loop.specs.declared.Onward.{Onward}
 use Rattle.feed_loop.specs.Onwards.{Few, onward_of, end_of}
@@ -35,6 +39,16 @@ use Rattle.feed_loop.specs.Onwards.{Few, onward_of, end_of}
 
 pub few-more : (a b : ℕ) (p : Progress) → a ≤ b → Few a p → Few b p
 few-more a b p l h = record { instants = omega (arith, h.instants); steps = omega (arith, h.steps) }
+
+-- ---- refusals
+
+pub refused-some : (o : Option Refusal) → is_some o ≡ true → number_in o ≡ 0 → ⊥
+refused-some None h e = clash h refl
+refused-some (Some r) h e = omega (arith, e, number-above r)
+
+pub refused-none : (o : Option Refusal) → is_some o ≡ false → number_in o ≡ 0
+refused-none None h = refl
+refused-none (Some r) h = absurd (clash refl h)
 
 -- ---- a call
 
@@ -48,7 +62,7 @@ pub record CalledOn (tables : List ℕ) (k : Simulator State) (trace₀ trace' :
 
 module _ (phases tables : List ℕ) (k : Simulator State) (trace₀ trace trace' : Bytes) (w w' : List ℕ) (p : Progress) (e : Ended) (t : ℕ) (x : Bag) (late : t ≤ max_moment)
     (calls : ℕ) (few : Few calls p) (beyond : Beyond trace₀ trace p.used)
-    (did : Advanced phases tables trace trace' w' e (advancing k (length trace) t x (suc t) (progress_of trace tables w p))) where
+    (did : AdvancedTo phases tables trace trace' w' e (advancing k (length trace) t x (suc t) (progress_of trace tables w p))) where
   abbrev from : Definition.Progress State
   from = progress_of trace tables w p
 
@@ -101,30 +115,29 @@ onward-none k room n p = refl
 module _ (k : Simulator State) (room : ℕ) (trace : Bytes) (tables w : List ℕ) (e : Ended) (b : FeedBag) (bs : List FeedBag) (n : ℕ) (p : Definition.Progress State)
     (whole : Law.Onward State) (same : ended_of trace tables w e ≡ advancing k room b.moment (to_bag b.bag) (suc b.moment) p)
     (all : bags_onward k room (b ∷ bs) n p ≡ whole) where
-  same_number : e.number ≡ (advancing k room b.moment (to_bag b.bag) (suc b.moment) p).number
+  same_number : number_in e.refusal ≡ (advancing k room b.moment (to_bag b.bag) (suc b.moment) p).number
   unfolding ended
   same_number = ap (λ (z : Definition.Ended State). z.number) same
 
-  pub call-stops : (e.number ≡ 0 → ⊥) → onward_of trace tables w (record { bags = n; ended = e }) ≡ whole
+  pub call-stops : (number_in e.refusal ≡ 0 → ⊥) → onward_of trace tables w (record { bags = n; ended = e }) ≡ whole
   call-stops z =
       ap (λ (d : Definition.Ended State). record { bags = n; end = d }) same ∙ sym (onward_stops k room b bs n p (λ f. z (same_number ∙ f))) ∙ all
 
-  pub call-goes : e.number ≡ 0 → bags_onward k room bs (suc n) (progress_of trace tables w e.progress) ≡ whole
+  pub call-goes : number_in e.refusal ≡ 0 → bags_onward k room bs (suc n) (progress_of trace tables w e.progress) ≡ whole
   unfolding ended
   call-goes z =
       ap (λ (d : Definition.Ended State). bags_onward k room bs (suc n) d.progress) same ∙ sym (onward-goes k room b bs n p (sym same_number ∙ z)) ∙ all
 
--- What holds with so many bags left: what is left to read, the sizes of what is lent, the numbers of the calls made, and what the calls that are
--- left give from here.
-pub record Going (phases tables : List ℕ) (k : Simulator State) (feed : Bytes) (count words : ℕ) (whole : Law.Onward State) (trace₀ : Bytes)
-    (w work : List ℕ) (trace : Bytes) (at left bags : ℕ) (p : Progress) : Type 0 where
-  pub done : bags + left ≡ count
+-- What holds before a bag, where `bags` were called: what is left to read, the numbers of the calls made, and what the calls that are left give
+-- from here.
+pub record Going (phases tables : List ℕ) (k : Simulator State) (feed : Bytes) (count : ℕ) (whole : Law.Onward State) (trace₀ : Bytes)
+    (w : List ℕ) (trace : Bytes) (at turns bags : ℕ) (p : Progress) : Type 0 where
+  pub done : bags ≡ turns
   pub within : at ≤ length feed
   pub near : at ≤ count_size + (bag_head + message_size * max_given) * bags
   pub least : ℕ
   pub others : List FeedBag
-  pub read : bags_from left least (drop at feed) ≡ ok others
-  pub lent : length work ≡ words
+  pub read : bags_from (count - turns) least (drop at feed) ≡ ok others
   pub few : Few bags p
   pub beyond : Beyond trace₀ trace p.used
   pub ready : Ready phases tables w
@@ -133,21 +146,13 @@ pub record Going (phases tables : List ℕ) (k : Simulator State) (feed : Bytes)
 -- ---- the call to the end
 
 module _ (phases rules tables : List ℕ) (words end : ℕ) (past : Bool) (trace : Bytes) (w : List ℕ) (own : Onward) where
-  pub end_stays : (not (eqb own.ended.number 0) || not past) ≡ true → onward_of trace tables w own ≡ end_of phases rules tables words end past trace w own
-  end_stays h = go (eqb own.ended.number 0) past h
-    where
-      go : (b c : Bool) → (not b || not c) ≡ true → onward_of trace tables w own
-          ≡ cond (b && c) (record { bags = own.bags; end = advancing (sim_of phases rules tables words) (length trace) end [] (suc end) (progress_of trace tables w own.ended.progress) })
-          (onward_of trace tables w own)
-      go true true h = absurd (clash h refl)
-      go true false h = refl
-      go false c h = refl
+  abbrev refusal : Option Refusal
+  refusal = own.ended.refusal
 
-  pub end_goes : (not (eqb own.ended.number 0) || not past) ≡ false
+  pub end_goes : (is_some refusal || not past) ≡ false
       → record { bags = own.bags; end = advancing (sim_of phases rules tables words) (length trace) end [] (suc end) (progress_of trace tables w own.ended.progress) }
       ≡ end_of phases rules tables words end past trace w own
   end_goes h =
-      let z = or-none (not (eqb own.ended.number 0)) (not past) h in
-      let number : eqb own.ended.number 0 ≡ true = not-false _ z.0 in
+      let z = or-none (is_some refusal) (not past) h in
       let late : past ≡ true = not-false past z.1 in
-      rw (number, late)
+      rw (eq-eqb (number_in refusal) 0 (refused-none refusal z.0), late)

@@ -25,10 +25,11 @@ use Rattle.instant_steps.specs.Sim.{sim_of}
 use Rattle.instant_attempt.specs.Progress.{rules_by, progress_of, Beyond}
 use Rattle.instant_attempt.specs.declared.Progress.{Progress}
 use Rattle.instant_loop.proofs.Outcome.{trace-stored}
+use Rattle.refusals.specs.Refusals.{number_in}
 use Rattle.call_answers.specs.declared.Fed.{Fed}
 use Rattle.call_answers.specs.Answers.{fed_of}
 use Rattle.feed_loop.specs.declared.Onward.{Onward}
-use Rattle.feed_loop.specs.Onwards.{onward_of, end_of}
+use Rattle.feed_loop.specs.Onwards.{onward_of, end_of, feed_answer_of}
 
 -- ---- the two parts
 
@@ -62,27 +63,23 @@ module _ (phases rules tables : List ℕ) (words end : ℕ) (bs : List FeedBag) 
 
 -- ---- the buffers
 
--- The answer of a feed that ends so.
-abbrev pub answer_of : Onward → Fed
-answer_of r =
-    record { number = r.ended.number; bags = r.bags; instants = r.ended.progress.instants; steps = r.ended.progress.steps; trace_bytes = r.ended.progress.used }
-
-pub outcome : (tables : List ℕ) (run₀ run trace₀ trace : Bytes) (w : List ℕ) (r : Onward) (o : Law.Onward State) → onward_of trace tables w r ≡ o
+-- The outcome of a feed that goes so and answers d.
+pub outcome : (tables : List ℕ) (run₀ run trace₀ trace : Bytes) (w : List ℕ) (r : Onward) (d : Fed) (o : Law.Onward State) → d ≡ feed_answer_of r → onward_of trace tables w r ≡ o
     → Beyond trace₀ trace r.ended.progress.used → run ≡ stored (run_bytes (run_in r.ended.progress.opening.0 (atomics_in tables) (held_in w))) run₀
-    → fed_of run trace (answer_of r) ≡ fed_from run₀ trace₀ (record { bags = o.bags; end = held_end (atomics_in tables) o.end })
-outcome tables run₀ run trace₀ trace w r o same b put =
-    rw put (fields ∙ ap (λ (z : Law.Onward State). fed_from run₀ trace₀ (record { bags = z.bags; end = held_end (atomics_in tables) z.end })) same)
+    → fed_of run trace d ≡ fed_from run₀ trace₀ (record { bags = o.bags; end = held_end (atomics_in tables) o.end })
+outcome tables run₀ run trace₀ trace w r d o said same b put =
+    rw (said, put) (fields ∙ ap (λ (z : Law.Onward State). fed_from run₀ trace₀ (record { bags = z.bags; end = held_end (atomics_in tables) z.end })) same)
   where
     p : Progress
     p = r.ended.progress
 
-    fields : fed_of (stored (run_bytes (run_in p.opening.0 (atomics_in tables) (held_in w))) run₀) trace (answer_of r)
+    fields : fed_of (stored (run_bytes (run_in p.opening.0 (atomics_in tables) (held_in w))) run₀) trace (feed_answer_of r)
         ≡ (let z = onward_of trace tables w r in fed_from run₀ trace₀ (record { bags = z.bags; end = held_end (atomics_in tables) z.end }))
     fields = unfold fed_from held_end ended progress_of run_in in (
         let l : length (take p.used trace) ≡ p.used = length-take-le p.used trace (omega (arith, b.within, b.size)) in
         let s = trace-stored p.used trace₀ trace b in
         λ i. record {
-          number = r.ended.number;
+          number = number_in r.ended.refusal;
           bags = r.bags;
           instants = p.instants;
           steps = p.steps;

@@ -17,7 +17,9 @@ use Rattle.spec_step.specs.Tables.{atomics_in}
 use Rattle.instant_steps.specs.Sim.{sim_of, Lent, Fit, Ready}
 use Rattle.instant_attempt.specs.Progress.{progress_of, Beyond}
 use Rattle.instant_attempt.specs.declared.Progress.{Progress}
-use Rattle.instant_loop.specs.Ends.{ended_of}
+use Rattle.instant_loop.specs.Ends.{ended_of, answer_of}
+use Rattle.refusals.specs.Refusals.{number_in}
+use Rattle.call_answers.specs.declared.Fed.{Fed as FedAnswer}
 use Rattle.feed_bags.specs.declared.Bags.{Bags}
 use Rattle.feed_bags.specs.Bags as Told
 use Rattle.feed_loop.specs.declared.Onward.{Onward}
@@ -77,7 +79,7 @@ bags_of phases rules tables words feed trace w p = bags_onward (sim_of phases ru
 -- The call to the end, if it lies past the bags.
 abbrev pub end_of : List ℕ → List ℕ → List ℕ → ℕ → ℕ → Bool → Bytes → List ℕ → Onward → Law.Onward State
 end_of phases rules tables words end past trace w own =
-    cond (eqb own.ended.number 0 && past)
+    cond (eqb (number_in own.ended.refusal) 0 && past)
     (record { bags = own.bags; end = advancing (sim_of phases rules tables words) (length trace) end [] (suc end) (progress_of trace tables w own.ended.progress) })
     (onward_of trace tables w own)
 
@@ -96,6 +98,12 @@ pub record MayGoOn (phases tables : List ℕ) (calls : ℕ) (trace₀ trace : By
   pub went : WentOn tables trace₀ trace w r o
   pub ready : Ready phases tables w
   pub few : Few calls r.ended.progress
+
+-- What a feed answers whose calls went so far.
+abbrev pub feed_answer_of : Onward → FedAnswer
+feed_answer_of o =
+    let a = answer_of o.ended in
+    record { number = a.number; bags = o.bags; instants = a.instants; steps = a.steps; trace_bytes = a.trace_bytes }
 
 -- The whole feed on a run buffer whose state is st.
 abbrev pub fed_by : List ℕ → List ℕ → List ℕ → ℕ → ℕ → Bytes → Bytes → State → Bytes → Fed

@@ -5,24 +5,38 @@
 ghost use Rattle.std.specs.Prelude.{◌≡◌, length};
 ghost use Rattle.run_state.specs.Held.{held_in};
 ghost use Rattle.call_answers.specs.Answers.{fed_of};
-ghost use Rattle.feed_loop.specs.Onwards.{CanFeed, CanEnd, Startable, EndedOn, MayGoOn, bags_of, end_of, fed_by};
+ghost use Rattle.feed_loop.specs.Onwards.{CanFeed, CanEnd, Startable, EndedOn, MayGoOn, bags_of, end_of, feed_answer_of, fed_by};
 
-use call_answers::Fed;
+use call_answers::{Advanced, Fed};
 use clock::Moment;
 use feed_bags::{Bags, bag_of, length_of, moment_of};
-use instant_attempt::{Ended, Progress};
-use instant_loop::advance_on;
+use instant_attempt::Progress;
+use instant_loop::{Ended, advance_on};
 use limits::COUNT_SIZE;
 use little_endian::rest;
 use run_state::STATE_SIZE;
 use table_words::{TABLE_SIZE, atomics_in};
-use widen::{u8_to_usize, usize_to_u64};
 
 // How many bags' own calls succeeded, and where the last call ended.
 #[derive(Clone, Copy)]
 pub struct Onward {
     pub bags: u64,
     pub ended: Ended,
+}
+
+impl From<Onward> for Fed {
+    ghost from_gives = { λ onward answer. answer ≡ feed_answer_of onward };
+
+    fn from(onward: Onward) -> Fed {
+        let own = Advanced::from(onward.ended);
+        Fed {
+            number: own.number,
+            bags: onward.bags,
+            instants: own.instants,
+            steps: own.steps,
+            trace_bytes: own.trace_bytes,
+        }
+    }
 }
 
 // The bags' own calls in turn; the first that is refused stops them.
@@ -43,13 +57,12 @@ fn advance_bags(
         state.old from) }
 {
     let mut at = COUNT_SIZE;
-    let mut left = count;
     let mut bags: u64 = 0;
     let mut p = from;
-    while 0 < left {
+    for _ in 0..count {
         let here = rest(feed, at);
         let t = Moment(moment_of(here));
-        let e = advance_on(
+        let ended = advance_on(
             phases,
             rules,
             tables,
@@ -60,16 +73,15 @@ fn advance_bags(
             work,
             trace,
         );
-        if e.number != 0 {
-            return Onward { bags, ended: e };
+        if ended.refusal.is_some() {
+            return Onward { bags, ended };
         }
-        p = e.progress;
-        bags = bags + 1;
-        at = at + length_of(here);
-        left = left - 1;
+        p = ended.progress;
+        bags += 1;
+        at += length_of(here);
     }
     let ended = Ended {
-        number: 0,
+        refusal: None,
         progress: p,
     };
     Onward { bags, ended }
@@ -93,7 +105,7 @@ fn advance_to_end(
         (end_of phases.now rules.now tables.now (length work.old) end.0 past trace.old
         state.old own) }
 {
-    if (own.ended.number != 0) | !past {
+    if own.ended.refusal.is_some() | !past {
         return own;
     }
     let from = own.ended.progress;
@@ -154,13 +166,7 @@ pub fn feed_from(
     let whole = advance_to_end(
         phases, rules, tables, end, past, feed, own, state, work, trace,
     );
-    let p = whole.ended.progress;
-    run_saved::store(run, p.opening, u8_to_usize(atomics_in(tables)), state);
-    Fed {
-        number: whole.ended.number,
-        bags: whole.bags,
-        instants: p.instants,
-        steps: p.steps,
-        trace_bytes: usize_to_u64(p.used),
-    }
+    let done = whole.ended.progress;
+    run_saved::store(run, done.opening, atomics_in(tables) as usize, state);
+    Fed::from(whole)
 }

@@ -13,15 +13,14 @@ ghost use Rattle.flat_probe.specs.Probe.{own_port, probe_of, probes, probe_flags
 use limits::{MAX_COMPONENTS, PHASE_SIZE};
 use little_endian::put_number;
 use table_words::FLAGS_SIZE;
-use widen::{u8_to_u64, usize_to_u64};
 
 // A slot: output port q of component c, with its number.
 fn put_slot(c: usize, q: u8, out: &mut [u8], at: usize)
     requires { (c ≤ max_components) × (at + 3 ≤ length out.old) }
     ensures { out.new ≡ sets out.old at (message_bytes (own_port c q)) }
 {
-    put_number(out, at, 1, u8_to_u64(q));
-    put_number(out, at + 1, 2, 8 * usize_to_u64(c) + (4 + u8_to_u64(q)));
+    put_number(out, at, 1, q as u64);
+    put_number(out, at + 1, 2, 8 * c as u64 + (4 + q as u64));
 }
 
 // Advance and next phase 0, four outputs, and the four ports.
@@ -42,10 +41,8 @@ pub fn put_probes(out: &mut [u8])
     requires { length out.old ≡ max_components * phase_size }
     ensures { phases_in out.new ≡ probes }
 {
-    let mut c: usize = 0;
-    while c < MAX_COMPONENTS {
+    for c in 0..MAX_COMPONENTS {
         put_probe(c, out, PHASE_SIZE * c);
-        c = c + 1;
     }
 }
 
@@ -61,9 +58,7 @@ pub fn put_flags(flags: &mut [u32])
     requires { length flags.old ≡ flags_size }
     ensures { flags.new ≡ probe_flags }
 {
-    let mut i: usize = 0;
-    while i < FLAGS_SIZE {
+    for i in 0..FLAGS_SIZE {
         flags[i] = next_number(i);
-        i = i + 1;
     }
 }

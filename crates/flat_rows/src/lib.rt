@@ -13,7 +13,6 @@ use flat_ranks::rank_of;
 use limits::{MAX_COMPONENTS, PHASE_SIZE};
 use step_collect::{collect_bag, collect_root};
 use table_words::{FLAGS_SIZE, NUMBERS_AT, TABLE_SIZE, row_in};
-use widen::u8_to_u32;
 
 const PROBE_BYTES: usize = MAX_COMPONENTS * PHASE_SIZE;
 
@@ -38,10 +37,8 @@ fn make_rows(tables: &[u16; TABLE_SIZE], end: u32, rows: &mut [u32], count: usiz
     requires { count ≤ length rows.old }
     ensures { take count rows.new ≡ map (row_of tables.now end) (take count rows.old) }
 {
-    let mut i: usize = 0;
-    while i < count {
+    for i in 0..count {
         rows[i] = row_of(tables, end, rows[i]);
-        i = i + 1;
     }
 }
 
@@ -74,7 +71,7 @@ fn add_atomic(
 {
     let c = row_in(tables, NUMBERS_AT, i as u16);
     let count = collect_bag(phases, tables, flags, given, c, rows);
-    make_rows(tables, u8_to_u32(i) + 1, rows, count);
+    make_rows(tables, i as u32 + 1, rows, count);
     count
 }
 
@@ -91,10 +88,8 @@ fn add_all(
     ensures { Held (all_rows phases.now tables.now flags.now given.now n) rows.new result }
 {
     let mut at = add_root(phases, tables, flags, rows);
-    let mut i: u8 = 0;
-    while i < n {
-        at = at + add_atomic(phases, tables, flags, given, i, &mut rows[at..]);
-        i = i + 1;
+    for i in 0..n {
+        at += add_atomic(phases, tables, flags, given, i, &mut rows[at..]);
     }
     at
 }

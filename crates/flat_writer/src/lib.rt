@@ -20,7 +20,6 @@ use limits::{
 use little_endian::{byte_at, front, put_bytes, put_number, rest};
 use model_records::{Component, component_at, phase_count, rule_count};
 use table_words::{NUMBERS_AT, RANGES_AT, word_at};
-use widen::{u8_to_u32, u8_to_usize, u16_to_usize, u32_to_u64, usize_to_u64};
 
 // ---- components
 
@@ -41,12 +40,10 @@ fn put_atomics(components: &[u8], tables: &[u16], n: u8, out: &mut [u8])
     requires { 7 + 5 * n ≤ length out.old }
     ensures { out.new ≡ sets out.old 7 (concat (map component_bytes (atomics_by (components_in components.now) tables.now n))) }
 {
-    let mut i: u8 = 0;
-    while i < n {
-        let c = word_at(tables, NUMBERS_AT + u8_to_usize(i));
-        let k = component_at(components, u16_to_usize(c));
-        put_atomic(k, out, 7 + COMPONENT_SIZE * u8_to_usize(i));
-        i = i + 1;
+    for i in 0..n {
+        let c = word_at(tables, NUMBERS_AT + i as usize);
+        let k = component_at(components, c as usize);
+        put_atomic(k, out, 7 + COMPONENT_SIZE * i as usize);
     }
 }
 
@@ -54,7 +51,7 @@ fn put_components(components: &[u8], tables: &[u16], n: u8, out: &mut [u8])
     requires { 7 + 5 * n ≤ length out.old }
     ensures { out.new ≡ sets out.old 0 (section_bytes component_bytes (components_by (components_in components.now) tables.now n)) }
 {
-    put_number(out, 0, COUNT_SIZE, usize_to_u64(u8_to_usize(n) + 1));
+    put_number(out, 0, COUNT_SIZE, (n as usize + 1) as u64);
     put_number(out, COUNT_SIZE, COMPONENT_SIZE, 0);
     put_atomics(components, tables, n, out);
 }
@@ -66,7 +63,7 @@ fn put_phases(phases: &[u8], out: &mut [u8], at: usize)
     ensures { out.new ≡ sets out.old at (section_bytes phase_bytes (phases_in phases.now)) }
 {
     let n = phase_count(phases);
-    put_number(out, at, COUNT_SIZE, usize_to_u64(n));
+    put_number(out, at, COUNT_SIZE, n as u64);
     let part = front(phases, PHASE_SIZE * n);
     put_bytes(part, out, at + COUNT_SIZE);
 }
@@ -77,8 +74,8 @@ fn put_rule(rule: &[u8], tables: &[u16], out: &mut [u8], at: usize)
     requires { (length rule.now ≡ rule_size) × (at + 18 ≤ length out.old) }
     ensures { out.new ≡ sets out.old at (rule_bytes (rule_by tables.now (to_rule rule.now))) }
 {
-    let rank = rank_of(tables, u8_to_u32(byte_at(rule, 0)));
-    put_number(out, at, 1, u32_to_u64(rank));
+    let rank = rank_of(tables, byte_at(rule, 0) as u32);
+    put_number(out, at, 1, rank as u64);
     let kept = front(rest(rule, 1), RULE_SIZE - 1);
     put_bytes(kept, out, at + 1);
 }
@@ -87,11 +84,9 @@ fn put_rule_list(rules: &[u8], tables: &[u16], n: usize, out: &mut [u8], at: usi
     requires { (n ≡ length (rules_in rules.now)) × (at + 18 * n ≤ length out.old) }
     ensures { out.new ≡ sets out.old at (concat (map rule_bytes (map (rule_by tables.now) (rules_in rules.now)))) }
 {
-    let mut i: usize = 0;
-    while i < n {
+    for i in 0..n {
         let rule = front(rest(rules, RULE_SIZE * i), RULE_SIZE);
         put_rule(rule, tables, out, at + RULE_SIZE * i);
-        i = i + 1;
     }
 }
 
@@ -100,7 +95,7 @@ fn put_rules(rules: &[u8], tables: &[u16], out: &mut [u8], at: usize)
     ensures { out.new ≡ sets out.old at (section_bytes rule_bytes (map (rule_by tables.now) (rules_in rules.now))) }
 {
     let n = rule_count(rules);
-    put_number(out, at, COUNT_SIZE, usize_to_u64(n));
+    put_number(out, at, COUNT_SIZE, n as u64);
     put_rule_list(rules, tables, n, out, at + COUNT_SIZE);
 }
 
@@ -120,10 +115,8 @@ fn put_row_list(rows: &[u32], n: usize, out: &mut [u8], at: usize)
     requires { (n ≤ length rows.now) × (at + 4 * n ≤ length out.old) }
     ensures { out.new ≡ sets out.old at (concat (map coupling_bytes (map coupling_of (take n rows.now)))) }
 {
-    let mut i: usize = 0;
-    while i < n {
+    for i in 0..n {
         put_row(rows[i], out, at + COUPLING_SIZE * i);
-        i = i + 1;
     }
 }
 
@@ -131,7 +124,7 @@ fn put_rows(rows: &[u32], n: usize, out: &mut [u8], at: usize)
     requires { (n ≤ length rows.now) × (at + 2 + 4 * n ≤ length out.old) }
     ensures { out.new ≡ sets out.old at (section_bytes coupling_bytes (map coupling_of (take n rows.now))) }
 {
-    put_number(out, at, COUNT_SIZE, usize_to_u64(n));
+    put_number(out, at, COUNT_SIZE, n as u64);
     put_row_list(rows, n, out, at + COUNT_SIZE);
 }
 
@@ -164,7 +157,7 @@ pub fn flat_size(phases: &[u8], rules: &[u8], tables: &[u16], n: u8, count: usiz
     requires { (length (phases_in phases.now) ≤ max_phases) × (length (rules_in rules.now) ≤ max_rules) × (count ≤ max_routes) }
     ensures { result ≡ flat_size phases.now rules.now tables.now n count }
 {
-    13 + COMPONENT_SIZE * u8_to_usize(n)
+    13 + COMPONENT_SIZE * n as usize
         + PHASE_SIZE * phase_count(phases)
         + RULE_SIZE * rule_count(rules)
         + COUPLING_SIZE * count
@@ -186,7 +179,7 @@ pub fn put_flat(
         (take count rows.now) out.old }
 {
     put_components(components, tables, n, out);
-    let second = 7 + COMPONENT_SIZE * u8_to_usize(n);
+    let second = 7 + COMPONENT_SIZE * n as usize;
     put_phases(phases, out, second);
     let third = second + COUNT_SIZE + PHASE_SIZE * phase_count(phases);
     put_rules(rules, tables, out, third);

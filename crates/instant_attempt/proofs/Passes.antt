@@ -1,4 +1,4 @@
--- The first pass over an instant by its verdict: the number that hinders the instant, with the definition's `tried`, or what it leaves (`decided`).
+-- The first pass over an instant by its verdict: why the instant is left undone, with the definition's `tried`, or what it leaves (`decided`).
 -- Assumes nothing.
 use mathlib.Core.Path.{◌≡◌, refl, sym, ap, ◌∙◌, subst}
 use mathlib.Core.List.{List, [], ◌∷◌, ◌++◌}
@@ -9,7 +9,7 @@ use lib.Dec.{eqb, ltb}
 use lib.ListN.{length, length-append, take}
 use lib.Seq.{length-take-le}
 use borrow.Author.Tests.{ltb-true, ltb-false, eqb-true, eqb-false}
-use Rattle.definition.specs.Bytes.{Bytes, ok, refused}
+use Rattle.definition.specs.Bytes.{Bytes, ok}
 use Rattle.definition.specs.Lists.{concat}
 use Rattle.definition.specs.Limits.{max_steps}
 use Rattle.definition.specs.Model.{Bag}
@@ -17,18 +17,18 @@ use Rattle.definition.specs.Step.{Output, Simulator}
 use Rattle.definition.specs.Instant.{Instant, done, jammed, stepped, goes_on, steps_at, instant, trace_bytes, records_from, instant_trace}
 use Rattle.definition.specs.Advance.{tried}
 use Rattle.definition.specs.Advance as Definition
-use Rattle.definition.specs.Channels.{tried_within}
 use Rattle.law_base.proofs.Turns.{tried-jams, tried-none, tried-full, stood, tried-stands, within-no, within-many}
 use Rattle.run_state.specs.declared.State.{State}
-use Rattle.instant_steps.specs.Verdicts.{ran_of}
+use Rattle.std.proofs.Common.{Option, Some, None, Result, Ok, Err}
+use Rattle.std.specs.Option.{ok_or}
+use Rattle.instant_steps.specs.Verdicts.{ran_of, steps_in}
 use Rattle.instant_steps.specs.declared.Ran.{Ran}
-use Rattle.instant_steps.specs.declared.Verdict.{Verdict}
-use Rattle.instant_steps.specs.declared.Verdict.TheVariants as VV
 use Rattle.instant_attempt.specs.Progress.{progress_of}
-use Rattle.instant_attempt.specs.Pass.{hindrance_of, after_of, ended_by, Decided}
+use Rattle.instant_attempt.specs.Pass.{judged_by, progressed, after_of, ended_by, Hindered, Stands, Decided}
 use Rattle.instant_attempt.specs.declared.Progress.{Progress}
 use Rattle.instant_attempt.specs.declared.TurnWithin.{TurnWithin}
-use Rattle.instant_attempt.specs.declared.Ended.{Ended}
+use Rattle.refusals.specs.declared.Refusal.{Refusal}
+use Rattle.refusals.specs.declared.Refusal.TheVariants as R
 
 -- ---- an instant without a step
 
@@ -79,18 +79,18 @@ record May (now : ℕ) (i : Instant State) (r : Ran) : Type 0 where
   pub steps : r.steps ≡ length outputs
   pub used : r.used ≡ length (instant_trace now outputs)
 
--- What each verdict says of the instant.
-abbrev Said : ℕ → Instant State → Ran → Verdict → Type 0
-Said now i r VV.Jammed = i ≡ jammed
-Said now i r VV.Stands = May now i r
+-- What the pass says of the instant.
+abbrev Said : ℕ → Instant State → Option Ran → Type 0
+Said now i None = i ≡ jammed
+Said now i (Some r) = May now i r
 
-said : (now : ℕ) (i : Instant State) → Said now i (ran_of now 0 i) (ran_of now 0 i).verdict
+said : (now : ℕ) (i : Instant State) → Said now i (ran_of now 0 i)
 unfolding ran_of
 said now jammed = refl
 said now (done xs s) = record { outputs = xs; end = s; same = refl; steps = refl; used = omega arith }
 
-told : (now : ℕ) (i : Instant State) (r : Ran) → r ≡ ran_of now 0 i → (v : Verdict) → r.verdict ≡ v → Said now i r v
-told now i r e v h = subst (λ (w : Verdict). Said now i r w) h (subst (λ (q : Ran). Said now i q q.verdict) (sym e) (said now i))
+told : (now : ℕ) (i : Instant State) (r : Option Ran) → r ≡ ran_of now 0 i → Said now i r
+told now i r e = subst (λ (q : Option Ran). Said now i q) (sym e) (said now i)
 
 -- ---- where the instant ends
 
@@ -108,24 +108,18 @@ module _ (turn : TurnWithin) (tables w₀ : List ℕ) (trace : Bytes) (h : turn.
   abbrev left : ℕ
   left = length trace - p.used
 
-  abbrev undone : ℕ → Ended
-  undone m = record { number = m; progress = p }
-
   module _ (i : Instant State) where
-    stops : (m : ℕ) → (m ≡ 0 → ⊥) → tried_within turn.has (length trace) now before i ≡ refused m → Decided turn tables w₀ trace i (undone m)
-    stops m z e = record { hindered = λ _. record { same = sym e; progress = refl }; stands = λ q. absurd (z q) }
-
-    decided-jams : i ≡ jammed → Decided turn tables w₀ trace i (undone 13)
-    decided-jams e = stops 13 (λ z. omega arith) (within-no turn.has (length trace) now before i 13 (ap (tried (length trace) now before) e ∙ tried-jams (length trace) now before))
+    decided-jams : i ≡ jammed → Hindered turn tables w₀ trace i R.StillDue
+    decided-jams e = sym (within-no turn.has (length trace) now before i 13 (ap (tried (length trace) now before) e ∙ tried-jams (length trace) now before))
 
     sized : (ran : Ran) (m : May now i ran) → length (before.trace ++ instant_trace now m.outputs) ≡ p.used + ran.used
     unfolding progress_of
     sized ran m = omega (arith, length-append (take p.used trace) (instant_trace now m.outputs), length-take-le p.used trace h, m.used)
 
-    decided-full : (ran : Ran) → May now i ran → left < ran.used → Decided turn tables w₀ trace i (undone 15)
+    decided-full : (ran : Ran) → May now i ran → left < ran.used → Hindered turn tables w₀ trace i R.BufferTooShort
     decided-full ran m l =
         let some : length m.outputs ≡ 0 → ⊥ = λ z. omega (arith, m.used, ap length (no-records now m.outputs z)) in
-        stops 15 (λ z. omega arith)
+        sym
         (within-no turn.has (length trace) now before i 15
         (ap (tried (length trace) now before) m.same ∙ tried-full (length trace) now before m.outputs m.end some (omega (arith, sized ran m))))
 
@@ -150,53 +144,60 @@ module _ (turn : TurnWithin) (tables w₀ : List ℕ) (trace : Bytes) (h : turn.
           omega (arith, steps-before, m.steps),
         )
 
-    decided-many : (ran : Ran) → May now i ran → ran.used ≤ left → turn.has < p.steps + ran.steps → Decided turn tables w₀ trace i (undone 22)
+    decided-many : (ran : Ran) → May now i ran → ran.used ≤ left → turn.has < p.steps + ran.steps → Hindered turn tables w₀ trace i R.OutOfSteps
     decided-many ran m l many =
         let q = stood-steps ran m l in
-        stops 22 (λ z. omega arith) (within-many turn.has (length trace) now before i q.0 q.1 (omega (arith, q.2)))
+        sym (within-many turn.has (length trace) now before i q.0 q.1 (omega (arith, q.2)))
 
     decided-stands : (ran : Ran) → May now i ran → ran.steps ≤ max_steps → ran.used ≤ left → p.steps + ran.steps ≤ turn.has
-        → Decided turn tables w₀ trace i (record { number = 0; progress = after_of now p ran.steps ran.used })
+        → Stands turn (length trace) i (after_of now p ran.steps ran.used)
     decided-stands ran m few l enough = record {
-      hindered = λ z. absurd (z refl);
-      stands = λ _. record {
-        outputs = m.outputs;
-        end = m.end;
-        same = m.same;
-        few = omega (arith, m.steps);
-        within = omega (arith, m.used);
-        enough = omega (arith, m.steps);
-        progress = rw (m.steps, m.used);
-      };
+      outputs = m.outputs;
+      end = m.end;
+      same = m.same;
+      few = omega (arith, m.steps);
+      within = omega (arith, m.used);
+      enough = omega (arith, m.steps);
+      progress = rw (m.steps, m.used);
     }
 
-    module _ (ran : Ran) (e : ran ≡ ran_of now 0 i) (few : ran.steps ≤ max_steps) where
-      by : (v : Verdict) → ran.verdict ≡ v → Decided turn tables w₀ trace i (ended_by left turn ran)
-      unfolding ended_by hindrance_of
-      by VV.Jammed q = rw q (decided-jams (told now i ran e VV.Jammed q))
-      by VV.Stands q = rw q (go (ltb left ran.used) refl (ltb turn.has (p.steps + ran.steps)) refl)
-        where
-          go : (b : Bool) → ltb left ran.used ≡ b → (c : Bool) → ltb turn.has (p.steps + ran.steps) ≡ c
-              → Decided turn tables w₀ trace i
-              (cond (eqb (cond b 15 (cond c 22 0)) 0) (record { number = 0; progress = after_of now p ran.steps ran.used })
-              (record { number = cond b 15 (cond c 22 0); progress = p }))
-          go true f c g = decided-full ran (told now i ran e VV.Stands q) (ltb-true left ran.used f)
-          go false f true g = decided-many ran (told now i ran e VV.Stands q) (ltb-false left ran.used f) (ltb-true turn.has (p.steps + ran.steps) g)
-          go false f false g =
-              decided-stands ran (told now i ran e VV.Stands q) few (ltb-false left ran.used f) (ltb-false turn.has (p.steps + ran.steps) g)
-
-      pub decided : (r : Ended) → r ≡ ended_by left turn ran → Decided turn tables w₀ trace i r
-      decided r f = subst (Decided turn tables w₀ trace i) (sym f) (by ran.verdict refl)
-
--- Nothing hinders an instant only where its records have room.
-pub no-hindrance : (room has steps : ℕ) (ran : Ran) → hindrance_of room has steps ran ≡ 0 → ran.used ≤ room
-unfolding hindrance_of
-no-hindrance room has steps ran e = by ran.verdict refl
-  where
-    by : (v : Verdict) → ran.verdict ≡ v → ran.used ≤ room
-    by VV.Jammed q = absurd (omega (arith, rw q at e))
-    by VV.Stands q = go (ltb room ran.used) refl (rw q at e)
+    by : (ran : Option Ran) → Said now i ran → steps_in ran ≤ max_steps → Decided turn tables w₀ trace i (ended_by left turn ran)
+    unfolding ended_by judged_by
+    by None e few = decided-jams e
+    by (Some ran) m few = go (ltb left ran.used) refl (ltb turn.has (p.steps + ran.steps)) refl
       where
-        go : (b : Bool) → ltb room ran.used ≡ b → ◌≡◌ {A = ℕ} (cond b 15 (cond (ltb has steps) 22 0)) 0 → ran.used ≤ room
-        go true f g = absurd (omega arith)
-        go false f g = ltb-false room ran.used f
+        go : (b : Bool) → ltb left ran.used ≡ b → (c : Bool) → ltb turn.has (p.steps + ran.steps) ≡ c
+            → Decided turn tables w₀ trace i (progressed turn (cond b (Err R.BufferTooShort) (cond c (Err R.OutOfSteps) (Ok ran))))
+        go true f c g = decided-full ran m (ltb-true left ran.used f)
+        go false f true g = decided-many ran m (ltb-false left ran.used f) (ltb-true turn.has (p.steps + ran.steps) g)
+        go false f false g = decided-stands ran m few (ltb-false left ran.used f) (ltb-false turn.has (p.steps + ran.steps) g)
+
+    pub decided : (ran : Option Ran) → ran ≡ ran_of now 0 i → steps_in ran ≤ max_steps → (r : Result Progress Refusal) → r ≡ ended_by left turn ran
+        → Decided turn tables w₀ trace i r
+    decided ran e few r f = subst (λ (x : Result Progress Refusal). Decided turn tables w₀ trace i x) (sym f) (by ran (told now i ran e) few)
+
+-- ---- a pass that is judged
+
+-- None is refused at once, and any other goes on.
+pub judged-none : (room has before : ℕ) (ran : Option Ran) (r : Refusal) → ◌≡◌ {A = Result Ran Refusal} (Err r) (ok_or ran R.StillDue) → Err r ≡ judged_by room has before ran
+unfolding judged_by
+judged-none room has before None r e = e
+judged-none room has before (Some ran) r e = absurd cc
+
+pub judged-some : (ran : Option Ran) (q : Ran) → ◌≡◌ {A = Result Ran Refusal} (Ok q) (ok_or ran R.StillDue) → ran ≡ Some q
+judged-some None q e = absurd cc
+judged-some (Some ran) q e = cc
+
+-- An instant that is not refused may stand, and its records have room.
+pub judged-ok : (room has before : ℕ) (ran : Option Ran) (q : Ran) → judged_by room has before ran ≡ Ok q → (ran ≡ Some q) × (q.used ≤ room)
+unfolding judged_by
+judged-ok room has before None q e = absurd cc
+judged-ok room has before (Some ran) q e = go (ltb room ran.used) refl (ltb has (before + ran.steps)) e
+  where
+    go : (b : Bool) → ltb room ran.used ≡ b → (c : Bool) → ◌≡◌ {A = Result Ran Refusal} (cond b (Err R.BufferTooShort) (cond c (Err R.OutOfSteps) (Ok ran))) (Ok q)
+        → (Some ran ≡ Some q) × (q.used ≤ room)
+    go true f c g = absurd cc
+    go false f true g = absurd cc
+    go false f false g =
+        let same : ran ≡ q = cc in
+        (ap (λ (r : Ran). Some r) same, subst (λ (r : Ran). r.used ≤ room) same (ltb-false room ran.used f))

@@ -18,7 +18,9 @@ use Rattle.run_state.specs.declared.State.{State}
 use Rattle.run_state.specs.Held.{held_in}
 use Rattle.instant_attempt.specs.Progress.{progress_of, Room, Tried, TriedWithin}
 use Rattle.instant_attempt.specs.declared.Turn.{Turn}
-use Rattle.instant_attempt.specs.declared.Ended.{Ended}
+use Rattle.std.proofs.Common.{Result}
+use Rattle.instant_attempt.specs.declared.Progress as Code
+use Rattle.refusals.specs.declared.Refusal.{Refusal}
 
 module _ {S : Type 0} (k : Simulator S) (has room now : ℕ) (y : Bag) (p : Progress S) (l : p.steps + max_steps ≤ has) where
   spare-tried : tried_within has room now p (instant k now y p.state) ≡ tried room now p (instant k now y p.state)
@@ -34,7 +36,7 @@ module _ {S : Type 0} (k : Simulator S) (has room now : ℕ) (y : Bag) (p : Prog
       go (stands z zs s e b d) = refl
 
 -- Tried with the most steps that 64 bits can count, it is tried without a limit.
-pub spare : (k : Simulator State) (phases tables : List ℕ) (turn : Turn) (y : Bag) (w₀ w : List ℕ) (trace₀ trace : Bytes) (r : Ended)
+pub spare : (k : Simulator State) (phases tables : List ℕ) (turn : Turn) (y : Bag) (w₀ w : List ℕ) (trace₀ trace : Bytes) (r : Result Code.Progress Refusal)
     → Room turn.progress (length trace₀)
     → TriedWithin phases tables (record { at = turn.at; has = latest; progress = turn.progress }) w₀ w trace₀ trace (instant k turn.at.0 y (held_in w₀)) r
     → Tried phases tables turn w₀ w trace₀ trace (instant k turn.at.0 y (held_in w₀)) r

@@ -1,5 +1,4 @@
--- A tried instant is what the definition's `tried_within` says: undone by a number (`hindered-tried`), or standing, with its records in the trace
--- (`stands-tried`). Assumes nothing.
+-- An instant that stands is what the definition's `tried_within` says, with its records in the trace (`stands-tried`). Assumes nothing.
 use mathlib.Core.Path.{◌≡◌, refl, ◌∙◌, sym, ap, subst}
 use mathlib.Core.List.{List, [], ◌∷◌, ◌++◌}
 use mathlib.Core.Bool.{Bool, true, false, cond}
@@ -23,28 +22,12 @@ use Rattle.spec_step.specs.Tables.{atomics_in}
 use Rattle.instant_steps.specs.Sim.{Ready, rules_shown}
 use Rattle.instant_steps.specs.Verdicts.{ran_of, Recorded, Left, RulesLeft}
 use Rattle.instant_steps.specs.declared.Ran.{Ran}
-use Rattle.instant_steps.specs.declared.Verdict.TheVariants as VV
+use Rattle.std.proofs.Common.{Option, None, Ok}
 use Rattle.instant_attempt.specs.Progress.{rules_by, progress_of, tried_of, TriedWithin}
-use Rattle.instant_attempt.specs.Pass.{after_of, Hindered, Stands, Decided}
+use Rattle.instant_attempt.specs.Pass.{after_of, Stands}
 use Rattle.instant_attempt.specs.declared.Progress.{Progress}
 use Rattle.instant_attempt.specs.declared.TurnWithin.{TurnWithin}
-use Rattle.instant_attempt.specs.declared.Ended.{Ended}
 use Rattle.instant_attempt.proofs.Passes.{no-records}
-
--- ---- a number leaves the instant undone
-
-pub hindered-tried : (phases tables : List ℕ) (turn : TurnWithin) (w₀ w : List ℕ) (trace : Bytes) (i : Instant State) (r : Ended) → turn.progress.used ≤ length trace
-    → (r.number ≡ 0 → ⊥) → Hindered turn tables w₀ trace i r → Ready phases tables w₀ → w ≡ w₀ → TriedWithin phases tables turn w₀ w trace trace i r
-hindered-tried phases tables turn w₀ w trace i r l z h ready back =
-    let e : r.progress ≡ turn.progress = h.progress in record {
-      same = rw (ne_eqb r.number 0 z) h.same;
-      beyond = rw e (record { within = l; size = refl; same = refl });
-      undone = λ _. record { progress = e; state = back; bytes = refl };
-      more = rw e (omega arith);
-      instants = rw e (omega arith);
-      steps = rw e (omega arith);
-      ready = rw back ready;
-    }
 
 -- ---- it stands
 
@@ -94,18 +77,10 @@ module _ {turn : TurnWithin} {room : ℕ} {i : Instant State} {q : Progress} (s 
   pub again : (trace trace' : Bytes) → length trace ≡ room → Recorded now p.used trace trace' i → trace' ≡ sets trace p.used recs
   again trace trace' e w = subst (Recorded now p.used trace trace') s.same w (omega (arith, s.within))
 
-  pub verdict-again : (from : ℕ) (ran : Ran) → ran ≡ ran_of now from i → ran.verdict ≡ VV.Stands
+  pub verdict-again : (from : ℕ) (ran : Option Ran) → ran ≡ ran_of now from i → ran ≡ None → ⊥
   unfolding ran_of
-  verdict-again from ran e =
-      ap (λ (d : Ran). d.verdict) (e ∙ ap (λ (j : Instant State). ran_of now from j) s.same)
-
-pub decided-more : {turn : TurnWithin} {tables w₀ : List ℕ} {trace : Bytes} {i : Instant State} {r : Ended} → Decided turn tables w₀ trace i r
-    → turn.progress.used ≤ r.progress.used
-decided-more {turn = turn} {r = r} e = go (eqb r.number 0) refl
-  where
-    go : (b : Bool) → eqb r.number 0 ≡ b → turn.progress.used ≤ r.progress.used
-    go true f = omega (arith, used-of (e.stands (eqb-true r.number 0 f)))
-    go false f = rw (e.hindered (eqb-false r.number 0 f)).progress (omega arith)
+  verdict-again from ran e none =
+      let some = ap (λ (j : Instant State). ran_of now from j) s.same in cc
 
 -- ---- the rules after it
 
@@ -119,8 +94,8 @@ rules-some n w₀ w (x ∷ xs) st h e = h
 
 -- ---- its records are in the trace
 
-module _ {turn : TurnWithin} (tables w₀ w : List ℕ) (trace trace' : Bytes) {i : Instant State} (r : Ended) (s : Stands turn (length trace) i r.progress)
-    (zero : r.number ≡ 0) (idle : length s.outputs ≡ 0 → s.end ≡ held_in w₀) (left : held_in w ≡ s.end) (rules : RulesLeft (atomics_in tables) w₀ w i)
+module _ {turn : TurnWithin} (tables w₀ w : List ℕ) (trace trace' : Bytes) {i : Instant State} (q : Progress) (s : Stands turn (length trace) i q)
+    (idle : length s.outputs ≡ 0 → s.end ≡ held_in w₀) (left : held_in w ≡ s.end) (rules : RulesLeft (atomics_in tables) w₀ w i)
     (put : trace' ≡ sets trace turn.progress.used (recs s)) where
   abbrev at : ℕ
   at = turn.at.0
@@ -131,16 +106,13 @@ module _ {turn : TurnWithin} (tables w₀ w : List ℕ) (trace trace' : Bytes) {
   abbrev ys : Bytes
   ys = instant_trace at s.outputs
 
-  ok-as : tried_of trace' tables w r ≡ ok (progress_of trace' tables w r.progress)
-  ok-as = rw zero
-
   -- the instant's rules, by whether it has a step
   left-rules : RulesLeft (atomics_in tables) w₀ w (done s.outputs s.end)
   left-rules = subst (RulesLeft (atomics_in tables) w₀ w) s.same rules
 
-  none : length s.outputs ≡ 0 → tried_of trace' tables w r ≡ tried (length trace) at (progress_of trace tables w₀ g) i
+  none : length s.outputs ≡ 0 → tried_of trace' tables w (Ok q) ≡ tried (length trace) at (progress_of trace tables w₀ g) i
   none z =
-      ok-as ∙ ap ok (as_before r.progress (s.progress ∙ after_none at g (length s.outputs) (length ys) z))
+      ap ok (as_before q (s.progress ∙ after_none at g (length s.outputs) (length ys) z))
       ∙ rw s.same (sym (tried-none (length trace) at (progress_of trace tables w₀ g) s.outputs s.end z))
     where
       bytes : trace' ≡ trace
@@ -149,8 +121,8 @@ module _ {turn : TurnWithin} (tables w₀ w : List ℕ) (trace trace' : Bytes) {
       shown : rules_shown (atomics_in tables) w ≡ rules_shown (atomics_in tables) w₀
       shown = rules-none (atomics_in tables) w₀ w s.outputs s.end left-rules z
 
-      as_before : (q : Progress) → q ≡ g → progress_of trace' tables w q ≡ progress_of trace tables w₀ g
-      as_before q e = unfold progress_of rules_by in (rw (e, bytes) (λ j. record {
+      as_before : (b : Progress) → b ≡ g → progress_of trace' tables w b ≡ progress_of trace tables w₀ g
+      as_before b e = unfold progress_of rules_by in (rw (e, bytes) (λ j. record {
         opening = g.opening.0;
         state = (left ∙ idle z) j;
         instants = g.instants;
@@ -162,25 +134,25 @@ module _ {turn : TurnWithin} (tables w₀ w : List ℕ) (trace trace' : Bytes) {
   front : length (take g.used trace ++ ys) ≡ g.used + length ys
   front = omega (arith, length-append (take g.used trace) ys, length-take-le g.used trace (omega (arith, s.within)))
 
-  some : (length s.outputs ≡ 0 → ⊥) → tried_of trace' tables w r ≡ tried (length trace) at (progress_of trace tables w₀ g) i
+  some : (length s.outputs ≡ 0 → ⊥) → tried_of trace' tables w (Ok q) ≡ tried (length trace) at (progress_of trace tables w₀ g) i
   unfolding progress_of rules_by
   some z =
       let o : at + 1 ≡ suc at = omega arith in
       let j : g.instants + 1 ≡ suc g.instants = omega arith in
-      let q = s.progress ∙ after-some at g (length s.outputs) (length ys) z in
+      let on = s.progress ∙ after-some at g (length s.outputs) (length ys) z in
       let one : eqb (suc g.instants) 0 ≡ false = ne_eqb (suc g.instants) 0 (λ e. omega arith) in
       let told = rules-some (atomics_in tables) w₀ w s.outputs s.end left-rules z in
-      ok-as ∙ rw (q, left, o, j, one, told, put, take-sets trace ys g.used s.within, s.same)
+      rw (on, left, o, j, one, told, put, take-sets trace ys g.used s.within, s.same)
       (sym (tried-stands (length trace) at (progress_of trace tables w₀ g) s.outputs s.end z (omega (arith, front, s.within))))
 
-  same-tried : tried_of trace' tables w r ≡ tried (length trace) at (progress_of trace tables w₀ g) i
+  same-tried : tried_of trace' tables w (Ok q) ≡ tried (length trace) at (progress_of trace tables w₀ g) i
   same-tried = go (eqb (length s.outputs) 0) refl
     where
-      go : (b : Bool) → eqb (length s.outputs) 0 ≡ b → tried_of trace' tables w r ≡ tried (length trace) at (progress_of trace tables w₀ g) i
+      go : (b : Bool) → eqb (length s.outputs) 0 ≡ b → tried_of trace' tables w (Ok q) ≡ tried (length trace) at (progress_of trace tables w₀ g) i
       go true e = none (eqb-true (length s.outputs) 0 e)
       go false e = some (eqb-false (length s.outputs) 0 e)
 
-  counts : (r.progress.instants ≤ g.instants + 1) × (r.progress.steps ≤ g.steps + max_steps) × (r.progress.steps ≤ turn.has)
+  counts : (q.instants ≤ g.instants + 1) × (q.steps ≤ g.steps + max_steps) × (q.steps ≤ turn.has)
   unfolding after_of
   counts = rw s.progress (go (eqb (length s.outputs) 0))
     where
@@ -191,12 +163,12 @@ module _ {turn : TurnWithin} (tables w₀ w : List ℕ) (trace trace' : Bytes) {
       go true = (omega arith, omega arith, omega (arith, s.enough))
       go false = (omega arith, omega (arith, s.few), s.enough)
 
-  same : tried_of trace' tables w r ≡ tried_within turn.has (length trace) at (progress_of trace tables w₀ g) i
+  same : tried_of trace' tables w (Ok q) ≡ tried_within turn.has (length trace) at (progress_of trace tables w₀ g) i
   same =
-      let steps : (progress_of trace' tables w r.progress).steps ≡ r.progress.steps = unfold progress_of in refl in
-      ok-as ∙ sym (within-ok turn.has (length trace) at (progress_of trace tables w₀ g) i _ (sym same-tried ∙ ok-as) (omega (arith, steps, counts.2)))
+      let steps : (progress_of trace' tables w q).steps ≡ q.steps = unfold progress_of in refl in
+      sym (within-ok turn.has (length trace) at (progress_of trace tables w₀ g) i _ (sym same-tried) (omega (arith, steps, counts.2)))
 
-  pub stands-tried : (phases : List ℕ) → Ready phases tables w → TriedWithin phases tables turn w₀ w trace trace' i r
+  pub stands-tried : (phases : List ℕ) → Ready phases tables w → TriedWithin phases tables turn w₀ w trace trace' i (Ok q)
   stands-tried phases ready =
       let u = used-of s in record {
         same = same;
@@ -205,7 +177,7 @@ module _ {turn : TurnWithin} (tables w₀ w : List ℕ) (trace trace' : Bytes) {
           size = rw put (length-sets trace g.used ys);
           same = rw (u, put) (drop-sets trace ys g.used s.within);
         };
-        undone = λ w. absurd (w zero);
+        undone = tt;
         more = omega (arith, u);
         instants = counts.0;
         steps = counts.1;

@@ -1,15 +1,18 @@
-// One instant of a call, tried: it stands with its records in the trace, or a number leaves it undone and nothing has changed.
+// One instant of a call, tried: it stands with its records in the trace, or it is refused and nothing has changed.
 #![tactic(auto)]
 
-ghost use Rattle.std.specs.Prelude.{◌≡◌, ◌+◌, length};
+ghost use Rattle.std.specs.Prelude.{◌≡◌, ◌+◌, ◌≤◌, length};
 ghost use Rattle.instant_steps.specs.Sim.{instant_of};
 ghost use Rattle.instant_attempt.specs.Progress.{Countable, CanTry, CanTryWithin, Tried, TriedWithin};
-ghost use Rattle.instant_attempt.specs.Pass.{hindrance_of, after_of, ended_by, Passed};
+ghost use Rattle.instant_attempt.specs.Pass.{judged_by, after_of, ended_by, Passed};
+ghost use Rattle.instant_steps.specs.Verdicts.{steps_in};
+ghost use Rattle.clock.specs.Times.{latest};
 
 use clock::Moment;
-use instant_steps::{Ran, Verdict, instant};
-use limits::{BUFFER_TOO_SHORT, NO_LIMIT, OUT_OF_STEPS, STILL_DUE};
+use instant_steps::{Ran, instant};
+use limits::NO_LIMIT;
 use little_endian::{front, put_bytes};
+use refusals::Refusal;
 use run_state::STATE_SIZE;
 use table_words::TABLE_SIZE;
 
@@ -37,31 +40,19 @@ pub struct TurnWithin {
     pub progress: Progress,
 }
 
-// A number, 0 where nothing hinders, and how far the call has come.
-#[derive(Clone, Copy)]
-pub struct Ended {
-    pub number: u64,
-    pub progress: Progress,
-}
-
-// The number that leaves an instant undone, or 0: by its first pass, the bytes that the trace has left, the steps that the call may do, and those
-// that it would have done with this instant.
-fn hindrance(room: usize, has: u64, steps: u64, ran: Ran) -> u64
-    ensures { result ≡ hindrance_of room has steps ran }
+// Why an instant is left undone: by its first pass, the bytes that the trace has left, the steps that the call may do, and those that it did before.
+fn judge(room: usize, has: u64, before: u64, ran: Option<Ran>) -> Result<Ran, Refusal>
+    requires { before + steps_in ran ≤ latest }
+    ensures { result ≡ judged_by room has before ran }
 {
-    let verdict = ran.verdict;
-    match verdict {
-        Verdict::Jammed => STILL_DUE,
-        Verdict::Stands => {
-            if room < ran.used {
-                BUFFER_TOO_SHORT
-            } else if has < steps {
-                OUT_OF_STEPS
-            } else {
-                0
-            }
-        }
+    let ran = ran.ok_or(Refusal::StillDue)?;
+    if room < ran.used {
+        return Err(Refusal::BufferTooShort);
     }
+    if has < before + ran.steps {
+        return Err(Refusal::OutOfSteps);
+    }
+    Ok(ran)
 }
 
 // The progress with an instant of so many steps, its records of so many bytes. "A moment without a step is no instant and is not
@@ -82,27 +73,18 @@ fn after(at: Moment, p: Progress, steps: u64, size: usize) -> Progress
     }
 }
 
-// Where an instant ends, by its first pass and the bytes that the trace has left.
-fn ended_by(room: usize, turn: TurnWithin, ran: Ran) -> Ended
-    requires { Countable turn.at.0 turn.progress ran.steps room }
+// The progress with an instant that stands, by its first pass and the bytes that the trace has left; or why it is left undone.
+fn ended_by(room: usize, turn: TurnWithin, ran: Option<Ran>) -> Result<Progress, Refusal>
+    requires { Countable turn.at.0 turn.progress (steps_in ran) room }
     ensures { result ≡ ended_by room turn ran }
 {
     let p = turn.progress;
-    let number = hindrance(room, turn.has, p.steps + ran.steps, ran);
-    if number != 0 {
-        return Ended {
-            number,
-            progress: p,
-        };
-    }
-    Ended {
-        number: 0,
-        progress: after(turn.at, p, ran.steps, ran.used),
-    }
+    let ran = judge(room, turn.has, p.steps, ran)?;
+    Ok(after(turn.at, p, ran.steps, ran.used))
 }
 
-// The first pass over an instant, its records into the scratch, and where the instant ends. The old state is put back where a number
-// leaves the instant undone, and where its records are too many for the scratch.
+// The first pass over an instant, its records into the scratch, and where the instant ends. The old state is put back where the instant is left
+// undone, and where its records are too many for the scratch.
 fn first_pass(
     phases: &[u8],
     rules: &[u8],
@@ -113,7 +95,7 @@ fn first_pass(
     work: &mut [u32],
     scratch: &mut [u8],
     trace: &[u8],
-) -> Ended
+) -> Result<Progress, Refusal>
     requires { CanTryWithin phases.now tables.now turn state.old (length work.old) (length trace.now) }
     ensures { Passed phases.now tables.now turn state.old state.new scratch.old scratch.new trace.now
         (instant_of phases.now rules.now tables.now (length work.old) turn.at.0 given.now state.old) result }
@@ -123,12 +105,14 @@ fn first_pass(
     let ran = instant(
         phases, rules, tables, turn.at, given, state, work, scratch, 0,
     );
-    let e = ended_by(trace.len() - p.used, turn, ran);
-    if (e.number == 0) & (e.progress.used - p.used <= scratch.len()) {
-        return e;
+    let ended = ended_by(trace.len() - p.used, turn, ran);
+    if let Ok(after) = ended {
+        if after.used - p.used <= scratch.len() {
+            return ended;
+        }
     }
     *state = old;
-    e
+    ended
 }
 
 // The instant of a turn, within the steps that the call may do. Where the records of the first pass fit into the scratch they are copied,
@@ -143,31 +127,28 @@ pub fn attempt_within(
     work: &mut [u32],
     scratch: &mut [u8],
     trace: &mut [u8],
-) -> Ended
+) -> Result<Progress, Refusal>
     requires { CanTryWithin phases.now tables.now turn state.old (length work.old) (length trace.old) }
     ensures { TriedWithin phases.now tables.now turn state.old state.new trace.old trace.new
         (instant_of phases.now rules.now tables.now (length work.old) turn.at.0 given.now state.old) result }
 {
     let p = turn.progress;
-    let e = first_pass(
+    let after = first_pass(
         phases, rules, tables, turn, given, state, work, scratch, trace,
-    );
-    if e.number != 0 {
-        return e;
-    }
-    let size = e.progress.used - p.used;
+    )?;
+    let size = after.used - p.used;
     if size <= scratch.len() {
         put_bytes(front(scratch, size), trace, p.used);
-        return e;
+        return Ok(after);
     }
     let _second = instant(
         phases, rules, tables, turn.at, given, state, work, trace, p.used,
     );
-    e
+    Ok(after)
 }
 
-// The instant of a turn. Where the records of the first pass fit into the scratch they are copied, and otherwise a second pass, from the
-// old state, puts them into the trace.
+// The instant of a turn without a limit: a promise of its own (docs/DECISIONS.md). Where the records of the first pass fit into the scratch they are
+// copied, and otherwise a second pass, from the old state, puts them into the trace.
 pub fn attempt(
     phases: &[u8],
     rules: &[u8],
@@ -178,7 +159,7 @@ pub fn attempt(
     work: &mut [u32],
     scratch: &mut [u8],
     trace: &mut [u8],
-) -> Ended
+) -> Result<Progress, Refusal>
     requires { CanTry phases.now tables.now turn state.old (length work.old) (length trace.old) }
     ensures { Tried phases.now tables.now turn state.old state.new trace.old trace.new
         (instant_of phases.now rules.now tables.now (length work.old) turn.at.0 given.now state.old) result }

@@ -25,8 +25,11 @@ use Rattle.instant_steps.specs.Sim.{rules_shown}
 use Rattle.run_saved.specs.Runs.{run_in}
 use Rattle.instant_attempt.specs.Progress.{rules_by, progress_of, Beyond}
 use Rattle.instant_attempt.specs.declared.Progress.{Progress}
-use Rattle.instant_attempt.specs.declared.Ended.{Ended}
-use Rattle.instant_loop.specs.Ends.{ended_of, table_left, outcome_of}
+use Rattle.refusals.specs.Refusals.{number_in}
+use Rattle.call_answers.specs.declared.Advanced.{Advanced}
+use Rattle.call_answers.specs.Answers.{advanced_of}
+use Rattle.instant_loop.specs.declared.Ended.{Ended}
+use Rattle.instant_loop.specs.Ends.{ended_of, table_left, answer_of}
 
 -- The trace with its records in front.
 pub trace-stored : (used : ℕ) (trace₀ trace : Bytes) → Beyond trace₀ trace used → stored (take used trace) trace₀ ≡ trace
@@ -63,14 +66,13 @@ module _ (tables : List ℕ) (run₀ trace₀ trace : Bytes) (w : List ℕ) (e :
       go false = refl
 
   fields : (table : Bytes) → advanced run₀ trace₀ table (ok end)
-      ≡ outcome_of (stored (run_bytes (run_in e.progress.opening.0 n (held_in w))) run₀) trace (table_left tables w e.progress.instants table)
-      (record { number = e.number; instants = e.progress.instants; steps = e.progress.steps; used = e.progress.used })
+      ≡ advanced_of (stored (run_bytes (run_in e.progress.opening.0 n (held_in w))) run₀) trace (table_left tables w e.progress.instants table) (answer_of e)
   unfolding advanced held_end ended progress_of run_in
   fields table =
       let l : length (take e.progress.used trace) ≡ e.progress.used = length-take-le e.progress.used trace (omega (arith, b.within, b.size)) in
       let s = trace-stored e.progress.used trace₀ trace b in
       λ i. record {
-        number = e.number;
+        number = number_in e.refusal;
         instants = e.progress.instants;
         steps = e.progress.steps;
         used = l i;
@@ -79,14 +81,12 @@ module _ (tables : List ℕ) (run₀ trace₀ trace : Bytes) (w : List ℕ) (e :
         table = table-left table i;
       }
 
--- The outcome of a call that ends at a.
-pub outcome : (tables : List ℕ) (run₀ run trace₀ trace : Bytes) (w : List ℕ) (e : Ended) (a : Definition.Ended State) → ended_of trace tables w e ≡ a → Beyond trace₀ trace e.progress.used
-    → run ≡ stored (run_bytes (run_in e.progress.opening.0 (atomics_in tables) (held_in w))) run₀
-    → (table : Bytes) → outcome_of run trace (table_left tables w e.progress.instants table)
-    (record { number = e.number; instants = e.progress.instants; steps = e.progress.steps; used = e.progress.used })
-    ≡ advanced run₀ trace₀ table (ok (held_end (atomics_in tables) a))
-outcome tables run₀ run trace₀ trace w e a q b r table =
-    rw r (sym (ap (λ z. advanced run₀ trace₀ table (ok (held_end (atomics_in tables) z))) (sym q) ∙ fields tables run₀ trace₀ trace w e b table))
+-- The outcome of a call that ends at a and answers r.
+pub outcome : (tables : List ℕ) (run₀ run trace₀ trace : Bytes) (w : List ℕ) (e : Ended) (r : Advanced) (a : Definition.Ended State) → r ≡ answer_of e → ended_of trace tables w e ≡ a
+    → Beyond trace₀ trace e.progress.used → run ≡ stored (run_bytes (run_in e.progress.opening.0 (atomics_in tables) (held_in w))) run₀
+    → (table : Bytes) → advanced_of run trace (table_left tables w r.instants table) r ≡ advanced run₀ trace₀ table (ok (held_end (atomics_in tables) a))
+outcome tables run₀ run trace₀ trace w e r a said q b put table =
+    rw (said, put) (sym (ap (λ z. advanced run₀ trace₀ table (ok (held_end (atomics_in tables) z))) (sym q) ∙ fields tables run₀ trace₀ trace w e b table))
 
 -- A call begins with nothing done, with so many steps and without a limit.
 pub begins-within : (k : Simulator State) (has room t : ℕ) (x : Bag) (trace : Bytes) (tables w : List ℕ) (g : Progress) → g.instants ≡ 0 → g.steps ≡ 0 → g.used ≡ 0

@@ -2,13 +2,13 @@
 -- anything that takes steps. Assumes nothing.
 use mathlib.Core.Path.{◌≡◌, refl, ◌∙◌, sym, ap, ap₂, subst}
 use mathlib.Core.List.{List, []}
-use mathlib.Core.Bool.{Bool, true, false, not, ◌||◌, cond}
+use mathlib.Core.Bool.{Bool, true, false, cond}
 use Prim.Native.Nat.{ℕ, suc, ◌+◌, ◌-◌, ◌*◌, ◌≤◌, ◌<◌}
 use native.Mathlib.Omega.{arith}
 use lib.ListN.{length, drop}
-use lib.Dec.{ltb, leb, eqb}
+use lib.Dec.{ltb, leb}
 use lib.Seq.{drop-drop}
-use borrow.Author.Tests.{ltb-true, lt-ltb, le-ltb, leb-true, leb-false, eq-eqb, ne_eqb, eqb-true, eqb-false}
+use borrow.Author.Tests.{ltb-true, lt-ltb, le-ltb, leb-true, leb-false}
 use Rattle.definition.specs.Bytes.{Bytes, ok, refused}
 use Rattle.definition.specs.Model.{Bag}
 use Rattle.definition.specs.Devs.{Time, finite, never, ticks}
@@ -19,7 +19,6 @@ use Rattle.definition.specs.Advance as Definition
 use Rattle.definition.specs.Channels.{tried_within, advancing_within}
 use Rattle.definition.specs.Limits.{max_steps}
 use Rattle.definition.specs.Engine.{to_bag, due_number}
-use Rattle.law_base.proofs.Tests.{clash}
 use Rattle.law_base.proofs.Turns.{last-turn-within, more-turn-within}
 use Rattle.clock.specs.Times.{latest}
 use Rattle.run_state.specs.declared.State.{State}
@@ -27,10 +26,13 @@ use Rattle.run_state.specs.Held.{held_in}
 use Rattle.law_step.proofs.Carried.{before-number, moment-number}
 use Rattle.instant_steps.specs.Sim.{Ready}
 use Rattle.instant_steps.proofs.Steps.{bag-none}
-use Rattle.instant_attempt.specs.Progress.{rules_by, progress_of, tried_of, Beyond, TriedWithin}
+use Rattle.std.proofs.Common.{Some, Result, Ok, Err}
+use Rattle.refusals.specs.Refusals.{number_of}
+use Rattle.refusals.specs.declared.Refusal.{Refusal}
+use Rattle.instant_attempt.specs.Progress.{rules_by, progress_of, tried_of, progress_in, Beyond, Unchanged, TriedWithin}
 use Rattle.instant_attempt.specs.declared.Progress.{Progress}
-use Rattle.instant_attempt.specs.declared.Ended.{Ended}
-use Rattle.instant_loop.specs.Ends.{within_of, given_to, ended_of, Advanced, finished_of}
+use Rattle.instant_loop.specs.declared.Ended.{Ended}
+use Rattle.instant_loop.specs.Ends.{within_of, given_to, ended_of, AdvancedTo, finished_of}
 
 -- ---- the next moment
 
@@ -81,90 +83,56 @@ goes-no on p m = refl
 
 -- ---- one turn of the code
 
-abbrev reopened : ℕ → Progress → Ended
-reopened t g = record { number = 0; progress = record { opening = record { 0 = suc t }; instants = g.instants; steps = g.steps; used = g.used } }
+-- Where a refusal stops a call.
+abbrev pub stopped : Refusal → Progress → Ended
+stopped r g = record { refusal = Some r; progress = g }
 
-succeeded-as : (t : ℕ) (trace : Bytes) (tables ws : List ℕ) (g : Progress) → succeeded t (progress_of trace tables ws g) ≡ ended_of trace tables ws (reopened t g)
-unfolding succeeded progress_of rules_by
+succeeded-as : (t : ℕ) (trace : Bytes) (tables ws : List ℕ) (g : Progress) → succeeded t (progress_of trace tables ws g) ≡ ended_of trace tables ws (finished_of t g)
+unfolding succeeded progress_of rules_by finished_of
 succeeded-as t trace tables ws g = refl
-
-finished-ok : (t : ℕ) (e : Ended) → eqb e.number 0 ≡ true → finished_of t e ≡ reopened t e.progress
-unfolding finished_of
-finished-ok t e q = rw q
-
-finished-no : (t : ℕ) (e : Ended) → eqb e.number 0 ≡ false → finished_of t e ≡ e
-unfolding finished_of
-finished-no t e q = rw q
-
-tried-no : (trace : Bytes) (tables ws : List ℕ) (e : Ended) → eqb e.number 0 ≡ false → tried_of trace tables ws e ≡ refused e.number
-tried-no trace tables ws e q = rw q
-
-tried-ok : (trace : Bytes) (tables ws : List ℕ) (e : Ended) → eqb e.number 0 ≡ true → tried_of trace tables ws e ≡ ok (progress_of trace tables ws e.progress)
-tried-ok trace tables ws e q = rw q
 
 state-in : (trace : Bytes) (tables ws : List ℕ) (g : Progress) → (progress_of trace tables ws g).state ≡ held_in ws
 unfolding progress_of
 state-in trace tables ws g = refl
 
 -- An instant at v after the progress g, tried.
-abbrev pub TriedAt : List ℕ → List ℕ → (has v : ℕ) → Progress → List ℕ → List ℕ → Bytes → Bytes → Instant State → Ended → Type 0
+abbrev pub TriedAt : List ℕ → List ℕ → (has v : ℕ) → Progress → List ℕ → List ℕ → Bytes → Bytes → Instant State → Result Progress Refusal → Type 0
 TriedAt phases tables has v g ws ws' trace trace' i e = TriedWithin phases tables (record { at = record { 0 = v }; has = has; progress = g }) ws ws' trace trace' i e
 
--- An undone instant leaves the progress as it was.
-left_as : {phases tables : List ℕ} {has : ℕ} (v : ℕ) (g : Progress) (ws ws' : List ℕ) (trace trace' : Bytes) (i : Instant State) (e : Ended) → TriedAt phases tables has v g ws ws' trace trace' i e
-    → (e.number ≡ 0 → ⊥) → progress_of trace tables ws g ≡ progress_of trace' tables ws' e.progress
-left_as {tables = tables} v g ws ws' trace trace' i e a z =
-    let u = a.undone z in
-    ap (λ (b : Bytes). progress_of b tables ws g) (sym u.bytes) ∙ ap₂ (progress_of trace' tables) (sym u.state) (sym u.progress)
-
-module _ (phases tables : List ℕ) (k : Simulator State) (has t : ℕ) (x : Bag) (g : Progress) (ws ws' : List ℕ) (trace trace' : Bytes) (e : Ended) (m : ℕ) where
+module _ (phases tables : List ℕ) (k : Simulator State) (has t : ℕ) (x : Bag) (g : Progress) (ws ws' : List ℕ) (trace trace' : Bytes) where
   abbrev st : State
   st = held_in ws
 
   abbrev p : Definition.Progress State
   p = progress_of trace tables ws g
 
-  abbrev p' : Definition.Progress State
-  p' = progress_of trace' tables ws' e.progress
+  -- A refusal leaves the progress as it was.
+  undone-as : (on : Definition.Progress State → Definition.Ended State) (r : Refusal) → Unchanged ws ws' trace trace'
+      → continued on p (tried_of trace' tables ws' (Err r)) ≡ ended_of trace' tables ws' (stopped r g)
+  undone-as on r u =
+      goes-no on p (number_of r) ∙ ap (ended (number_of r)) (ap₂ (λ (b : Bytes) (w : List ℕ). progress_of b tables w g) (sym u.bytes) (sym u.state))
 
-  -- The last turn: t with the bag.
-  pub turn_last : TriedAt phases tables has t g ws ws' trace trace' (instant k t x st) e → is_before (k.next st) t ≡ false
-      → advancing_within k has (length trace) t x (suc m) p ≡ ended_of trace' tables ws' (finished_of t e)
-  turn_last a b =
-      last-turn-within k has (length trace) t x m p (subst (λ (s : State). is_before (k.next s) t ≡ false) (sym (state-in trace tables ws g)) b)
-      ∙ ap (λ (s : State). continued (succeeded t) p (tried_within has (length trace) t p (instant k t x s))) (state-in trace tables ws g)
-      ∙ ap (continued (succeeded t) p) (sym a.same) ∙ go (eqb e.number 0) refl
-    where
-      go : (b : Bool) → eqb e.number 0 ≡ b → continued (succeeded t) p (tried_of trace' tables ws' e) ≡ ended_of trace' tables ws' (finished_of t e)
-      go true q =
-          ap (continued (succeeded t) p) (tried-ok trace' tables ws' e q) ∙ goes-ok (succeeded t) p p'
-          ∙ succeeded-as t trace' tables ws' e.progress ∙ ap (ended_of trace' tables ws') (sym (finished-ok t e q))
-      go false q =
-          ap (continued (succeeded t) p) (tried-no trace' tables ws' e q) ∙ goes-no (succeeded t) p e.number
-          ∙ ap (ended e.number) (left_as t g ws ws' trace trace' (instant k t x st) e a (eqb-false e.number 0 q)) ∙ ap (ended_of trace' tables ws') (sym (finished-no t e q))
+  module _ (e : Result Progress Refusal) (m : ℕ) where
+    -- The last turn: t with the bag.
+    turn_last : TriedAt phases tables has t g ws ws' trace trace' (instant k t x st) e → is_before (k.next st) t ≡ false
+        → advancing_within k has (length trace) t x (suc m) p ≡ continued (succeeded t) p (tried_of trace' tables ws' e)
+    turn_last a b =
+        last-turn-within k has (length trace) t x m p (subst (λ (s : State). is_before (k.next s) t ≡ false) (sym (state-in trace tables ws g)) b)
+        ∙ ap (λ (s : State). continued (succeeded t) p (tried_within has (length trace) t p (instant k t x s))) (state-in trace tables ws g)
+        ∙ ap (continued (succeeded t) p) (sym a.same)
 
-  -- An instant before t, with no bag.
-  module _ (u : ℕ) (y : Bag) (none : y ≡ []) (a : TriedAt phases tables has u g ws ws' trace trace' (instant k u y st) e)
-      (b : (is_before (k.next st) t ≡ true) × (ticks (k.next st) ≡ u)) where
     abbrev on : Definition.Progress State → Definition.Ended State
     on q = advancing_within k has (length trace) t x m q
 
-    turn : advancing_within k has (length trace) t x (suc m) p ≡ continued on p (tried_of trace' tables ws' e)
-    turn =
+    -- An instant before t, with no bag.
+    turn_more : (u : ℕ) (y : Bag) → y ≡ [] → TriedAt phases tables has u g ws ws' trace trace' (instant k u y st) e
+        → (is_before (k.next st) t ≡ true) × (ticks (k.next st) ≡ u)
+        → advancing_within k has (length trace) t x (suc m) p ≡ continued on p (tried_of trace' tables ws' e)
+    turn_more u y none a b =
         more-turn-within k has (length trace) t x m p (subst (λ (s : State). is_before (k.next s) t ≡ true) (sym (state-in trace tables ws g)) b.0)
         ∙ ap (λ (s : State). continued on p (tried_within has (length trace) (ticks (k.next s)) p (instant k (ticks (k.next s)) [] s))) (state-in trace tables ws g)
         ∙ ap₂ (λ (w : ℕ) (z : Bag). continued on p (tried_within has (length trace) w p (instant k w z st))) b.1 (sym none)
         ∙ ap (continued on p) (sym a.same)
-
-    -- It stands, and the call goes on.
-    pub turn_more : e.number ≡ 0 → advancing_within k has (length trace) t x (suc m) p ≡ advancing_within k has (length trace) t x m p'
-    turn_more z = turn ∙ ap (continued on p) (tried-ok trace' tables ws' e (eq-eqb e.number 0 z)) ∙ goes-ok on p p'
-
-    -- It is undone, and the call ends.
-    pub turn-stop : (e.number ≡ 0 → ⊥) → advancing_within k has (length trace) t x (suc m) p ≡ ended_of trace' tables ws' e
-    turn-stop z =
-        turn ∙ ap (continued on p) (tried-no trace' tables ws' e (ne_eqb e.number 0 z)) ∙ goes-no on p e.number
-        ∙ ap (ended e.number) (left_as u g ws ws' trace trace' (instant k u y st) e a z)
 
 -- ---- the trace through two changes
 
@@ -175,113 +143,84 @@ beyond-on trace₀ trace trace' u v l a b =
     = subst (λ (k : ℕ). drop k trace ≡ drop k trace₀) e (sym (drop-drop (v - u) u trace) ∙ ap (drop (v - u)) a.same ∙ drop-drop (v - u) u trace₀) in
     record { within = omega (arith, a.size, b.within); size = b.size ∙ a.size; same = b.same ∙ d }
 
-pub used-as : (t : ℕ) (e : Ended) → (finished_of t e).progress.used ≡ e.progress.used
-used-as t e = go (eqb e.number 0) refl
-  where
-    go : (b : Bool) → eqb e.number 0 ≡ b → (finished_of t e).progress.used ≡ e.progress.used
-    go true q = rw (finished-ok t e q)
-    go false q = rw (finished-no t e q)
+used-as : (t : ℕ) (g : Progress) → (finished_of t g).progress.used ≡ g.used
+unfolding finished_of
+used-as t g = refl
 
--- ---- a test of two
+-- ---- a turn inside the loop: `whole` is what the call gives, and the turns left give it from here; the bag is given at t alone
 
-or_no : (a b : Bool) → (a || b) ≡ false → (a ≡ false) × (b ≡ false)
-or_no false b e = (refl, e)
-or_no true b e = absurd (clash refl e)
+module _ (phases tables : List ℕ) (k : Simulator State) (has t : ℕ) (bag : Bytes) (whole : Definition.Ended State) (trace₀ trace : Bytes) (ws : List ℕ) (g : Progress) (left : ℕ)
+    (from_here : advancing_within k has (length trace₀) t (to_bag bag) (suc left) (progress_of trace tables ws g) ≡ whole) (b : Beyond trace₀ trace g.used)
+    (trace' : Bytes) (ws' : List ℕ) (v : ℕ) (next : v ≡ next_of (k.next (held_in ws)) t) (most : v ≤ t) where
+  abbrev x : Bag
+  x = to_bag bag
 
-or_left : (a b : Bool) → (a || b) ≡ true → b ≡ false → a ≡ true
-or_left true b h q = refl
-or_left false b h q = absurd (clash h q)
-
-not-true : (a : Bool) → not a ≡ true → a ≡ false
-not-true false h = refl
-not-true true h = absurd (clash h refl)
-
-not-false : (a : Bool) → not a ≡ false → a ≡ true
-not-false true h = refl
-not-false false h = absurd (clash refl h)
-
--- ---- a turn inside the loop: `whole` is what the call gives, and the turns left give it from here
-
-module _ (phases tables : List ℕ) (k : Simulator State) (has t : ℕ) (x : Bag) (whole : Definition.Ended State) (trace₀ trace : Bytes) (ws : List ℕ) (g : Progress) (left : ℕ)
-    (h : 0 < left) (from_here : advancing_within k has (length trace₀) t x left (progress_of trace tables ws g) ≡ whole) (b : Beyond trace₀ trace g.used) where
   abbrev old : State
   old = held_in ws
 
-  here : advancing_within k has (length trace) t x (suc (left - 1)) (progress_of trace tables ws g) ≡ whole
-  here =
-      let q : suc (left - 1) ≡ left = omega arith in
-      ap₂ (λ (m room : ℕ). advancing_within k has room t x m (progress_of trace tables ws g)) q b.size ∙ from_here
+  abbrev before : Definition.Progress State
+  before = progress_of trace tables ws g
 
-  module _ (trace' : Bytes) (ws' : List ℕ) (e : Ended) (v : ℕ) (next : v ≡ next_of (k.next old) t) where
-    pub ends_last : TriedAt phases tables has t g ws ws' trace trace' (instant k t x old) e → t ≤ v → (f : Ended) → f ≡ finished_of t e
-        → Advanced phases tables trace₀ trace' ws' f whole
-    ends_last a l f w =
-        let s = turn_last phases tables k has t x g ws ws' trace trace' e (left - 1) a (not_before_lem (k.next old) t v next l) in
-        let d = beyond-on trace₀ trace trace' g.used e.progress.used a.more b a.beyond in
-        record {
-          same = ap (ended_of trace' tables ws') w ∙ sym s ∙ here;
-          beyond = subst (Beyond trace₀ trace') (sym (ap (λ (z : Ended). z.progress.used) w ∙ used-as t e)) d;
-          ready = a.ready;
-        }
+  abbrev Tries : Result Progress Refusal → Type 0
+  Tries e = TriedAt phases tables has v g ws ws' trace trace' (instant k v (to_bag (given_to bag v t)) old) e
 
-    module _ (y : Bag) (none : y ≡ []) (a : TriedAt phases tables has v g ws ws' trace trace' (instant k v y old) e) (l : v < t) where
-      pub ends-stop : (e.number ≡ 0 → ⊥) → Advanced phases tables trace₀ trace' ws' e whole
-      ends-stop z = record {
-        same = sym (turn-stop phases tables k has t x g ws ws' trace trace' e (left - 1) v y none a (is-before (k.next old) t v next l) z) ∙ here;
-        beyond = beyond-on trace₀ trace trace' g.used e.progress.used a.more b a.beyond;
-        ready = a.ready;
-      }
+  here : advancing_within k has (length trace) t x (suc left) before ≡ whole
+  here = ap (λ (room : ℕ). advancing_within k has room t x (suc left) before) b.size ∙ from_here
 
-      pub continues : e.number ≡ 0 → Beyond trace₀ trace' e.progress.used × (advancing_within k has (length trace₀) t x (left - 1) (progress_of trace' tables ws' e.progress) ≡ whole)
-      continues z = (
-        beyond-on trace₀ trace trace' g.used e.progress.used a.more b a.beyond,
-        ap (λ (room : ℕ). advancing_within k has room t x (left - 1) (progress_of trace' tables ws' e.progress)) (sym b.size)
-            ∙ sym (turn_more phases tables k has t x g ws ws' trace trace' e (left - 1) v y none a (is-before (k.next old) t v next l) z) ∙ here,
-      )
+  module _ (e : Result Progress Refusal) (a : Tries e) where
+    on_beyond : Beyond trace₀ trace' (progress_in g e).used
+    on_beyond = beyond-on trace₀ trace trace' g.used (progress_in g e).used a.more b a.beyond
 
-    -- The turn as the code takes it: the bag is given at t alone, and the call ends at t, or where a number leaves the instant undone.
-    module _ (bag : Bytes) (whole_bag : x ≡ to_bag bag) (a : TriedAt phases tables has v g ws ws' trace trace' (instant k v (to_bag (given_to bag v t)) old) e) where
-      before : v < t → to_bag (given_to bag v t) ≡ []
-      before l = rw (lt-ltb v t l) (bag-none bag)
+    at_t : v ≡ t → TriedAt phases tables has t g ws ws' trace trace' (instant k t x old) e
+    at_t q =
+        let b : given_to bag t t ≡ bag = rw (le-ltb t t (omega arith)) in
+        subst (λ (y : Bag). TriedAt phases tables has t g ws ws' trace trace' (instant k t y old) e) (ap to_bag b)
+        (subst (λ (w : ℕ). TriedAt phases tables has w g ws ws' trace trace' (instant k w (to_bag (given_to bag w t)) old) e) q a)
 
-      last_as : v ≡ t → TriedAt phases tables has t g ws ws' trace trace' (instant k t x old) e
-      last_as q =
-          let b : given_to bag t t ≡ bag = rw (le-ltb t t (omega arith)) in
-          subst (λ (y : Bag). TriedAt phases tables has t g ws ws' trace trace' (instant k t y old) e) (ap to_bag b ∙ sym whole_bag)
-          (subst (λ (w : ℕ). TriedAt phases tables has w g ws ws' trace trace' (instant k w (to_bag (given_to bag w t)) old) e) q a)
+    turned_last : t ≤ v → whole ≡ continued (succeeded t) before (tried_of trace' tables ws' e)
+    turned_last l =
+        sym here ∙ turn_last phases tables k has t x g ws ws' trace trace' e left (at_t (omega arith)) (not_before_lem (k.next old) t v next l)
 
-      pub ends-turn : v ≤ t → (not (eqb e.number 0) || leb t v) ≡ true → (f : Ended) → f ≡ finished_of t e
-          → Advanced phases tables trace₀ trace' ws' f whole
-      ends-turn m h f w = go (leb t v) refl
-        where
-          go : (b : Bool) → leb t v ≡ b → Advanced phases tables trace₀ trace' ws' f whole
-          go true q = let l = leb-true t v q in ends_last (last_as (omega arith)) l f w
-          go false q =
-              let o : not (eqb e.number 0) ≡ true = or_left (not (eqb e.number 0)) (leb t v) h q in
-              let z : eqb e.number 0 ≡ false = not-true (eqb e.number 0) o in
-              let l = leb-false t v q in
-              rw (w, finished-no t e z) (ends-stop (to_bag (given_to bag v t)) (before l) a l (eqb-false e.number 0 z))
+    turned_more : v < t → whole ≡ continued (λ q. advancing_within k has (length trace) t x left q) before (tried_of trace' tables ws' e)
+    turned_more l =
+        let none : to_bag (given_to bag v t) ≡ [] = rw (lt-ltb v t l) (bag-none bag) in
+        sym here ∙ turn_more phases tables k has t x g ws ws' trace trace' e left v (to_bag (given_to bag v t)) none a (is-before (k.next old) t v next l)
 
-      pub goes-turn : (not (eqb e.number 0) || leb t v) ≡ false
-          → Beyond trace₀ trace' e.progress.used × (advancing_within k has (length trace₀) t x (left - 1) (progress_of trace' tables ws' e.progress) ≡ whole)
-      goes-turn h =
-          let q = or_no (not (eqb e.number 0)) (leb t v) h in
-          let z : e.number ≡ 0 = eqb-true e.number 0 (not-false (eqb e.number 0) q.0) in
-          let l = leb-false t v q.1 in
-          continues (to_bag (given_to bag v t)) (before l) a l z
+  -- A refusal ends the call.
+  pub ends-stop : (r : Refusal) → Tries (Err r) → AdvancedTo phases tables trace₀ trace' ws' (stopped r g) whole
+  ends-stop r a = record { same = sym (go (leb t v) refl); beyond = on_beyond (Err r) a; ready = a.ready }
+    where
+      go : (b : Bool) → leb t v ≡ b → whole ≡ ended_of trace' tables ws' (stopped r g)
+      go true q = turned_last (Err r) a (leb-true t v q) ∙ undone-as phases tables k has t x g ws ws' trace trace' (succeeded t) r a.undone
+      go false q =
+          turned_more (Err r) a (leb-false t v q)
+          ∙ undone-as phases tables k has t x g ws ws' trace trace' (λ q. advancing_within k has (length trace) t x left q) r a.undone
+
+  -- It ends at t.
+  pub ends_last : (q : Progress) → Tries (Ok q) → t ≤ v → (f : Ended) → f ≡ finished_of t q → AdvancedTo phases tables trace₀ trace' ws' f whole
+  ends_last q a l f w = record {
+    same = ap (ended_of trace' tables ws') w ∙ sym (turned_last (Ok q) a l ∙ goes-ok (succeeded t) before (progress_of trace' tables ws' q) ∙ succeeded-as t trace' tables ws' q);
+    beyond = subst (Beyond trace₀ trace') (sym (ap (λ (z : Ended). z.progress.used) w ∙ used-as t q)) (on_beyond (Ok q) a);
+    ready = a.ready;
+  }
+
+  -- Before t it goes on.
+  pub continues : (q : Progress) → Tries (Ok q) → v < t → Beyond trace₀ trace' q.used × (advancing_within k has (length trace₀) t x left (progress_of trace' tables ws' q) ≡ whole)
+  continues q a l = (
+    on_beyond (Ok q) a,
+    ap (λ (room : ℕ). advancing_within k has room t x left (progress_of trace' tables ws' q)) (sym b.size)
+        ∙ sym (turned_more (Ok q) a l ∙ goes-ok (λ q. advancing_within k has (length trace) t x left q) before (progress_of trace' tables ws' q)),
+  )
 
 -- ---- the loop
 
--- What holds with so many turns left: the sizes of what is lent, numbers with room for the turns left, the trace beyond the records, the turns
--- left from here, and the due moments.
+-- What holds after so many turns: numbers with room for the turns left, the trace beyond the records, the turns left from here, and the due
+-- moments.
 pub record Turning (phases rules tables : List ℕ) (has t : ℕ) (bag : Bytes) (g₀ : Progress) (ws₀ work₀ : List ℕ) (trace₀ : Bytes)
-    (g : Progress) (ws work : List ℕ) (trace scratch : Bytes) (left : ℕ) : Type 0 where
-  pub turns : left ≤ suc t
-  pub words : length work ≡ length work₀
-  pub bytes : length scratch ≡ 4096
-  pub instants : g.instants + left ≤ latest
-  pub steps : g.steps + max_steps * left ≤ latest
+    (g : Progress) (ws : List ℕ) (trace : Bytes) (turns : ℕ) : Type 0 where
+  pub instants : g.instants + (suc t - turns) ≤ latest
+  pub steps : g.steps + max_steps * (suc t - turns) ≤ latest
   pub beyond : Beyond trace₀ trace g.used
-  pub from_here : within_of phases rules tables (length work₀) has (length trace₀) t bag left (progress_of trace tables ws g)
+  pub from_here : within_of phases rules tables (length work₀) has (length trace₀) t bag (suc t - turns) (progress_of trace tables ws g)
       ≡ within_of phases rules tables (length work₀) has (length trace₀) t bag (suc t) (progress_of trace₀ tables ws₀ g₀)
   pub ready : Ready phases tables ws

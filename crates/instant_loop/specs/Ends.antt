@@ -1,5 +1,5 @@
 -- Where a call of the code ends, as the definitions have it, and its whole outcome. Assumes nothing.
-use Rattle.std.specs.Prelude.{◌≡◌, List, [], ◌||◌, cond, ℕ, suc, ◌+◌, ◌*◌, ◌≤◌, eqb, ltb, length}
+use Rattle.std.specs.Prelude.{◌≡◌, None, List, [], ◌||◌, cond, ℕ, suc, ◌+◌, ◌*◌, ◌≤◌, eqb, ltb, length}
 use Rattle.definition.specs.Bytes.{Bytes, ok, number_at, stored}
 use Rattle.definition.specs.Advance.{ended, advancing, advance_from}
 use Rattle.definition.specs.Advance as Definition
@@ -15,8 +15,10 @@ use Rattle.run_state.specs.declared.State.{State}
 use Rattle.run_state.specs.Held.{held_end}
 use Rattle.instant_attempt.specs.Progress.{progress_of, Beyond}
 use Rattle.instant_attempt.specs.declared.Progress.{Progress}
-use Rattle.instant_attempt.specs.declared.Ended.{Ended}
-use Rattle.instant_loop.specs.declared.Answer.{Answer}
+use Rattle.instant_loop.specs.declared.Ended.{Ended}
+use Rattle.refusals.specs.Refusals.{number_in}
+use Rattle.call_answers.specs.declared.Advanced.{Advanced}
+use Rattle.call_answers.specs.Answers.{advanced_of}
 
 -- ---- what is asked
 
@@ -51,19 +53,17 @@ abbrev pub advancing_of : List ℕ → List ℕ → List ℕ → ℕ → ℕ →
 advancing_of phases rules tables words room t bag turns p = advancing (sim_of phases rules tables words) room t (to_bag bag) turns p
 
 abbrev pub ended_of : Bytes → List ℕ → List ℕ → Ended → Definition.Ended State
-ended_of trace tables w e = ended e.number (progress_of trace tables w e.progress)
+ended_of trace tables w e = ended (number_in e.refusal) (progress_of trace tables w e.progress)
 
 -- They end as the definition says, the trace beyond the records is as lent, and another call may go on from there.
-pub record Advanced (phases tables : List ℕ) (trace₀ trace : Bytes) (w : List ℕ) (r : Ended) (e : Definition.Ended State) : Type 0 where
+pub record AdvancedTo (phases tables : List ℕ) (trace₀ trace : Bytes) (w : List ℕ) (r : Ended) (e : Definition.Ended State) : Type 0 where
   pub same : ended_of trace tables w r ≡ e
   pub beyond : Beyond trace₀ trace r.progress.used
   pub ready : Ready phases tables w
 
 -- After success the open moment is one past t.
-unfoldable pub finished_of : ℕ → Ended → Ended
-finished_of t e =
-    let g = e.progress in
-    cond (eqb e.number 0) (record { number = 0; progress = record { opening = record { 0 = suc t }; instants = g.instants; steps = g.steps; used = g.used } }) e
+unfoldable pub finished_of : ℕ → Progress → Ended
+finished_of t p = record { refusal = None; progress = record { opening = record { 0 = suc t }; instants = p.instants; steps = p.steps; used = p.used } }
 
 -- "If no instant was done, or the table has under two bytes an atomic, the table stays untouched": a lent table with the rules that the words
 -- show after so many instants.
@@ -71,8 +71,9 @@ unfoldable pub table_left : List ℕ → List ℕ → ℕ → Bytes → Bytes
 table_left tables w instants table =
     cond (eqb instants 0 || ltb (length table) (position_size * atomics_in tables)) table (stored (table_bytes (rules_shown (atomics_in tables) w)) table)
 
-abbrev pub outcome_of : Bytes → Bytes → Bytes → Answer → Engine.Advanced
-outcome_of run trace table r = record { number = r.number; instants = r.instants; steps = r.steps; used = r.used; run = run; trace = trace; table = table }
+-- What a call answers that has ended so.
+abbrev pub answer_of : Ended → Advanced
+answer_of e = record { number = number_in e.refusal; instants = e.progress.instants; steps = e.progress.steps; trace_bytes = e.progress.used }
 
 -- The whole call on a run buffer whose state is st, with so many steps, and without a limit.
 abbrev pub turned_by : List ℕ → List ℕ → List ℕ → (words has t : ℕ) → Bytes → Bytes → State → Bytes → Bytes → Engine.Advanced
@@ -84,5 +85,5 @@ advanced_by phases rules tables words t bag run st trace table =
     advanced run trace table (ok (held_end (atomics_in tables) (advance_from (sim_of phases rules tables words) (length trace) t (to_bag bag) (number_at 8 0 run) st)))
 
 -- Whatever table is lent: with the rules that the words show it is the definition's, and so is all else.
-abbrev pub Outcome : List ℕ → List ℕ → Bytes → Bytes → Answer → (Bytes → Engine.Advanced) → Type 0
-Outcome tables w run trace r whole = (table : Bytes) → outcome_of run trace (table_left tables w r.instants table) r ≡ whole table
+abbrev pub Outcome : List ℕ → List ℕ → Bytes → Bytes → Advanced → (Bytes → Engine.Advanced) → Type 0
+Outcome tables w run trace r whole = (table : Bytes) → advanced_of run trace (table_left tables w r.instants table) r ≡ whole table

@@ -5,25 +5,43 @@ ghost use Rattle.std.specs.Prelude.{◌≡◌, cond, suc, ◌≤◌, ltb, length
 ghost use Rattle.definition.specs.Limits.{max_moment};
 ghost use Rattle.run_state.specs.Held.{held_in};
 ghost use Rattle.instant_attempt.specs.Progress.{progress_of};
-ghost use Rattle.instant_loop.specs.Ends.{Callable, Startable, given_to, within_of, advancing_of, turned_by, advanced_by, Advanced, finished_of, Outcome};
+ghost use Rattle.instant_loop.specs.Ends.{Callable, Startable, given_to, answer_of, within_of, advancing_of, turned_by, advanced_by, AdvancedTo, finished_of, Outcome};
 
+use call_answers::Advanced;
 use clock::Moment;
-use instant_attempt::{Ended, Progress, TurnWithin, attempt_within};
+use instant_attempt::{Progress, TurnWithin, attempt_within};
 use limits::NO_LIMIT;
+use refusals::Refusal;
 use run_state::STATE_SIZE;
 use table_words::{TABLE_SIZE, atomics_in};
-use widen::u8_to_usize;
 
 // Bytes set aside for an instant's records.
 const SCRATCH_SIZE: usize = 4096;
 
-// "Advance answers number, instants done, steps, trace bytes".
+// How far a call has come, and why it stopped before its end, if it did.
 #[derive(Clone, Copy)]
-pub struct Answer {
-    pub number: u64,
-    pub instants: u64,
-    pub steps: u64,
-    pub used: usize,
+pub struct Ended {
+    pub refusal: Option<Refusal>,
+    pub progress: Progress,
+}
+
+// "Advance answers number, instants done, steps, trace bytes".
+impl From<Ended> for Advanced {
+    ghost from_gives = { λ ended answer. answer ≡ answer_of ended };
+
+    fn from(ended: Ended) -> Advanced {
+        let number = match ended.refusal {
+            Some(refusal) => u64::from(refusal),
+            None => 0,
+        };
+        let done = ended.progress;
+        Advanced {
+            number,
+            instants: done.instants,
+            steps: done.steps,
+            trace_bytes: done.used as u64,
+        }
+    }
 }
 
 // The due moment where it lies before t, and t otherwise.
@@ -41,19 +59,14 @@ fn given_to<'a>(bag: &'a [u8], at: Moment, t: Moment) -> &'a [u8]
 }
 
 // "On success the open moment is t + 1."
-fn finish(t: Moment, e: Ended) -> Ended
+fn finish(t: Moment, p: Progress) -> Ended
     requires { t.0 ≤ max_moment }
-    ensures { result ≡ finished_of t.0 e }
+    ensures { result ≡ finished_of t.0 p }
 {
-    if e.number != 0 {
-        return e;
-    }
     let opening = Moment(t.0 + 1);
-    let mut progress = e.progress;
-    progress.opening = opening;
     Ended {
-        number: 0,
-        progress,
+        refusal: None,
+        progress: Progress { opening, ..p },
     }
 }
 
@@ -72,14 +85,13 @@ fn advance_within(
     trace: &mut [u8],
 ) -> Ended
     requires { Callable phases.now tables.now t.0 from state.old (length work.old) (length trace.old) }
-    ensures { Advanced phases.now tables.now trace.old trace.new state.new result
+    ensures { AdvancedTo phases.now tables.now trace.old trace.new state.new result
         (within_of phases.now rules.now tables.now (length work.old) has (length trace.old) t.0
         bag.now (suc t.0) (progress_of trace.old tables.now state.old from)) }
 {
     let mut scratch = [0u8; SCRATCH_SIZE];
     let mut p = from;
-    let mut left = t.0 + 1;
-    while 0 < left {
+    for _ in 0..t.0 + 1 {
         let at = next_moment(run_state::next_due(state), t);
         let given = given_to(bag, at, t);
         let turn = TurnWithin {
@@ -87,7 +99,7 @@ fn advance_within(
             has,
             progress: p,
         };
-        let e = attempt_within(
+        let tried = attempt_within(
             phases,
             rules,
             tables,
@@ -98,14 +110,21 @@ fn advance_within(
             &mut scratch,
             trace,
         );
-        if (e.number != 0) | (t.0 <= at.0) {
-            return finish(t, e);
+        match tried {
+            Ok(after) => p = after,
+            Err(refusal) => {
+                return Ended {
+                    refusal: Some(refusal),
+                    progress: p,
+                };
+            }
         }
-        p = e.progress;
-        left = left - 1;
+        if t.0 <= at.0 {
+            return finish(t, p);
+        }
     }
     Ended {
-        number: 0,
+        refusal: None,
         progress: p,
     }
 }
@@ -123,7 +142,7 @@ pub fn advance_on(
     trace: &mut [u8],
 ) -> Ended
     requires { Callable phases.now tables.now t.0 from state.old (length work.old) (length trace.old) }
-    ensures { Advanced phases.now tables.now trace.old trace.new state.new result
+    ensures { AdvancedTo phases.now tables.now trace.old trace.new state.new result
         (advancing_of phases.now rules.now tables.now (length work.old) (length trace.old) t.0
         bag.now (suc t.0) (progress_of trace.old tables.now state.old from)) }
 {
@@ -145,7 +164,7 @@ pub fn turn_from(
     has: u64,
     work: &mut [u32],
     trace: &mut [u8],
-) -> Answer
+) -> Advanced
     requires { Startable tables.now t.0 (length work.old) (length run.old) }
     ensures { Outcome tables.now state.new run.new trace.new result
         (λ table. turned_by phases.now rules.now tables.now (length work.old) has t.0 bag.now
@@ -158,15 +177,10 @@ pub fn turn_from(
         used: 0,
     };
     instant_steps::make_ready(phases, tables, state);
-    let e = advance_within(phases, rules, tables, t, bag, has, from, state, work, trace);
-    let done = e.progress;
-    run_saved::store(run, done.opening, u8_to_usize(atomics_in(tables)), state);
-    Answer {
-        number: e.number,
-        instants: done.instants,
-        steps: done.steps,
-        used: done.used,
-    }
+    let ended = advance_within(phases, rules, tables, t, bag, has, from, state, work, trace);
+    let done = ended.progress;
+    run_saved::store(run, done.opening, atomics_in(tables) as usize, state);
+    Advanced::from(ended)
 }
 
 // The same without a limit, in a body of its own: a function that two calls share is not inlined, and a short advance would pay for it.
@@ -180,7 +194,7 @@ pub fn advance_from(
     bag: &[u8],
     work: &mut [u32],
     trace: &mut [u8],
-) -> Answer
+) -> Advanced
     requires { Startable tables.now t.0 (length work.old) (length run.old) }
     ensures { Outcome tables.now state.new run.new trace.new result
         (λ table. advanced_by phases.now rules.now tables.now (length work.old) t.0 bag.now
@@ -193,13 +207,8 @@ pub fn advance_from(
         used: 0,
     };
     instant_steps::make_ready(phases, tables, state);
-    let e = advance_on(phases, rules, tables, t, bag, from, state, work, trace);
-    let p = e.progress;
-    run_saved::store(run, p.opening, u8_to_usize(atomics_in(tables)), state);
-    Answer {
-        number: e.number,
-        instants: p.instants,
-        steps: p.steps,
-        used: p.used,
-    }
+    let ended = advance_on(phases, rules, tables, t, bag, from, state, work, trace);
+    let p = ended.progress;
+    run_saved::store(run, p.opening, atomics_in(tables) as usize, state);
+    Advanced::from(ended)
 }

@@ -13,19 +13,16 @@ ghost use Rattle.instant_records.specs.Written.{record_head, record_of, step_siz
 use clock::Moment;
 use limits::{MESSAGE_SIZE, RECORD_COUNT_AT, RECORD_HEAD, RECORD_STEP_AT};
 use little_endian::put_number;
-use widen::u32_to_u64;
 
 // The messages of the first `count` keys.
 fn put_messages(out: &mut [u8], at: usize, keys: &[u32], count: usize)
     requires { (count ≤ length keys.now) × (at + message_size * count ≤ length out.old) }
     ensures { out.new ≡ sets out.old at (concat (map message_bytes (map message_of (take count keys.now)))) }
 {
-    let mut i: usize = 0;
-    while i < count {
-        let key = u32_to_u64(keys[i]);
+    for i in 0..count {
+        let key = keys[i] as u64;
         put_number(out, at + MESSAGE_SIZE * i, 1, key / 65536);
         put_number(out, at + MESSAGE_SIZE * i + 1, 2, key % 65536);
-        i = i + 1;
     }
 }
 

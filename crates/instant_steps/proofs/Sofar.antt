@@ -3,6 +3,7 @@
 use mathlib.Core.Path.{◌≡◌, refl, ◌∙◌, sym, ap, ap₂, subst}
 use mathlib.Core.List.{List, [], ◌∷◌, ◌++◌, map}
 use mathlib.Core.Bool.{true, false, ◌||◌, not}
+use Rattle.std.proofs.Common.{Option, Some, None}
 use Prim.Native.Nat.{ℕ, zero, suc, ◌+◌, ◌-◌, ◌*◌, ◌≤◌, ◌<◌}
 use native.Mathlib.Omega.{arith}
 use lib.ListN.{length, length-append, length-map, length-take, take}
@@ -31,8 +32,7 @@ use Rattle.instant_records.proofs.Records.{length-step}
 use Rattle.law_stores.proofs.Stores.{sets-append}
 use Rattle.instant_steps.specs.Sim.{sim_of, instant_of, given_at, Fit, Ready}
 use Rattle.instant_steps.specs.Verdicts.{ran_of, Judged, RulesOver, Overlays}
-use Rattle.instant_steps.specs.declared.Verdict.{Verdict}
-use Rattle.instant_steps.specs.declared.Verdict.TheVariants as VV
+use Rattle.instant_steps.specs.declared.Ran.{Ran}
 use Rattle.instant_steps.proofs.Steps.{bag-none, length-sort, records-snoc}
 
 -- ---- the bags of the steps taken so far, in front of what is left
@@ -182,32 +182,24 @@ pub record Stepping (phases rules tables : List ℕ) (now : ℕ) (given : Bytes)
 
 -- ---- the verdicts
 
--- Something is said of an instant that stands, and of no other.
-abbrev Standing : Verdict → Type 0
-Standing VV.Jammed = ⊥
-Standing VV.Stands = Unit {0}
-
-not-jams : VV.Jammed ≡ VV.Stands → ⊥
-not-jams e = subst Standing (sym e) tt
-
 module _ (phases tables : List ℕ) {Kept : List Output → Type 0} {whole rest : Instant State} {now from : ℕ} {out₀ out : Bytes} {k used : ℕ}
     (sofar : Sofar Kept whole rest now from out₀ out k used) (w : List ℕ) where
-  abbrev Verdicts : Instant State → Verdict → ℕ → ℕ → Type 0
-  Verdicts i v steps used = Judged phases tables now from out₀ out w i (record { verdict = v; steps = steps; used = used })
+  abbrev Verdicts : Instant State → Option Ran → Type 0
+  Verdicts i r = Judged phases tables now from out₀ out w i r
 
-  pub judged-jams : rest ≡ jammed → Verdicts whole VV.Jammed 0 from
+  pub judged-jams : rest ≡ jammed → Verdicts whole None
   unfolding ran_of
   judged-jams e =
-      subst (λ (i : Instant State). Verdicts i VV.Jammed 0 from) (sym (sofar.split ∙ ap (after sofar.outputs) e ∙ after-jammed sofar.outputs))
-      (record { answer = refl; few = omega arith; recorded = tt; left = tt; ready = λ h. absurd (not-jams h) })
+      subst (λ (i : Instant State). Verdicts i None) (sym (sofar.split ∙ ap (after sofar.outputs) e ∙ after-jammed sofar.outputs))
+      (record { answer = refl; few = omega arith; recorded = tt; left = tt; ready = λ h. absurd (h refl) })
 
   ends : rest ≡ done [] (held_in w) → done sofar.outputs (held_in w) ≡ whole
   ends e = sym (sofar.split ∙ ap (after sofar.outputs) e ∙ after-done sofar.outputs (held_in w))
 
-  pub judged-stands : rest ≡ done [] (held_in w) → k ≤ max_steps → Ready phases tables w → Verdicts whole VV.Stands k used
+  pub judged-stands : rest ≡ done [] (held_in w) → k ≤ max_steps → Ready phases tables w → Verdicts whole (Some (record { steps = k; used = used }))
   unfolding ran_of
   judged-stands e most r =
-      subst (λ (i : Instant State). Verdicts i VV.Stands k used) (ends e)
+      subst (λ (i : Instant State). Verdicts i (Some (record { steps = k; used = used }))) (ends e)
       (record { answer = rw (sofar.count, sofar.sized); few = most; recorded = λ l. sofar.put (rw sofar.sized l); left = refl; ready = λ h. r })
 
   -- the rules that decided in the steps taken

@@ -1,5 +1,5 @@
 -- What the code's pass over an instant answers, by what the definition says that the instant leaves. Assumes nothing.
-use Rattle.std.specs.Prelude.{◌≡◌, ◌⊎◌, List, [], ◌∷◌, ℕ, ◌+◌, ◌≤◌, length}
+use Rattle.std.specs.Prelude.{◌≡◌, ◌⊎◌, Option, Some, None, List, [], ◌∷◌, ℕ, ◌+◌, ◌≤◌, length}
 use Rattle.std.proofs.lemmas.List.Edits.{sets}
 use Rattle.definition.specs.Bytes.{Bytes}
 use Rattle.definition.specs.Limits.{max_steps}
@@ -10,12 +10,16 @@ use Rattle.run_state.specs.declared.State.{State}
 use Rattle.run_state.specs.Held.{held_in}
 use Rattle.instant_steps.specs.Sim.{Ready, rules_shown}
 use Rattle.instant_steps.specs.declared.Ran.{Ran}
-use Rattle.instant_steps.specs.declared.Verdict.TheVariants as VV
 
--- The verdict, and for an instant that may stand its steps and where its records end.
-unfoldable pub ran_of : ℕ → ℕ → Instant State → Ran
-ran_of now from jammed = record { verdict = VV.Jammed; steps = 0; used = from }
-ran_of now from (done xs s) = record { verdict = VV.Stands; steps = length xs; used = from + length (instant_trace now xs) }
+-- For an instant that may stand its steps and where its records end.
+unfoldable pub ran_of : ℕ → ℕ → Instant State → Option Ran
+ran_of now from jammed = None
+ran_of now from (done xs s) = Some (record { steps = length xs; used = from + length (instant_trace now xs) })
+
+-- The steps that are counted: one that does not stand counts none.
+abbrev pub steps_in : Option Ran → ℕ
+steps_in None = 0
+steps_in (Some r) = r.steps
 
 -- The records of an instant that may stand are in the buffer from `from` on, where all of them fit there. Otherwise its content
 -- behind `from` is left open.
@@ -29,12 +33,12 @@ Left jammed st = Unit {0}
 Left (done xs s) st = st ≡ s
 
 -- The answer, the buffer and the state, which is ready for another instant where this one stands; at most 1,024 steps are counted.
-pub record Judged (phases tables : List ℕ) (now from : ℕ) (out₀ out : Bytes) (w : List ℕ) (i : Instant State) (r : Ran) : Type 0 where
+pub record Judged (phases tables : List ℕ) (now from : ℕ) (out₀ out : Bytes) (w : List ℕ) (i : Instant State) (r : Option Ran) : Type 0 where
   pub answer : r ≡ ran_of now from i
-  pub few : r.steps ≤ max_steps
+  pub few : steps_in r ≤ max_steps
   pub recorded : Recorded now from out₀ out i
   pub left : Left i (held_in w)
-  pub ready : r.verdict ≡ VV.Stands → Ready phases tables w
+  pub ready : (r ≡ None → ⊥) → Ready phases tables w
 
 -- The rules that decided in the steps that were taken, over those of before; each step tells of every one of the first n atomics.
 pub record RulesOver (n : ℕ) (w₀ w : List ℕ) (xs : List Output) : Type 0 where

@@ -18,17 +18,9 @@ use step_due::next_end;
 use step_simulator::step_once;
 use table_words::{TABLE_SIZE, atomics_in};
 
-// Something still due after all steps; or nothing, so that the instant may stand.
-#[derive(Clone, Copy)]
-pub enum Verdict {
-    Jammed,
-    Stands,
-}
-
-// The verdict on an instant; where it stands its steps, and where its records end. One that does not stand counts nothing.
+// The steps of an instant that may stand, and where its records end.
 #[derive(Clone, Copy)]
 pub struct Ran {
-    pub verdict: Verdict,
     pub steps: u64,
     pub used: usize,
 }
@@ -87,8 +79,8 @@ fn begin(at: Moment, given: &[u8], state: &mut [u64; STATE_SIZE])
     }
 }
 
-// The instant at a moment with the given messages, its records put from `from` on. The state is changed in place: where the instant does not
-// stand, what it holds afterwards is left open.
+// The instant at a moment with the given messages, its records put from `from` on; none where something is still due after all steps. The state is
+// changed in place: where the instant does not stand, what it holds afterwards is left open.
 pub fn instant(
     phases: &[u8],
     rules: &[u8],
@@ -99,7 +91,7 @@ pub fn instant(
     work: &mut [u32],
     out: &mut [u8],
     from: usize,
-) -> Ran
+) -> Option<Ran>
     requires { CanRun phases.now tables.now at.0 state.old (length work.old) from (length out.old) }
     ensures { Judged phases.now tables.now at.0 from out.old out.new state.new
         (instant_of phases.now rules.now tables.now (length work.old) at.0 given.now state.old) result
@@ -110,22 +102,15 @@ pub fn instant(
     begin(at, given, state);
     let mut used = from;
     let mut k: u64 = 0;
+    // It goes on while something is due, and not over a range of numbers.
     while goes_on(run_state::next_due(state), at, given_at(given, k)) {
         if k == MAX_STEPS {
-            return Ran {
-                verdict: Verdict::Jammed,
-                steps: 0,
-                used: from,
-            };
+            return None;
         }
         let part = given_at(given, k);
         let count = take_step(phases, rules, tables, state, at, part, work);
         used = put_step(out, used, at, k, work, count);
-        k = k + 1;
+        k += 1;
     }
-    Ran {
-        verdict: Verdict::Stands,
-        steps: k,
-        used,
-    }
+    Some(Ran { steps: k, used })
 }

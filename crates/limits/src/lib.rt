@@ -1,5 +1,5 @@
-// The limits, widths and numbers that the code names, once each: those of the papers, with the numbers of the definitions' `Limits`; the
-// sizes of the tables by port, which follow from them; and the numbers of refusals.
+// The limits, widths and numbers that the code names, once each: those of the papers, with the numbers of the definitions' `Limits`, and the
+// sizes of the tables by port, which follow from them.
 
 // ---- the model file
 #![tactic(auto)]
@@ -113,49 +113,3 @@ pub const FEW_ROUTES: u16 = 64;
 pub const FEW_WORDS: usize = MESSAGES_IN * 64;
 
 pub const MOST_WORDS: usize = MESSAGES_IN * 1024;
-
-// ---- the numbers of refusals, by the names of the C header. Each has the width in which the code first answers it: a record's number one
-// byte, a file's two, a call's eight.
-pub const MODEL_CUT: u16 = 1;
-
-pub const MODEL_LEFT_OVER: u16 = 2;
-
-pub const COUNT_LIMIT: u16 = 3;
-
-pub const BAD_COMPONENT: u8 = 4;
-
-pub const PHASE_SUM: u16 = 5;
-
-pub const BAD_PHASE: u8 = 6;
-
-pub const BAD_RULE: u8 = 7;
-
-pub const BAD_COUPLING: u8 = 8;
-
-pub const TOO_MANY_ROUTES: u16 = 9;
-
-pub const RUN_DOES_NOT_FIT: u64 = 10;
-
-pub const BAD_MOMENT: u64 = 11;
-
-pub const BAD_BAG: u64 = 12;
-
-pub const STILL_DUE: u64 = 13;
-
-// 14 is retired: no call gives it, and it is given to nothing else.
-
-pub const BUFFER_TOO_SHORT: u64 = 15;
-
-pub const BAD_POSITION: u64 = 16;
-
-pub const NOT_A_TRACE: u64 = 17;
-
-pub const NOT_COLUMNS: u64 = 18;
-
-pub const BAD_FEED: u64 = 19;
-
-pub const BAD_FIFTH_SECTION: u16 = 20;
-
-pub const BAD_CHANNELS: u64 = 21;
-
-pub const OUT_OF_STEPS: u64 = 22;

@@ -30,11 +30,9 @@ fn number_of(s: &[u8], n: usize) -> u64
     requires { n ≤ 8 }
     ensures { result ≡ number_at n 0 s.now }
 {
-    let mut k = n;
     let mut v: u64 = 0;
-    while 0 < k {
-        k = k - 1;
-        v = v * 256 + widen::u8_to_u64(byte_at(s, k));
+    for k in (0..n).rev() {
+        v = v * 256 + byte_at(s, k) as u64;
     }
     v
 }
@@ -48,6 +46,7 @@ fn number_at(s: &[u8], at: usize, n: usize) -> u64
     number_of(t, n)
 }
 
+// By width: each is one line over `number_at`, and a generic one would name the type at each call.
 pub fn u16_at(s: &[u8], at: usize) -> u16
     ensures { result ≡ number_at 2 at s.now }
 {
@@ -66,26 +65,27 @@ pub fn u64_at(s: &[u8], at: usize) -> u64
     number_at(s, at, 8)
 }
 
-// The same numbers where the bytes are known to be there, without a test.
+// The same numbers where the bytes are known to be there, without a test; a number of 8 bytes is two halves of two halves, which the compiler makes
+// one load.
 pub fn u16_within(s: &[u8], at: usize) -> u16
     requires { at + 2 ≤ length s.now }
     ensures { result ≡ number_at 2 at s.now }
 {
-    widen::u8_to_u16(s[at]) + 256 * widen::u8_to_u16(s[at + 1])
+    s[at] as u16 + 256 * s[at + 1] as u16
 }
 
 fn u32_within(s: &[u8], at: usize) -> u32
     requires { at + 4 ≤ length s.now }
     ensures { result ≡ number_at 4 at s.now }
 {
-    widen::u16_to_u32(u16_within(s, at)) + 65536 * widen::u16_to_u32(u16_within(s, at + 2))
+    u16_within(s, at) as u32 + 65536 * u16_within(s, at + 2) as u32
 }
 
 pub fn u64_within(s: &[u8], at: usize) -> u64
     requires { at + 8 ≤ length s.now }
     ensures { result ≡ number_at 8 at s.now }
 {
-    widen::u32_to_u64(u32_within(s, at)) + 4294967296 * widen::u32_to_u64(u32_within(s, at + 4))
+    u32_within(s, at) as u64 + 4294967296 * u32_within(s, at + 4) as u64
 }
 
 // The low n bytes of v at `at`.
@@ -93,12 +93,10 @@ pub fn put_number(out: &mut [u8], at: usize, n: usize, v: u64)
     requires { at + n ≤ length out.old }
     ensures { out.new ≡ sets out.old at (bytes_of n v) }
 {
-    let mut k: usize = 0;
     let mut w = v;
-    while k < n {
+    for k in 0..n {
         out[at + k] = (w % 256) as u8;
         w = w / 256;
-        k = k + 1;
     }
 }
 
@@ -107,9 +105,5 @@ pub fn put_bytes(part: &[u8], out: &mut [u8], at: usize)
     requires { at + length part.now ≤ length out.old }
     ensures { out.new ≡ sets out.old at part.now }
 {
-    let mut i: usize = 0;
-    while i < part.len() {
-        out[at + i] = part[i];
-        i = i + 1;
-    }
+    out[at..at + part.len()].copy_from_slice(part);
 }

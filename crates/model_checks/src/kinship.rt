@@ -5,7 +5,6 @@ ghost use Rattle.model_records.specs.Values.{components_in};
 ghost use Rattle.model_checks.specs.Known.{EndsThere};
 
 use limits::MAX_COMPONENTS;
-use widen::u8_to_usize;
 
 // Source is the target's parent, its sibling, or its child. Parents alone decide it: the root stands as its own parent, so that it and
 // each of its children have the same parent too, and these are relatives anyway.
@@ -18,8 +17,8 @@ pub fn are_related(
     requires { EndsThere (components_in components.now) source target parents.now }
     ensures { result ≡ related (components_in components.now) source target }
 {
-    let over_source = u8_to_usize(parents[source]);
-    let over_target = u8_to_usize(parents[target]);
+    let over_source = parents[source] as usize;
+    let over_target = parents[target] as usize;
     if source == target {
         return false;
     }

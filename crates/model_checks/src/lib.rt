@@ -2,11 +2,11 @@
 #![tactic(auto)]
 
 ghost use Rattle.std.specs.Prelude.{◌≡◌, ◌&&◌, ◌+◌, ◌<◌, ltb, leb, length};
-ghost use Rattle.definition.specs.Bytes.{number_of};
 ghost use Rattle.definition.specs.Limits.{max_outputs};
 ghost use Rattle.definition.specs.Pinned.Decoder.{kind_fields, advance_fits, rule_fields, coupling_fields};
-ghost use Rattle.model_records.specs.Values.{component_of, rule_of, coupling_of, components_in, phases_in, rules_in, couplings_in};
-ghost use Rattle.model_checks.specs.Reads.{coupling_of_key, component_read, phase_read, rule_read, coupling_read, component_asked, phase_asked, rule_asked, coupling_asked};
+ghost use Rattle.model_records.specs.Values.{component_of, phase_of, rule_of, coupling_of, components_in, phases_in, rules_in, couplings_in};
+ghost use Rattle.model_checks.specs.Reads.{coupling_of_key, component_asked, phase_asked, rule_asked, coupling_asked};
+ghost use Rattle.refusals.specs.Refusals.{result_as};
 ghost use Rattle.model_checks.specs.Known.{Room, fits_behind, Next, Keepable, Keeps, CountsKnown, Placed, NextRule, NextRow};
 
 mod kinship;
@@ -14,82 +14,12 @@ mod phase_slots;
 
 use kinship::are_related;
 use limits::{
-    BAD_COMPONENT, BAD_COUPLING, BAD_PHASE, BAD_RULE, MAX_ADVANCE, MAX_ANCESTORS, MAX_COMPONENTS,
-    MAX_OUTPUTS, MAX_OWN_PHASES, NEVER_FIELD, PORT_COUNT,
+    MAX_ADVANCE, MAX_ANCESTORS, MAX_COMPONENTS, MAX_OUTPUTS, MAX_OWN_PHASES, NEVER_FIELD,
+    PORT_COUNT,
 };
 use model_records::{Component, Coupling, Phase, Rule};
 use phase_slots::slots_fit;
-use widen::u8_to_usize;
-
-// ---- the answers; a number is one byte, since one that is laid over two fields of a record makes the compiler join these
-
-#[derive(Clone, Copy)]
-pub enum ComponentRead {
-    Is(Component),
-    Refused(u8),
-}
-
-impl ComponentRead {
-    pub fn refusal(self) -> u16
-        ensures { result ≡ number_of (component_read self) }
-    {
-        match self {
-            ComponentRead::Is(_) => 0,
-            ComponentRead::Refused(number) => number as u16,
-        }
-    }
-}
-
-#[derive(Clone, Copy)]
-pub enum PhaseRead {
-    Is(Phase),
-    Refused(u8),
-}
-
-impl PhaseRead {
-    pub fn refusal(self) -> u16
-        ensures { result ≡ number_of (phase_read self) }
-    {
-        match self {
-            PhaseRead::Is(_) => 0,
-            PhaseRead::Refused(number) => number as u16,
-        }
-    }
-}
-
-#[derive(Clone, Copy)]
-pub enum RuleRead {
-    Is(Rule),
-    Refused(u8),
-}
-
-impl RuleRead {
-    pub fn refusal(self) -> u16
-        ensures { result ≡ number_of (rule_read self) }
-    {
-        match self {
-            RuleRead::Is(_) => 0,
-            RuleRead::Refused(number) => number as u16,
-        }
-    }
-}
-
-#[derive(Clone, Copy)]
-pub enum CouplingRead {
-    Is(Coupling),
-    Refused(u8),
-}
-
-impl CouplingRead {
-    pub fn refusal(self) -> u16
-        ensures { result ≡ number_of (coupling_read self) }
-    {
-        match self {
-            CouplingRead::Is(_) => 0,
-            CouplingRead::Refused(number) => number as u16,
-        }
-    }
-}
+use refusals::Refusal;
 
 // ---- components
 
@@ -120,11 +50,11 @@ fn component_fits(
     if i == 0 {
         return kind_fields(component) & ((component.kind == 0) & (component.parent == 0));
     }
-    let parent = u8_to_usize(component.parent);
+    let parent = component.parent as usize;
     if i <= parent {
         return false;
     }
-    if !((phase_counts[parent] == 0) & (u8_to_usize(depths[parent]) < MAX_ANCESTORS)) {
+    if !((phase_counts[parent] == 0) & ((depths[parent] as usize) < MAX_ANCESTORS)) {
         return false;
     }
     kind_fields(component)
@@ -135,15 +65,15 @@ pub fn read_component(
     i: usize,
     phase_counts: &[u8; MAX_COMPONENTS],
     depths: &[u8; MAX_COMPONENTS],
-) -> ComponentRead
+) -> Result<Component, Refusal>
     requires { Next (components_in components.now) i phase_counts.now depths.now }
-    ensures { component_read result ≡ component_asked (components_in components.now) i }
+    ensures { result_as component_of result ≡ component_asked (components_in components.now) i }
 {
     let component = model_records::component_in(components, i);
     if component_fits(component, i, phase_counts, depths) {
-        ComponentRead::Is(component)
+        Ok(component)
     } else {
-        ComponentRead::Refused(BAD_COMPONENT)
+        Err(Refusal::BadComponent)
     }
 }
 
@@ -165,7 +95,7 @@ pub fn keep_component(
         depths[i] = 0;
         return;
     }
-    depths[i] = depths[u8_to_usize(component.parent)] + 1;
+    depths[i] = depths[component.parent as usize] + 1;
 }
 
 // ---- phases
@@ -180,18 +110,16 @@ fn phase_numbers(bound: u8, phase: Phase) -> bool
 }
 
 // Phase record i, whose atomic has `bound` phases.
-pub fn read_phase(phases: &[u8], i: usize, bound: u8) -> PhaseRead
+pub fn read_phase(phases: &[u8], i: usize, bound: u8) -> Result<Phase, Refusal>
     requires { i < length (phases_in phases.now) }
-    ensures { phase_read result ≡ phase_asked bound (phases_in phases.now) i }
+    ensures { result_as phase_of result ≡ phase_asked bound (phases_in phases.now) i }
 {
     let phase = model_records::phase_in(phases, i);
-    if !phase_numbers(bound, phase) {
-        return PhaseRead::Refused(BAD_PHASE);
+    if phase_numbers(bound, phase) && slots_fit(phase) {
+        Ok(phase)
+    } else {
+        Err(Refusal::BadPhase)
     }
-    if !slots_fit(phase) {
-        return PhaseRead::Refused(BAD_PHASE);
-    }
-    PhaseRead::Is(phase)
 }
 
 // ---- rules
@@ -202,7 +130,7 @@ fn rule_fields(components: &[u8], phase_counts: &[u8; MAX_COMPONENTS], rule: Rul
     requires { CountsKnown (components_in components.now) phase_counts.now }
     ensures { result ≡ rule_fields (components_in components.now) (rule_of rule) }
 {
-    let component = u8_to_usize(rule.component);
+    let component = rule.component as usize;
     if model_records::component_count(components) <= component {
         return false;
     }
@@ -219,15 +147,15 @@ pub fn read_rule(
     phase_counts: &[u8; MAX_COMPONENTS],
     rules: &[u8],
     i: usize,
-) -> RuleRead
+) -> Result<Rule, Refusal>
     requires { NextRule (components_in components.now) phase_counts.now (rules_in rules.now) i }
-    ensures { rule_read result ≡ rule_asked (components_in components.now) (rules_in rules.now) i }
+    ensures { result_as rule_of result ≡ rule_asked (components_in components.now) (rules_in rules.now) i }
 {
     let rule = model_records::rule_in(rules, i);
     if rule_fields(components, phase_counts, rule) {
-        RuleRead::Is(rule)
+        Ok(rule)
     } else {
-        RuleRead::Refused(BAD_RULE)
+        Err(Refusal::BadRule)
     }
 }
 
@@ -238,8 +166,8 @@ fn coupling_fields(components: &[u8], parents: &[u8; MAX_COMPONENTS], coupling: 
     ensures { result ≡ coupling_fields (components_in components.now) (coupling_of coupling) }
 {
     let component_count = model_records::component_count(components);
-    let source = u8_to_usize(coupling.source);
-    let target = u8_to_usize(coupling.target);
+    let source = coupling.source as usize;
+    let target = coupling.target as usize;
     if !((source < component_count)
         & (target < component_count)
         & (coupling.source_port < PORT_COUNT)
@@ -254,10 +182,10 @@ fn coupling_fields(components: &[u8], parents: &[u8; MAX_COMPONENTS], coupling: 
 pub fn coupling_key(coupling: Coupling) -> usize
     ensures { coupling_of_key result ≡ coupling_of coupling }
 {
-    u8_to_usize(coupling.source) * 16777216
-        + u8_to_usize(coupling.source_port) * 65536
-        + u8_to_usize(coupling.target) * 256
-        + u8_to_usize(coupling.target_port)
+    coupling.source as usize * 16777216
+        + coupling.source_port as usize * 65536
+        + coupling.target as usize * 256
+        + coupling.target_port as usize
 }
 
 // Row i, behind a row whose key is `before`.
@@ -267,16 +195,14 @@ pub fn read_coupling(
     couplings: &[u8],
     i: usize,
     before: usize,
-) -> CouplingRead
+) -> Result<Coupling, Refusal>
     requires { NextRow (components_in components.now) parents.now (couplings_in couplings.now) i before }
-    ensures { coupling_read result ≡ coupling_asked (components_in components.now) (couplings_in couplings.now) i }
+    ensures { result_as coupling_of result ≡ coupling_asked (components_in components.now) (couplings_in couplings.now) i }
 {
     let coupling = model_records::coupling_in(couplings, i);
-    if !coupling_fields(components, parents, coupling) {
-        return CouplingRead::Refused(BAD_COUPLING);
+    if coupling_fields(components, parents, coupling) && before <= coupling_key(coupling) {
+        Ok(coupling)
+    } else {
+        Err(Refusal::BadCoupling)
     }
-    if coupling_key(coupling) < before {
-        return CouplingRead::Refused(BAD_COUPLING);
-    }
-    CouplingRead::Is(coupling)
 }

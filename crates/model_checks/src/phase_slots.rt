@@ -5,7 +5,6 @@ ghost use Rattle.model_records.specs.Values.{message_of, phase_of};
 ghost use Rattle.model_checks.specs.Reads.{message_of_key};
 
 use model_records::{Message, Phase};
-use widen::{u8_to_usize, u16_to_usize};
 
 // A message whose port is in its range has a key below this one.
 const KEYS_END: usize = 262144;
@@ -14,7 +13,7 @@ const KEYS_END: usize = 262144;
 fn message_key(message: Message) -> usize
     ensures { message_of_key result ≡ message_of message }
 {
-    u8_to_usize(message.port) * 65536 + u16_to_usize(message.value)
+    message.port as usize * 65536 + message.value as usize
 }
 
 // Slots that are not used are zero, and used ones never fall. A key below KEYS_END has a port in its range; where keys never fall, all of

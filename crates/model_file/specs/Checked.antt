@@ -1,15 +1,16 @@
 -- What the answer of a model's check stands for: the model of the file's four parts with its reading of ranges, or the number of the refusal.
 -- Assumes nothing.
-use Rattle.std.specs.Prelude.{ℕ}
-use Rattle.definition.specs.Bytes.{Bytes, Result, ok, refused}
+use Rattle.std.specs.Prelude.{Result}
+use Rattle.definition.specs.Bytes.{Bytes}
+use Rattle.definition.specs.Bytes as Definition
 use Rattle.definition.specs.Limits.{component_size, phase_size, rule_size, coupling_size}
 use Rattle.definition.specs.Model.{Model}
 use Rattle.law_base.specs.Ranges.{ranges_of}
 use Rattle.law_bytes.specs.Parts.{part_of, rest_after}
 use Rattle.model_records.specs.Values.{model_in}
 use Rattle.model_file.specs.declared.Counts as N
-use Rattle.model_file.specs.declared.Checked as C
-use Rattle.model_file.specs.declared.Checked.TheVariants as CV
+use Rattle.refusals.specs.Refusals.{result_as}
+use Rattle.refusals.specs.declared.Refusal.{Refusal}
 
 -- ---- each section is read from where the one before it ended
 
@@ -39,10 +40,5 @@ couplings_part file n = part_of coupling_size n.couplings (after_rules file n)
 unfoldable pub model_of : Bytes → N.Counts → Model
 model_of file n = model_in (components_part file n) (phases_part file n) (rules_part file n) (couplings_part file n) (ranges_of n.half_open)
 
-abbrev pub checked_as : Bytes → C.Checked → Result Model
-checked_as file (CV.Accepted n) = ok (model_of file n)
-checked_as file (CV.Refused n) = refused n
-
-abbrev pub checked_number : C.Checked → ℕ
-checked_number (CV.Accepted n) = 0
-checked_number (CV.Refused n) = n
+abbrev pub checked_as : Bytes → Result N.Counts Refusal → Definition.Result Model
+checked_as file read = result_as (model_of file) read

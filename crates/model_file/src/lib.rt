@@ -4,11 +4,11 @@
 
 ghost use Rattle.std.specs.Prelude.{◌≡◌};
 ghost use Rattle.definition.specs.Pinned.Decoder.{decode};
-ghost use Rattle.model_file.specs.Checked.{components_part, phases_part, rules_part, couplings_part, after_components, after_phases, after_rules, checked_as, checked_number};
+ghost use Rattle.model_file.specs.Checked.{components_part, phases_part, rules_part, couplings_part, after_components, after_phases, after_rules, checked_as};
 
 use limits::{COMPONENT_SIZE, COUPLING_SIZE, MAX_COMPONENTS, PHASE_SIZE, RULE_SIZE};
-use model_further::FurtherRead;
-use model_sections::{SectionRead, section_part, section_rest};
+use model_sections::{section_part, section_rest};
+use refusals::Refusal;
 
 // How many records each of the four sections has, and whether a fifth excludes the high ends of elapsed ranges.
 #[derive(Clone, Copy)]
@@ -20,56 +20,24 @@ pub struct Counts {
     pub half_open: bool,
 }
 
-#[derive(Clone, Copy)]
-pub enum Checked {
-    Accepted(Counts),
-    Refused(u16),
-}
-
-impl Checked {
-    pub fn refusal(self) -> u16
-        ensures { result ≡ checked_number self }
-    {
-        match self {
-            Checked::Accepted(_) => 0,
-            Checked::Refused(number) => number,
-        }
-    }
-}
-
 // The sections in a row, and nothing after them: numbers 1 to 8, then 20, 7 and 2.
-pub fn decode_model(file: &[u8]) -> Checked
+pub fn decode_model(file: &[u8]) -> Result<Counts, Refusal>
     ensures { checked_as file.now result ≡ decode file.now }
 {
     let mut parents = [0u8; MAX_COMPONENTS];
     let mut phase_counts = [0u8; MAX_COMPONENTS];
-    let first = model_sections::read_components(file, &mut parents, &mut phase_counts);
-    let SectionRead::Are(components) = first else {
-        return Checked::Refused(first.refusal());
-    };
+    let components = model_sections::read_components(file, &mut parents, &mut phase_counts)?;
     let component_records = section_part(file, components, COMPONENT_SIZE);
     let after_components = section_rest(file, components, COMPONENT_SIZE);
-    let second = model_sections::read_phases(component_records, &phase_counts, after_components);
-    let SectionRead::Are(phases) = second else {
-        return Checked::Refused(second.refusal());
-    };
+    let phases = model_sections::read_phases(component_records, &phase_counts, after_components)?;
     let after_phases = section_rest(after_components, phases, PHASE_SIZE);
-    let third = model_sections::read_rules(component_records, &phase_counts, after_phases);
-    let SectionRead::Are(rules) = third else {
-        return Checked::Refused(third.refusal());
-    };
+    let rules = model_sections::read_rules(component_records, &phase_counts, after_phases)?;
     let after_rules = section_rest(after_phases, rules, RULE_SIZE);
-    let fourth = model_sections::read_couplings(component_records, &parents, after_rules);
-    let SectionRead::Are(couplings) = fourth else {
-        return Checked::Refused(fourth.refusal());
-    };
+    let couplings = model_sections::read_couplings(component_records, &parents, after_rules)?;
     let after_couplings = section_rest(after_rules, couplings, COUPLING_SIZE);
     let rule_records = section_part(after_phases, rules, RULE_SIZE);
-    let last = model_further::read_further(rule_records, after_couplings);
-    let FurtherRead::HalfOpen(half_open) = last else {
-        return Checked::Refused(last.refusal());
-    };
-    Checked::Accepted(Counts {
+    let half_open = model_further::read_further(rule_records, after_couplings)?;
+    Ok(Counts {
         components,
         phases,
         rules,

@@ -5,6 +5,7 @@ use mathlib.Core.Bool.{Bool, true, false, cond}
 use Prim.Native.Nat.{ℕ, zero, suc, ◌+◌, ◌≤◌}
 use native.Mathlib.Omega.{arith}
 use lib.ListN.{length, length-append}
+use mir.Val.{bool_byte}
 use Rattle.definition.specs.Lists.{keep, up_from}
 use Rattle.definition.specs.Model.{Component, is_atomic, atomics}
 use Rattle.law_base.proofs.Lists.{length_up, length-keep}
@@ -37,6 +38,11 @@ kept_more p n = sym (ap length (keep-more p n) ∙ length-append (keep p (up_fro
     go : (b : Bool) → length (cond b (n ∷ []) []) ≡ cond b 1 0
     go true = refl
     go false = refl
+
+-- What a test counts.
+pub counted : (b : Bool) → bool_byte b ≡ cond b 1 0
+counted true = refl
+counted false = refl
 
 pub one-most : (b : Bool) → cond b 1 0 ≤ 1
 one-most true = omega arith

@@ -11,8 +11,9 @@ ghost use Rattle.model_records.specs.Values.{component_of, message_of, phase_of,
 
 use limits::{COMPONENT_SIZE, COUPLING_SIZE, PHASE_SIZE, RULE_SIZE};
 
-// Kind (0 coupled, 1 atomic), parent, phase count, initial phase, order.
-#[derive(Clone, Copy)]
+// Kind (0 coupled, 1 atomic), parent, phase count, initial phase, order. Kind and order are numbers, and no enums: a record is read before it is
+// judged, and any byte may stand there.
+#[derive(Clone, Copy, Default)]
 pub struct Component {
     pub kind: u8,
     pub parent: u8,
@@ -22,14 +23,14 @@ pub struct Component {
 }
 
 // What a slot holds.
-#[derive(Clone, Copy)]
+#[derive(Clone, Copy, Default)]
 pub struct Message {
     pub port: u8,
     pub value: u16,
 }
 
 // Advance, next phase, output count, four slots.
-#[derive(Clone, Copy)]
+#[derive(Clone, Copy, Default)]
 pub struct Phase {
     pub advance: u32,
     pub next: u8,
@@ -40,7 +41,7 @@ pub struct Phase {
     pub slot3: Message,
 }
 
-#[derive(Clone, Copy)]
+#[derive(Clone, Copy, Default)]
 pub struct Rule {
     pub component: u8,
     pub phase: u8,
@@ -53,16 +54,13 @@ pub struct Rule {
     pub high_elapsed: u32,
 }
 
-#[derive(Clone, Copy)]
+#[derive(Clone, Copy, Default)]
 pub struct Coupling {
     pub source: u8,
     pub source_port: u8,
     pub target: u8,
     pub target_port: u8,
 }
-
-// What a slot holds that is not used.
-const NO_MESSAGE: Message = Message { port: 0, value: 0 };
 
 // ---- how many records a slice holds
 
@@ -121,13 +119,7 @@ pub fn component_at(components: &[u8], i: usize) -> Component
     if i < component_count(components) {
         component_in(components, i)
     } else {
-        Component {
-            kind: 0,
-            parent: 0,
-            phases: 0,
-            initial: 0,
-            order: 0,
-        }
+        Component::default()
     }
 }
 
@@ -164,15 +156,7 @@ pub fn phase_at(phases: &[u8], i: usize) -> Phase
     if i < phase_count(phases) {
         phase_in(phases, i)
     } else {
-        Phase {
-            advance: 0,
-            next: 0,
-            output_count: 0,
-            slot0: NO_MESSAGE,
-            slot1: NO_MESSAGE,
-            slot2: NO_MESSAGE,
-            slot3: NO_MESSAGE,
-        }
+        Phase::default()
     }
 }
 
@@ -200,17 +184,7 @@ pub fn rule_at(rules: &[u8], i: usize) -> Rule
     if i < rule_count(rules) {
         rule_in(rules, i)
     } else {
-        Rule {
-            component: 0,
-            phase: 0,
-            next: 0,
-            port: 0,
-            low: 0,
-            high: 0,
-            least: 0,
-            low_elapsed: 0,
-            high_elapsed: 0,
-        }
+        Rule::default()
     }
 }
 
@@ -233,12 +207,7 @@ pub fn coupling_at(couplings: &[u8], i: usize) -> Coupling
     if i < coupling_count(couplings) {
         coupling_in(couplings, i)
     } else {
-        Coupling {
-            source: 0,
-            source_port: 0,
-            target: 0,
-            target_port: 0,
-        }
+        Coupling::default()
     }
 }
 
@@ -256,7 +225,7 @@ pub fn is_child(components: &[u8], c: usize, d: usize) -> bool
     ensures { result ≡ is_child (components_in components.now) c d }
 {
     let component = component_at(components, d);
-    !(d == 0) & (widen::u8_to_usize(component.parent) == c)
+    !(d == 0) & (component.parent as usize == c)
 }
 
 // How many of the components are atomic.
@@ -265,10 +234,8 @@ pub fn atomic_count(components: &[u8]) -> usize
 {
     let n = component_count(components);
     let mut k: usize = 0;
-    let mut c: usize = 0;
-    while c < n {
-        k = k + widen::bool_to_usize(is_atomic(components, c));
-        c = c + 1;
+    for c in 0..n {
+        k += usize::from(is_atomic(components, c));
     }
     k
 }
@@ -280,11 +247,9 @@ pub fn phases_before(components: &[u8], c: u8) -> usize
     ensures { result ≡ phases_before (components_in components.now) c }
 {
     let mut total: usize = 0;
-    let mut i: u8 = 0;
-    while i < c {
-        let component = component_at(components, widen::u8_to_usize(i));
-        total = total + widen::u8_to_usize(component.phases);
-        i = i + 1;
+    for i in 0..c {
+        let component = component_at(components, i as usize);
+        total += component.phases as usize;
     }
     total
 }

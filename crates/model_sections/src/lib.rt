@@ -3,7 +3,6 @@
 #![tactic(auto)]
 
 ghost use Rattle.std.specs.Prelude.{◌≡◌, ◌*◌, ◌≤◌};
-ghost use Rattle.definition.specs.Bytes.{number_of};
 ghost use Rattle.definition.specs.Limits.{phase_size, rule_size, coupling_size};
 ghost use Rattle.definition.specs.File.{phase_total};
 ghost use Rattle.definition.specs.Pinned.Decoder.{to_phase, to_rule, to_coupling, section_count};
@@ -12,33 +11,16 @@ ghost use Rattle.definition.specs.Pinned.Decoder.{phase_section, rule_section, c
 ghost use Rattle.law_bytes.specs.Parts.{part_of, rest_after};
 ghost use Rattle.model_records.specs.Values.{components_in};
 ghost use Rattle.model_checks.specs.Known.{CountsKnown, Placed};
-ghost use Rattle.model_sections.specs.Answers.{section_read, section_number, Room, ComponentsRead};
+ghost use Rattle.model_sections.specs.Answers.{section_read, Room, ComponentsRead};
+ghost use Rattle.definition.specs.Bytes.{number_of};
+ghost use Rattle.refusals.specs.Refusals.{told_in};
 
 use limits::{
-    COMPONENT_SIZE, COUNT_LIMIT, COUNT_SIZE, COUPLING_SIZE, MAX_COMPONENTS, MAX_COUPLINGS,
-    MAX_PHASES, MAX_RULES, MODEL_CUT, PHASE_SIZE, PHASE_SUM, RULE_SIZE,
+    COMPONENT_SIZE, COUNT_SIZE, COUPLING_SIZE, MAX_COMPONENTS, MAX_COUPLINGS, MAX_PHASES,
+    MAX_RULES, PHASE_SIZE, RULE_SIZE,
 };
 use little_endian::u16_at;
-use model_checks::{ComponentRead, CouplingRead, PhaseRead, RuleRead};
-use widen::{u8_to_usize, u16_to_usize};
-
-// How many records the section has, or the number of the refusal.
-#[derive(Clone, Copy)]
-pub enum SectionRead {
-    Are(u16),
-    Refused(u16),
-}
-
-impl SectionRead {
-    pub fn refusal(self) -> u16
-        ensures { result ≡ section_number self }
-    {
-        match self {
-            SectionRead::Are(_) => 0,
-            SectionRead::Refused(number) => number,
-        }
-    }
-}
+use refusals::Refusal;
 
 // ---- a section's parts
 
@@ -47,7 +29,7 @@ fn length_of(count: u16, size: usize) -> usize
     requires { size ≤ 255 }
     ensures { (result ≡ count * size) × (result ≤ 16777215) }
 {
-    u16_to_usize(count) * size
+    count as usize * size
 }
 
 // The records of the section that comes next in the file, without their count.
@@ -69,53 +51,55 @@ pub fn section_rest<'a>(rest_of_file: &'a [u8], count: u16, size: usize) -> &'a 
     little_endian::rest(rest_of_file, COUNT_SIZE + length_of(count, size))
 }
 
-// The number by which a section is refused before its first record is read, or 0. The caller has judged the count: `wrong` is the number
-// by which that is refused, or 0. So 1 where the count is cut off, then `wrong`, then 1 where the records are cut off.
-fn head_number(rest_of_file: &[u8], size: usize, wrong: u16) -> u16
+// Why a section is refused before its first record is read. The caller has judged the count: so the file is cut where the count is cut off, then
+// the count is refused, then the file is cut where the records are cut off.
+fn check_head(rest_of_file: &[u8], size: usize, judged: Result<(), Refusal>) -> Result<(), Refusal>
     requires { size ≤ 255 }
-    ensures { result ≡ number_of (section_count size (λ _. wrong) rest_of_file.now) }
+    ensures { told_in result ≡ number_of (section_count size (λ _. told_in judged) rest_of_file.now) }
 {
     if rest_of_file.len() < COUNT_SIZE {
-        return MODEL_CUT;
+        return Err(Refusal::ModelCut);
     }
-    if 0 < wrong {
-        return wrong;
-    }
+    judged?;
     let end = COUNT_SIZE + length_of(u16_at(rest_of_file, 0), size);
     if rest_of_file.len() < end {
-        return MODEL_CUT;
+        return Err(Refusal::ModelCut);
     }
-    0
+    Ok(())
 }
 
-// ---- the number by which a count is refused, or 0
+// ---- counts judged
 
-fn component_count_refusal(count: usize) -> u16
-    ensures { result ≡ component_count_refusal count }
+fn judge_components(count: usize) -> Result<(), Refusal>
+    ensures { told_in result ≡ component_count_refusal count }
 {
     if (MAX_COMPONENTS < count) | (count == 0) {
-        COUNT_LIMIT
+        Err(Refusal::CountLimit)
     } else {
-        0
+        Ok(())
     }
 }
 
-fn phase_count_refusal(total: usize, count: usize) -> u16
-    ensures { result ≡ phase_count_refusal total count }
+fn judge_phases(total: usize, count: usize) -> Result<(), Refusal>
+    ensures { told_in result ≡ phase_count_refusal total count }
 {
     if MAX_PHASES < count {
-        return COUNT_LIMIT;
+        return Err(Refusal::CountLimit);
     }
     if count != total {
-        return PHASE_SUM;
+        return Err(Refusal::PhaseSum);
     }
-    0
+    Ok(())
 }
 
-fn limit_refusal(limit: usize, count: usize) -> u16
-    ensures { result ≡ limit_refusal limit count }
+fn judge_limit(limit: usize, count: usize) -> Result<(), Refusal>
+    ensures { told_in result ≡ limit_refusal limit count }
 {
-    if limit < count { COUNT_LIMIT } else { 0 }
+    if limit < count {
+        Err(Refusal::CountLimit)
+    } else {
+        Ok(())
+    }
 }
 
 // ---- the sections
@@ -125,28 +109,20 @@ pub fn read_components(
     file: &[u8],
     parents: &mut [u8; MAX_COMPONENTS],
     phase_counts: &mut [u8; MAX_COMPONENTS],
-) -> SectionRead
+) -> Result<u16, Refusal>
     requires { Room parents.old phase_counts.old }
     ensures { ComponentsRead file.now result parents.new phase_counts.new }
 {
     let announced = u16_at(file, 0);
-    let count = u16_to_usize(announced);
-    let head = head_number(file, COMPONENT_SIZE, component_count_refusal(count));
-    if head != 0 {
-        return SectionRead::Refused(head);
-    }
+    let count = announced as usize;
+    check_head(file, COMPONENT_SIZE, judge_components(count))?;
     let records = section_part(file, announced, COMPONENT_SIZE);
     let mut depths = [0u8; MAX_COMPONENTS];
-    let mut i: usize = 0;
-    while i < count {
-        let read = model_checks::read_component(records, i, phase_counts, &depths);
-        let ComponentRead::Is(component) = read else {
-            return SectionRead::Refused(read.refusal());
-        };
+    for i in 0..count {
+        let component = model_checks::read_component(records, i, phase_counts, &depths)?;
         model_checks::keep_component(component, i, parents, phase_counts, &mut depths);
-        i = i + 1;
     }
-    SectionRead::Are(announced)
+    Ok(announced)
 }
 
 // The sum of the phase counts.
@@ -156,10 +132,8 @@ fn phase_total(components: &[u8], phase_counts: &[u8; MAX_COMPONENTS]) -> usize
 {
     let component_count = model_records::component_count(components);
     let mut total: usize = 0;
-    let mut c: usize = 0;
-    while c < component_count {
-        total = total + u8_to_usize(phase_counts[c]);
-        c = c + 1;
+    for c in 0..component_count {
+        total += phase_counts[c] as usize;
     }
     total
 }
@@ -169,94 +143,68 @@ pub fn read_phases(
     components: &[u8],
     phase_counts: &[u8; MAX_COMPONENTS],
     rest_of_file: &[u8],
-) -> SectionRead
+) -> Result<u16, Refusal>
     requires { CountsKnown (components_in components.now) phase_counts.now }
     ensures { section_read phase_size to_phase rest_of_file.now result
         ≡ phase_section (components_in components.now) rest_of_file.now }
 {
     let announced = u16_at(rest_of_file, 0);
-    let count = u16_to_usize(announced);
+    let count = announced as usize;
     let component_count = model_records::component_count(components);
     let total = phase_total(components, phase_counts);
-    let head = head_number(rest_of_file, PHASE_SIZE, phase_count_refusal(total, count));
-    if head != 0 {
-        return SectionRead::Refused(head);
-    }
+    check_head(rest_of_file, PHASE_SIZE, judge_phases(total, count))?;
     let records = section_part(rest_of_file, announced, PHASE_SIZE);
     let mut i: usize = 0;
-    let mut c: usize = 0;
-    while c < component_count {
+    for c in 0..component_count {
         let bound = phase_counts[c];
-        let mut p: u8 = 0;
-        while p < bound {
-            let read = model_checks::read_phase(records, i, bound);
-            let PhaseRead::Is(_) = read else {
-                return SectionRead::Refused(read.refusal());
-            };
-            i = i + 1;
-            p = p + 1;
+        for _ in 0..bound {
+            model_checks::read_phase(records, i, bound)?;
+            i += 1;
         }
-        c = c + 1;
     }
-    SectionRead::Are(announced)
+    Ok(announced)
 }
 
 pub fn read_rules(
     components: &[u8],
     phase_counts: &[u8; MAX_COMPONENTS],
     rest_of_file: &[u8],
-) -> SectionRead
+) -> Result<u16, Refusal>
     requires { CountsKnown (components_in components.now) phase_counts.now }
     ensures { section_read rule_size to_rule rest_of_file.now result
         ≡ rule_section (components_in components.now) rest_of_file.now }
 {
     let announced = u16_at(rest_of_file, 0);
-    let count = u16_to_usize(announced);
-    let head = head_number(rest_of_file, RULE_SIZE, limit_refusal(MAX_RULES, count));
-    if head != 0 {
-        return SectionRead::Refused(head);
-    }
+    let count = announced as usize;
+    check_head(rest_of_file, RULE_SIZE, judge_limit(MAX_RULES, count))?;
     let records = section_part(rest_of_file, announced, RULE_SIZE);
-    let mut i: usize = 0;
-    while i < count {
-        let read = model_checks::read_rule(components, phase_counts, records, i);
-        let RuleRead::Is(_) = read else {
-            return SectionRead::Refused(read.refusal());
-        };
-        i = i + 1;
+    for i in 0..count {
+        model_checks::read_rule(components, phase_counts, records, i)?;
     }
-    SectionRead::Are(announced)
+    Ok(announced)
 }
 
 pub fn read_couplings(
     components: &[u8],
     parents: &[u8; MAX_COMPONENTS],
     rest_of_file: &[u8],
-) -> SectionRead
+) -> Result<u16, Refusal>
     requires { Placed (components_in components.now) parents.now }
     ensures { section_read coupling_size to_coupling rest_of_file.now result
         ≡ coupling_section (components_in components.now) rest_of_file.now }
 {
     let announced = u16_at(rest_of_file, 0);
-    let count = u16_to_usize(announced);
-    let head = head_number(
+    let count = announced as usize;
+    check_head(
         rest_of_file,
         COUPLING_SIZE,
-        limit_refusal(MAX_COUPLINGS, count),
-    );
-    if head != 0 {
-        return SectionRead::Refused(head);
-    }
+        judge_limit(MAX_COUPLINGS, count),
+    )?;
     let records = section_part(rest_of_file, announced, COUPLING_SIZE);
-    let mut i: usize = 0;
     let mut before: usize = 0;
-    while i < count {
-        let read = model_checks::read_coupling(components, parents, records, i, before);
-        let CouplingRead::Is(coupling) = read else {
-            return SectionRead::Refused(read.refusal());
-        };
+    for i in 0..count {
+        let coupling = model_checks::read_coupling(components, parents, records, i, before)?;
         before = model_checks::coupling_key(coupling);
-        i = i + 1;
     }
-    SectionRead::Are(announced)
+    Ok(announced)
 }

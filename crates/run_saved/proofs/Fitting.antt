@@ -6,6 +6,7 @@ use mathlib.Core.Bool.{Bool, true, false, ◌&&◌, ◌||◌, not, cond}
 use Prim.Native.Nat.{ℕ, suc, ◌+◌, ◌*◌, ◌-◌, ◌≤◌, ◌<◌}
 use native.Mathlib.Omega.{arith}
 use native.Mathlib.Nat.{sub-zero}
+use mir.Val.{bool_byte}
 use lib.Dec.{leb, ltb, eqb}
 use lib.ListN.{length, drop, get_or}
 use lib.Seq.{drop-drop}
@@ -19,6 +20,7 @@ use Rattle.definition.specs.SavedRun.{Entry, to_entry, to_run, atomic_count, run
 use Rattle.law_bytes.specs.Parts.{row}
 use Rattle.law_base.proofs.Tests.{clash}
 use Rattle.model_records.specs.Values.{components_in, phases_in, model_in}
+use Rattle.model_records.proofs.Counting.{counted}
 use Rattle.clock.specs.Times.{latest}
 use Rattle.clock.specs.After.{due_after}
 use Rattle.clock.proofs.Laws.{after-tested}
@@ -149,6 +151,10 @@ tested_at components phases s c k first opening own e due r p q o h f d t =
 pub atomic-said : (cs : List Component) (c : ℕ) (own : Component) → own ≡ component_at cs c → eqb own.kind 1 ≡ is_atomic cs c
 unfolding is_atomic
 atomic-said cs c own e = ap (λ (k : Component). eqb k.kind 1) e
+
+-- One more where it is an atomic, as the code counts.
+pub atomic-counted : (cs : List Component) (c : ℕ) (own : Component) (n : ℕ) → own ≡ component_at cs c → n ≡ bool_byte (eqb own.kind 1) → n ≡ cond (is_atomic cs c) 1 0
+atomic-counted cs c own n e h = h ∙ ap bool_byte (atomic-said cs c own e) ∙ counted (is_atomic cs c)
 
 -- ---- the whole test
 

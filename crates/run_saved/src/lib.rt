@@ -57,11 +57,9 @@ pub fn load(run: &[u8], n: usize, state: &mut [u64; STATE_SIZE])
     ensures { Loaded run.now n (held_in state.new) }
 {
     run_state::whole(state);
-    let mut i: usize = 0;
-    while i < n {
+    for i in 0..n {
         let e = entry_at(run, i);
         run_state::put_at(state, i, e.phase, e.last);
-        i = i + 1;
     }
 }
 
@@ -72,7 +70,7 @@ fn entry_due(phases: &[u8], first: usize, e: Entry) -> Due
     requires { first ≤ 65535 }
     ensures { time_of result ≡ due_after e.last.0 (get_or (phases_in phases.now) (first + e.phase) no_phase).advance }
 {
-    let phase = model_records::phase_at(phases, first + widen::u8_to_usize(e.phase));
+    let phase = model_records::phase_at(phases, first + e.phase as usize);
     clock::due_after(e.last, phase.advance)
 }
 
@@ -94,8 +92,7 @@ fn entries_fit(components: &[u8], phases: &[u8], run: &[u8]) -> bool
     let n = component_count(components);
     let mut k: usize = 0;
     let mut first: usize = 0;
-    let mut c: usize = 0;
-    while c < n {
+    for c in 0..n {
         let own = component_at(components, c);
         let e = entry_at(run, k);
         let fit = entry_fits(own, entry_due(phases, first, e), e, opening);
@@ -103,9 +100,8 @@ fn entries_fit(components: &[u8], phases: &[u8], run: &[u8]) -> bool
         if atomic & !fit {
             return false;
         }
-        k = k + widen::bool_to_usize(atomic);
-        first = first + widen::u8_to_usize(own.phases);
-        c = c + 1;
+        k += usize::from(atomic);
+        first += own.phases as usize;
     }
     true
 }
@@ -118,7 +114,7 @@ pub fn fits(components: &[u8], phases: &[u8], run: &[u8]) -> bool
     let n = model_records::atomic_count(components);
     let opening = opening_of(run);
     let long = RUN_HEAD_SIZE + RUN_ENTRY_SIZE * n <= run.len();
-    let counted = widen::u16_to_usize(little_endian::u16_at(run, RUN_COUNT_AT)) == n;
+    let counted = little_endian::u16_at(run, RUN_COUNT_AT) as usize == n;
     let in_time = opening.0 <= LATEST_OPENING;
     long & counted & in_time & entries_fit(components, phases, run)
 }
@@ -131,7 +127,7 @@ fn put_entry(run: &mut [u8], state: &[u64; STATE_SIZE], i: usize)
 {
     let at = RUN_HEAD_SIZE + RUN_ENTRY_SIZE * i;
     let since = run_state::last_at(state, i);
-    little_endian::put_number(run, at, 1, widen::u8_to_u64(run_state::phase_at(state, i)));
+    little_endian::put_number(run, at, 1, run_state::phase_at(state, i) as u64);
     little_endian::put_number(run, at + 1, 8, since.0);
 }
 
@@ -139,10 +135,8 @@ fn put_entries(run: &mut [u8], n: usize, state: &[u64; STATE_SIZE])
     requires { (n ≤ max_components) × (run_length n ≤ length run.old) }
     ensures { run.new ≡ sets run.old (run_length 0) (entry_rows (held_in state.now) 0 n) }
 {
-    let mut i: usize = 0;
-    while i < n {
+    for i in 0..n {
         put_entry(run, state, i);
-        i = i + 1;
     }
 }
 
@@ -166,11 +160,9 @@ pub fn start_state(components: &[u8], state: &mut [u64; STATE_SIZE])
     run_state::whole(state);
     let n = component_count(components);
     let mut k: usize = 0;
-    let mut c: usize = 0;
-    while c < n {
+    for c in 0..n {
         let own = component_at(components, c);
         run_state::put_at(state, k, own.initial, Moment(0));
-        k = k + widen::bool_to_usize(own.kind == 1);
-        c = c + 1;
+        k += usize::from(own.kind == 1);
     }
 }

@@ -10,7 +10,6 @@ ghost use Rattle.run_state.specs.Held.{state_size, last_at, told_at, held_in, ru
 
 use clock::Moment;
 use limits::{MAX_COMPONENTS, NO_POSITION};
-use widen::{u8_to_u64, u16_to_u64};
 
 const LAST_AT: usize = MAX_COMPONENTS;
 
@@ -120,7 +119,7 @@ pub fn next_due(state: &[u64; STATE_SIZE]) -> u64
 fn packed(phase: u8, rule: u16) -> u64
     ensures { result ≡ phase + 256 * rule }
 {
-    u8_to_u64(phase) + PHASE_VALUES * u16_to_u64(rule)
+    phase as u64 + PHASE_VALUES * rule as u64
 }
 
 // Phase, rule and last moment of a position.

@@ -14,7 +14,6 @@ use limits::{
     RULE_SIZE, RUN_ENTRY_SIZE, RUN_HEAD_SIZE,
 };
 use little_endian::{byte_at, front, rest, u16_at, u64_at};
-use widen::{u8_to_u64, u16_to_u64, u16_to_usize};
 
 // The run of the largest model: 63 atomics.
 const RUN_ROOM: usize = RUN_HEAD_SIZE + RUN_ENTRY_SIZE * (MAX_COMPONENTS - 1);
@@ -89,11 +88,9 @@ fn put_field(out: &mut [u8], at: usize, n: u64, after: u8) -> usize
 fn put_text(out: &mut [u8], at: usize, text: &[u8]) -> usize
     ensures { (out.new, result) ≡ put text.now (out.old, at) }
 {
-    let mut k: usize = 0;
     let mut to = at;
-    while k < text.len() {
+    for k in 0..text.len() {
         to = put_byte(out, to, text[k]);
-        k = k + 1;
     }
     to
 }
@@ -103,20 +100,18 @@ fn put_message(out: &mut [u8], at: usize, moment: u64, step: u16, row: &[u8]) ->
     ensures { (out.new, result) ≡ put (message_line moment step row.now) (out.old, at) }
 {
     let a = put_field(out, at, moment, b' ');
-    let b = put_field(out, a, u16_to_u64(step), b' ');
-    let c = put_field(out, b, u8_to_u64(byte_at(row, 0)), b' ');
-    put_field(out, c, u16_to_u64(u16_at(row, 1)), b'\n')
+    let b = put_field(out, a, step as u64, b' ');
+    let c = put_field(out, b, byte_at(row, 0) as u64, b' ');
+    put_field(out, c, u16_at(row, 1) as u64, b'\n')
 }
 
 fn put_messages(out: &mut [u8], at: usize, moment: u64, step: u16, count: u16, rows: &[u8]) -> usize
     ensures { (out.new, result) ≡ put (message_lines count moment step rows.now) (out.old, at) }
 {
-    let n = u16_to_usize(count);
-    let mut k: usize = 0;
+    let n = count as usize;
     let mut to = at;
-    while k < n {
+    for k in 0..n {
         to = put_message(out, to, moment, step, rest(rows, MESSAGE_SIZE * k));
-        k = k + 1;
     }
     to
 }
@@ -138,17 +133,15 @@ fn put_record(out: &mut [u8], at: usize, trace: &[u8]) -> usize
 fn put_trace(out: &mut [u8], at: usize, trace: &[u8]) -> usize
     ensures { (out.new, result) ≡ put (trace_lines trace.now) (out.old, at) }
 {
-    let mut turns = trace.len();
     let mut from: usize = 0;
     let mut to = at;
-    while 0 < turns {
+    for _ in 0..trace.len() {
         if trace.len() <= from {
             return to;
         }
         let here = rest(trace, from);
         to = put_record(out, to, here);
-        from = from + (RECORD_HEAD + MESSAGE_SIZE * u16_to_usize(u16_at(here, RECORD_COUNT_AT)));
-        turns = turns - 1;
+        from += (RECORD_HEAD + MESSAGE_SIZE * u16_at(here, RECORD_COUNT_AT) as usize);
     }
     to
 }

@@ -5,9 +5,9 @@ use mathlib.Core.List.{List, [], map}
 use mathlib.Core.Bool.{Bool, true, false, ◌&&◌, not, true≢false, and-false}
 use Prim.Native.Nat.{ℕ, zero, suc, ◌+◌, ◌-◌, ◌*◌, ◌/◌, ◌%◌, ◌≤◌, ◌<◌}
 use native.Mathlib.Omega.{arith}
-use lib.Dec.{ltb, eqb}
+use lib.Dec.{eqb}
 use lib.ListN.{get_or, length}
-use borrow.Author.Tests.{ltb-true, ltb-false, lt-ltb, le-ltb, eqb-false, ne_eqb, eq-eqb}
+use borrow.Author.Tests.{lt-ltb, le-ltb, eqb-false, ne_eqb, eq-eqb}
 use Rattle.definition.specs.Limits.{max_components, max_couplings, port_count}
 use Rattle.definition.specs.Bytes.{Bytes}
 use Rattle.definition.specs.Engine.{to_bag}
@@ -30,69 +30,57 @@ pub rows-first : (t : List ℕ) (x : ℕ) → chain_rows t x ≡ rows_from t max
 unfolding chain_rows
 rows-first t x = refl
 
--- Both numbers of the loop's test.
-pub both_left : (a b : ℕ) → (ltb 0 a && ltb 0 b) ≡ true → (0 < a) × (0 < b)
-both_left a b h = go (ltb 0 a) refl (ltb 0 b) refl h
-  where
-    go : (x : Bool) → ltb 0 a ≡ x → (y : Bool) → ltb 0 b ≡ y → (x && y) ≡ true → (0 < a) × (0 < b)
-    go true e true f k = (ltb-true 0 a e, ltb-true 0 b f)
-    go true e false f k = absurd (true≢false (sym k))
-    go false e y f k = absurd (true≢false (sym k))
-
-pub some_left : (a b : ℕ) → (ltb 0 a && ltb 0 b) ≡ true → 0 < a
-some_left a b h = (both_left a b h).0
-
-chain_more : (F : ℕ → List ℕ) (t : List ℕ) (port left link : ℕ) (st : List ℕ × ℕ) → (ltb 0 left && ltb 0 link) ≡ true
-    → puts port (joined F (rows_from t (left - 1) (get_or t (next_at + link) 0))) (puts port (F (get_or t (source_at + link) 0)) st)
-    ≡ puts port (joined F (rows_from t left link)) st
+-- one coupling more, after i of n at most
+chain_more : (F : ℕ → List ℕ) (t : List ℕ) (port n i link : ℕ) (st : List ℕ × ℕ) → i < n → (link ≡ 0 → ⊥)
+    → puts port (joined F (rows_from t (n - (i + 1)) (get_or t (next_at + link) 0))) (puts port (F (get_or t (source_at + link) 0)) st)
+    ≡ puts port (joined F (rows_from t (n - i) link)) st
 unfolding joined links
-chain_more F t port zero link st h = absurd (omega (arith, (both_left 0 link h).0))
-chain_more F t port (suc n) link st h =
-    let e : suc n - 1 ≡ n = omega arith in
-    rw (e, ne_eqb link 0 (λ z. omega (arith, (both_left (suc n) link h).1)), puts-append)
+chain_more F t port n i link st h some =
+    let e : n - i ≡ suc (n - (i + 1)) = omega arith in
+    rw (e, ne_eqb link 0 some, puts-append)
 
-chain-end : (F : ℕ → List ℕ) (t : List ℕ) (port left link : ℕ) (st : List ℕ × ℕ) → (ltb 0 left && ltb 0 link) ≡ false
-    → puts port (joined F (rows_from t left link)) st ≡ st
+-- none left
+chain_none : (F : ℕ → List ℕ) (t : List ℕ) (port left link : ℕ) (st : List ℕ × ℕ) → link ≡ 0 → puts port (joined F (rows_from t left link)) st ≡ st
 unfolding joined links
-chain-end F t port zero link st h = puts_none port st
-chain-end F t port (suc n) link st h = go (ltb 0 link) refl h
-  where
-    go : (b : Bool) → ltb 0 link ≡ b → (ltb 0 (suc n) && b) ≡ false
-        → puts port (joined F (rows_from t (suc n) link)) st ≡ st
-    go true e k = absurd (true≢false (sym (rw (lt-ltb 0 (suc n) (omega arith))) ∙ k))
-    go false e k = rw (eq-eqb link 0 (omega (arith, ltb-false 0 link e))) (puts_none port st)
+chain_none F t port zero link st z = puts_none port st
+chain_none F t port (suc n) link st z = rw (eq-eqb link 0 z) (puts_none port st)
 
--- A turn of the loop over a node's couplings: what is put so far and what the rest of the chain gives is the whole.
-pub record Turn (F : ℕ → List ℕ) (t : List ℕ) (port : ℕ) (first : List ℕ) (whole : List ℕ × ℕ) (buf : List ℕ) (next left link : ℕ) : Type 0 where
-  pub left_most : left ≤ max_couplings
+chain-end : (F : ℕ → List ℕ) (t : List ℕ) (port n i link : ℕ) (st : List ℕ × ℕ) → n ≤ i → puts port (joined F (rows_from t (n - i) link)) st ≡ st
+unfolding joined links
+chain-end F t port n i link st h = let e : n - i ≡ 0 = omega arith in rw e (puts_none port st)
+
+-- A turn of the loop over a node's couplings, after i of them: what is put so far and what the rest of the chain gives is the whole.
+pub record Turn (F : ℕ → List ℕ) (t : List ℕ) (port : ℕ) (first : List ℕ) (whole : List ℕ × ℕ) (buf : List ℕ) (next i link : ℕ) : Type 0 where
   pub link_most : link ≤ max_couplings
   pub same_size : length buf ≡ length first
-  pub rest : puts port (joined F (rows_from t left link)) (buf, next) ≡ whole
+  pub rest : puts port (joined F (rows_from t (max_couplings - i) link)) (buf, next) ≡ whole
 
 pub turn-first : {F : ℕ → List ℕ} {t : List ℕ} {all buf : List ℕ} {port end link : ℕ} (x : ℕ) → InRange t → x < max_nodes
     → joined F (rows_from t max_couplings (get_or t (first_at + x) 0)) ≡ all → link ≡ get_or t (first_at + x) 0
-    → Turn F t port buf (puts port all (buf, end)) buf end max_couplings link
+    → Turn F t port buf (puts port all (buf, end)) buf end 0 link
 turn-first {all = all} {buf = buf} {port = port} {end = end} x r h k e = record {
-  left_most = omega arith;
   link_most = rw e (r.firsts x h);
   same_size = refl;
   rest = rw e (ap (λ l. puts port l (buf, end)) k);
 }
 
-module _ {F : ℕ → List ℕ} {t first buf : List ℕ} {whole : List ℕ × ℕ} {port next left link : ℕ} (turn : Turn F t port first whole buf next left link) where
+module _ {F : ℕ → List ℕ} {t first buf : List ℕ} {whole : List ℕ × ℕ} {port next i link : ℕ} (turn : Turn F t port first whole buf next i link) where
   -- one coupling more
-  pub turn_more : {buf' : List ℕ} {next' source link' : ℕ} → InRange t → (ltb 0 left && ltb 0 link) ≡ true → length buf' ≡ length buf
+  pub turn_more : {buf' : List ℕ} {next' source link' : ℕ} → InRange t → i < max_couplings → (link ≡ 0 → ⊥) → length buf' ≡ length buf
       → (buf', next') ≡ puts port (F source) (buf, next) → source ≡ get_or t (source_at + link) 0 → link' ≡ get_or t (next_at + link) 0
-      → Turn F t port first whole buf' next' (left - 1) link'
-  turn_more r h size put from to = record {
-    left_most = omega (arith, turn.left_most);
+      → Turn F t port first whole buf' next' (i + 1) link'
+  turn_more r h some size put from to = record {
     link_most = rw to (r.nexts link turn.link_most);
     same_size = size ∙ turn.same_size;
-    rest = rw (put, from, to) (chain_more F t port left link (buf, next) h ∙ turn.rest);
+    rest = rw (put, from, to) (chain_more F t port max_couplings i link (buf, next) h some ∙ turn.rest);
   }
 
-  pub turn_end : (ltb 0 left && ltb 0 link) ≡ false → (buf, next) ≡ whole
-  turn_end h = sym (chain-end F t port left link (buf, next) h) ∙ turn.rest
+  -- none left
+  pub turn_none : link ≡ 0 → (buf, next) ≡ whole
+  turn_none z = sym (chain_none F t port (max_couplings - i) link (buf, next) z) ∙ turn.rest
+
+  pub turn_end : max_couplings ≤ i → (buf, next) ≡ whole
+  turn_end h = sym (chain-end F t port max_couplings i link (buf, next) h) ∙ turn.rest
 
 -- ---- open and shut
 

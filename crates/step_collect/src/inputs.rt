@@ -31,9 +31,11 @@ pub fn collect_input(
         return end;
     }
     let mut next = end;
-    let mut left = MAX_COUPLINGS;
     let mut link = first_link(tables, target);
-    while (0 < left) & (0 < link) {
+    for _ in 0..MAX_COUPLINGS {
+        if link == 0 {
+            return next;
+        }
         let source = source_of(tables, link);
         next = collect_source(
             phases,
@@ -47,7 +49,6 @@ pub fn collect_input(
             next,
         );
         link = next_link(tables, link);
-        left = left - 1;
     }
     next
 }

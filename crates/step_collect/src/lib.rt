@@ -22,7 +22,6 @@ use step_keys::put_given;
 use table_words::{
     FIRST_AT, FLAGS_SIZE, LIVE_AT, NEXT_AT, SOURCE_AT, TABLE_SIZE, mark_at, reach_at, word_in,
 };
-use widen::{u16_to_u32, u16_to_usize, u32_to_usize};
 
 const PORTS: u32 = 4;
 
@@ -39,7 +38,7 @@ fn port_of(node: u32) -> u8
 pub fn input_node(c: u16, q: u8) -> u32
     ensures { result ≡ input_node c q }
 {
-    PORT_NODES * u16_to_u32(c) + q as u32
+    PORT_NODES * c as u32 + q as u32
 }
 
 fn root_output(q: u8) -> u32
@@ -53,21 +52,21 @@ pub fn first_link(tables: &[u16; TABLE_SIZE], target: u32) -> u16
     requires { target < max_nodes }
     ensures { result ≡ get_or tables.now (first_at + target) 0 }
 {
-    word_in(tables, FIRST_AT + u32_to_usize(target))
+    word_in(tables, FIRST_AT + target as usize)
 }
 
 pub fn next_link(tables: &[u16; TABLE_SIZE], link: u16) -> u16
     requires { link ≤ max_couplings }
     ensures { result ≡ get_or tables.now (next_at + link) 0 }
 {
-    word_in(tables, NEXT_AT + u16_to_usize(link))
+    word_in(tables, NEXT_AT + link as usize)
 }
 
 pub fn source_of(tables: &[u16; TABLE_SIZE], link: u16) -> u32
     requires { link ≤ max_couplings }
     ensures { result ≡ get_or tables.now (source_at + link) 0 }
 {
-    u16_to_u32(word_in(tables, SOURCE_AT + u16_to_usize(link)))
+    word_in(tables, SOURCE_AT + link as usize) as u32
 }
 
 // Something may come from a node in this step.
@@ -75,7 +74,7 @@ pub fn may_come(flags: &[u32; FLAGS_SIZE], source: u32) -> bool
     requires { source < max_nodes }
     ensures { result ≡ comes_from flags.now source }
 {
-    let c = u32_to_usize(source / PORT_NODES);
+    let c = (source / PORT_NODES) as usize;
     if source % PORT_NODES < PORTS {
         reach_at(flags, c) != 0
     } else {
@@ -87,7 +86,7 @@ fn is_open(tables: &[u16; TABLE_SIZE], flags: &[u32; FLAGS_SIZE], node: u32) -> 
     requires { node < max_nodes }
     ensures { result ≡ open_in tables.now flags.now node }
 {
-    (word_in(tables, LIVE_AT + u32_to_usize(node)) != 0) & may_come(flags, node)
+    (word_in(tables, LIVE_AT + node as usize) != 0) & may_come(flags, node)
 }
 
 // ---- one port
@@ -160,15 +159,13 @@ pub fn collect_bag(
     ensures { (buf.new, result)
         ≡ bag_put phases.now tables.now flags.now given.now c buf.old }
 {
-    if (c != 0) & (reach_at(flags, u16_to_usize(c)) == 0) {
+    if (c != 0) & (reach_at(flags, c as usize) == 0) {
         return 0;
     }
     let mut end: usize = 0;
-    let mut q: u8 = 0;
-    while q < PORT_COUNT {
+    for q in 0..PORT_COUNT {
         let target = input_node(c, q);
         end = collect_arriving(phases, tables, flags, given, q, target, buf, end);
-        q = q + 1;
     }
     end
 }
@@ -184,11 +181,9 @@ pub fn collect_root(
     ensures { (buf.new, result) ≡ root_put phases.now tables.now flags.now buf.old }
 {
     let mut end: usize = 0;
-    let mut q: u8 = 0;
-    while q < PORT_COUNT {
+    for q in 0..PORT_COUNT {
         let target = root_output(q);
         end = collect_leaving(phases, tables, flags, q, target, buf, end);
-        q = q + 1;
     }
     end
 }

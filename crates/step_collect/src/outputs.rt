@@ -9,14 +9,13 @@ use super::{PORT_NODES, first_link, is_open, next_link, port_of, source_of};
 use limits::MAX_COUPLINGS;
 use step_keys::put_sent;
 use table_words::{FLAGS_SIZE, KINDS_AT, TABLE_SIZE, mark_at, word_in};
-use widen::u32_to_usize;
 
 // The component of a node is an atomic.
 pub fn is_atomic(tables: &[u16; TABLE_SIZE], node: u32) -> bool
     requires { node < max_nodes }
     ensures { result ≡ atomic_node tables.now node }
 {
-    word_in(tables, KINDS_AT + u32_to_usize(node / PORT_NODES)) == 1
+    word_in(tables, KINDS_AT + (node / PORT_NODES) as usize) == 1
 }
 
 // What the atomic of an output node puts out there.
@@ -31,7 +30,7 @@ pub fn put_output(
     requires { source < max_nodes }
     ensures { (buf.new, result) ≡ puts port (sent_from phases.now flags.now source) (buf.old, end) }
 {
-    let mark = mark_at(flags, u32_to_usize(source / PORT_NODES));
+    let mark = mark_at(flags, (source / PORT_NODES) as usize);
     put_sent(phases, mark, port_of(source), port, buf, end)
 }
 
@@ -55,13 +54,14 @@ pub fn collect_coupled(
         return end;
     }
     let mut next = end;
-    let mut left = MAX_COUPLINGS;
     let mut link = first_link(tables, target);
-    while (0 < left) & (0 < link) {
+    for _ in 0..MAX_COUPLINGS {
+        if link == 0 {
+            return next;
+        }
         let source = source_of(tables, link);
         next = collect_child(phases, tables, flags, depth - 1, port, source, buf, next);
         link = next_link(tables, link);
-        left = left - 1;
     }
     next
 }

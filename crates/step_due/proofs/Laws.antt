@@ -1,17 +1,16 @@
 -- Carried due moments as the loops meet them: one position more, and the least over a chain of children. Assumes nothing.
 use mathlib.Core.Path.{◌≡◌, refl, sym, ap, ap₂, ◌∙◌}
 use mathlib.Core.List.{List, [], ◌∷◌}
-use mathlib.Core.Bool.{Bool, true, false, ◌&&◌, true≢false}
+use mathlib.Core.Bool.{Bool, true, false}
 use Prim.Native.Nat.{ℕ, zero, suc, ◌+◌, ◌-◌, ◌<◌, ◌≤◌, min}
 use native.Mathlib.Omega.{arith}
-use lib.Dec.{ltb, eqb}
+use lib.Dec.{eqb}
 use lib.ListN.{length, get_or, set}
 use lib.Seq.{get_or-set_same}
-use borrow.Author.Tests.{ltb-true, ltb-false, lt-ltb, ne_eqb, eq-eqb, eqb-true, eqb-false}
+use borrow.Author.Tests.{ne_eqb, eq-eqb, eqb-true, eqb-false}
 use Rattle.definition.specs.Limits.{max_components, never_moment}
 use Rattle.definition.specs.Model.{Phase}
 use Rattle.definition.specs.Engine.{due_number}
-use Rattle.law_base.proofs.Tests.{and_left, and_right}
 use Rattle.run_state.specs.declared.State.{State}
 use Rattle.spec_step.specs.Tables.{links, numbers_at, child_at, sibling_at, positions_at, child_rows, atomic_at}
 use Rattle.spec_step.specs.TableStep.{due_in, due_at_position}
@@ -42,24 +41,21 @@ module _ (t : List ℕ) where
   abbrev pub children_from : ℕ → ℕ → List ℕ
   children_from left d = links (λ k. get_or t (sibling_at + k) 0) left d
 
-  -- one child more
-  pub least_more : (f : ℕ → ℕ) (left d u : ℕ) → (ltb 0 left && ltb 0 d) ≡ true
-      → min (min u (f d)) (least_end f (children_from (left - 1) (get_or t (sibling_at + d) 0))) ≡ min u (least_end f (children_from left d))
+  -- one child more, after i of n at most
+  pub least_more : (f : ℕ → ℕ) (n i d u : ℕ) → i < n → (d ≡ 0 → ⊥)
+      → min (min u (f d)) (least_end f (children_from (n - (i + 1)) (get_or t (sibling_at + d) 0))) ≡ min u (least_end f (children_from (n - i) d))
   unfolding least_end links
-  least_more f zero d u h = absurd (omega (arith, ltb-true 0 0 (and_left (ltb 0 0) (ltb 0 d) h)))
-  least_more f (suc n) d u h =
-      let e : suc n - 1 ≡ n = omega arith in
-      rw (e, ne_eqb d 0 (λ z. omega (arith, ltb-true 0 d (and_right (ltb 0 (suc n)) (ltb 0 d) h)))) (omega arith)
+  least_more f n i d u h some = let e : n - i ≡ suc (n - (i + 1)) = omega arith in rw (e, ne_eqb d 0 some) (omega arith)
 
   -- none left
-  pub least-end : (f : ℕ → ℕ) (left d u : ℕ) → u ≤ never_moment → (ltb 0 left && ltb 0 d) ≡ false → u ≡ min u (least_end f (children_from left d))
+  pub least_none : (f : ℕ → ℕ) (left d u : ℕ) → u ≤ never_moment → d ≡ 0 → u ≡ min u (least_end f (children_from left d))
   unfolding least_end links
-  least-end f zero d u l h = omega arith
-  least-end f (suc n) d u l h = go (ltb 0 d) refl h
-    where
-      go : (b : Bool) → ltb 0 d ≡ b → (ltb 0 (suc n) && b) ≡ false → u ≡ min u (least_end f (children_from (suc n) d))
-      go true e k = absurd (true≢false (sym (rw (lt-ltb 0 (suc n) (omega arith))) ∙ k))
-      go false e k = rw (eq-eqb d 0 (omega (arith, ltb-false 0 d e))) (omega arith)
+  least_none f zero d u l z = omega arith
+  least_none f (suc n) d u l z = rw (eq-eqb d 0 z) (omega arith)
+
+  pub least-end : (f : ℕ → ℕ) (n i d u : ℕ) → u ≤ never_moment → n ≤ i → u ≡ min u (least_end f (children_from (n - i) d))
+  unfolding least_end links
+  least-end f n i d u l h = let e : n - i ≡ 0 = omega arith in rw e (omega arith)
 
   -- the two cases of a component
   pub end-atomic : (ends : List ℕ) (c : ℕ) → atomic_at t c ≡ true → get_or ends (get_or t (positions_at + c) 0) 0 ≡ end_below t ends max_components c

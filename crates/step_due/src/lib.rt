@@ -19,14 +19,13 @@ use run_state::STATE_SIZE;
 use table_words::{
     CHILD_AT, KINDS_AT, NUMBERS_AT, PHASES_AT, POSITIONS_AT, SIBLING_AT, TABLE_SIZE, row_in,
 };
-use widen::{u8_to_usize, u16_to_usize};
 
 // The number of the record of phase p of component c.
 pub fn record_of(tables: &[u16; TABLE_SIZE], c: u16, p: u8) -> usize
     requires { c < max_components }
     ensures { result ≡ record_of tables.now c p }
 {
-    u16_to_usize(row_in(tables, PHASES_AT, c)) + u8_to_usize(p)
+    row_in(tables, PHASES_AT, c) as usize + p as usize
 }
 
 pub fn phase_in(phases: &[u8], tables: &[u16; TABLE_SIZE], c: u16, p: u8) -> Phase
@@ -61,7 +60,7 @@ pub fn put_end(
     ensures { EndPut state.old state.new i
         (end_for phases.now tables.now c p (get_or (held_in state.old).last i 0)) }
 {
-    let position = u8_to_usize(i);
+    let position = i as usize;
     let since = run_state::last_at(state, position);
     run_state::put_end(state, position, end_since(phases, tables, c, p, since));
 }
@@ -72,12 +71,10 @@ pub fn put_ends(phases: &[u8], tables: &[u16; TABLE_SIZE], n: u8, state: &mut [u
     ensures { (held_in state.new ≡ held_in state.old) × CarriedIn phases.now tables.now n state.new }
 {
     run_state::whole(state);
-    let mut i: u8 = 0;
-    while i < n {
+    for i in 0..n {
         let c = row_in(tables, NUMBERS_AT, i as u16);
-        let p = run_state::phase_at(state, u8_to_usize(i));
+        let p = run_state::phase_at(state, i as usize);
         put_end(phases, tables, c, p, state, i);
-        i = i + 1;
     }
 }
 
@@ -101,7 +98,7 @@ fn end_of(tables: &[u16; TABLE_SIZE], state: &[u64; STATE_SIZE], c: u16) -> u64
     requires { (c < max_components) × InRange tables.now }
     ensures { result ≡ get_or (ends_in state.now) (get_or tables.now (positions_at + c) 0) 0 }
 {
-    run_state::end_at(state, u16_to_usize(row_in(tables, POSITIONS_AT, c)))
+    run_state::end_at(state, row_in(tables, POSITIONS_AT, c) as usize)
 }
 
 // "A coupled component's earliest due moment is the least among its children": children are numbered above their parent, so the remaining
@@ -114,16 +111,17 @@ fn end_below(tables: &[u16; TABLE_SIZE], state: &[u64; STATE_SIZE], c: u16) -> u
         return end_of(tables, state, c);
     }
     let mut least = NEVER_MOMENT;
-    let mut left = MAX_COMPONENTS;
     let mut d = row_in(tables, CHILD_AT, c);
-    while (0 < left) & (0 < d) {
+    for _ in 0..MAX_COMPONENTS {
+        if d == 0 {
+            return least;
+        }
         if is_atomic(tables, d) {
             least = lesser(least, end_of(tables, state, d));
         } else {
             least = lesser(least, end_below(tables, state, d));
         }
         d = row_in(tables, SIBLING_AT, d);
-        left = left - 1;
     }
     least
 }

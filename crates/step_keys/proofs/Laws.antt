@@ -44,12 +44,11 @@ values_one q x xs = go (eqb q x.port)
 pub record Turn (top : ℕ) (xs : Bag) (q port : ℕ) (first : List ℕ) (at : ℕ) (buf : List ℕ) (next n i : ℕ) : Type 0 where
   pub count : n ≡ length xs
   pub few : n ≤ top
-  pub most : i ≤ n
   pub same_size : length buf ≡ length first
   pub rest : puts port (values_on q (drop i xs)) (buf, next) ≡ puts port (values_on q xs) (first, at)
 
 pub turn-first : {top : ℕ} {xs : Bag} {q port at n : ℕ} {buf : List ℕ} → n ≡ length xs → n ≤ top → Turn top xs q port buf at buf at n 0
-turn-first e h = record { count = e; few = h; most = omega arith; same_size = refl; rest = refl }
+turn-first e h = record { count = e; few = h; same_size = refl; rest = refl }
 
 module _ {top : ℕ} {xs : Bag} {q port at next n i : ℕ} {first buf : List ℕ} (turn : Turn top xs q port first at buf next n i) where
   -- one message more
@@ -60,10 +59,10 @@ module _ {top : ℕ} {xs : Bag} {q port at next n i : ℕ} {first buf : List ℕ
       let there : i < length xs = omega (arith, turn.count) in
       let more : puts port (values_on q (drop (i + 1) xs)) (puts port (wanted_value (eqb q x.port) x.value) (buf, next)) ≡ puts port (values_on q (drop i xs)) (buf, next) =
       rw (add-one i, drop-cons xs i no_message there, e there, values_one, puts-append) in
-      record { count = turn.count; few = turn.few; most = omega arith; same_size = size ∙ turn.same_size; rest = rw (put, own, value) (more ∙ turn.rest) }
+      record { count = turn.count; few = turn.few; same_size = size ∙ turn.same_size; rest = rw (put, own, value) (more ∙ turn.rest) }
 
-  pub turn_end : n ≤ i → (buf, next) ≡ puts port (values_on q xs) (first, at)
-  turn_end h = sym (none (omega (arith, turn.count, turn.most))) ∙ turn.rest
+  pub turn_end : i ≡ n → (buf, next) ≡ puts port (values_on q xs) (first, at)
+  turn_end h = sym (none (h ∙ turn.count)) ∙ turn.rest
     where
       none : i ≡ length xs → puts port (values_on q (drop i xs)) (buf, next) ≡ (buf, next)
       none e = unfold values_on puts in rw (e, drop-length)

@@ -11,7 +11,6 @@ ghost use Rattle.spec_step.specs.Put.{put1, puts, values_on};
 ghost use Rattle.step_keys.specs.Sent.{sent_on, wanted_value};
 
 use limits::{MESSAGE_SIZE, PHASE_SIZE};
-use widen::u8_to_usize;
 
 // A phase record: advance (4), next phase (1), output count (1), and four slots, each a message.
 const COUNT_AT: usize = 5;
@@ -47,7 +46,7 @@ fn put_wanted(wanted: bool, value: u16, own: u8, buf: &mut [u32], at: usize) -> 
 fn used_slots(phase: &[u8]) -> usize
     ensures { result ≡ length (outputs (to_phase phase.now)) }
 {
-    let count = u8_to_usize(little_endian::byte_at(phase, COUNT_AT));
+    let count = little_endian::byte_at(phase, COUNT_AT) as usize;
     if count < SLOTS { count } else { SLOTS }
 }
 
@@ -57,13 +56,11 @@ fn put_slots(phase: &[u8], q: u8, own: u8, buf: &mut [u32], at: usize) -> usize
 {
     let n = used_slots(phase);
     let mut next = at;
-    let mut j: usize = 0;
-    while j < n {
+    for j in 0..n {
         let slot = SLOTS_AT + MESSAGE_SIZE * j;
         let port = little_endian::byte_at(phase, slot);
         let value = little_endian::u16_at(phase, slot + 1);
         next = put_wanted(q == port, value, own, buf, next);
-        j = j + 1;
     }
     next
 }
@@ -90,12 +87,10 @@ pub fn put_given(given: &[u8], q: u8, own: u8, buf: &mut [u32], at: usize) -> us
 {
     let n = given.len() / MESSAGE_SIZE;
     let mut next = at;
-    let mut i: usize = 0;
-    while i < n {
+    for i in 0..n {
         let port = little_endian::byte_at(given, MESSAGE_SIZE * i);
         let value = little_endian::u16_at(given, MESSAGE_SIZE * i + 1);
         next = put_wanted(q == port, value, own, buf, next);
-        i = i + 1;
     }
     next
 }

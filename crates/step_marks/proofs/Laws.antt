@@ -1,12 +1,13 @@
 -- Marks and flags as the loops meet them: one atomic, one component, one coupling more. Assumes nothing.
-use mathlib.Core.Path.{◌≡◌, refl, sym, ◌∙◌}
+use mathlib.Core.Path.{◌≡◌, refl, ◌∙◌}
 use mathlib.Core.List.{List, [], ◌∷◌, map}
-use mathlib.Core.Bool.{Bool, true, false, ◌&&◌, ◌||◌, not, cond, true≢false}
+use mathlib.Core.Bool.{Bool, true, false, ◌||◌, not, cond}
 use Prim.Native.Nat.{ℕ, zero, suc, ◌+◌, ◌-◌, ◌/◌, ◌≤◌, ◌<◌}
 use native.Mathlib.Omega.{arith}
-use lib.Dec.{leb, ltb, eqb}
+use lib.Dec.{leb, eqb}
 use lib.ListN.{get_or, set, length}
-use borrow.Author.Tests.{le-leb, lt-leb, leb-true, leb-false, lt-ltb, ltb-false, ne_eqb, eq-eqb}
+use borrow.Author.Tests.{le-leb, lt-leb, leb-true, leb-false, ne_eqb, eq-eqb}
+use mir.Val.{bool_byte}
 use Rattle.definition.specs.Bytes.{Bytes, chunks}
 use Rattle.definition.specs.Lists.{is_empty}
 use Rattle.definition.specs.Limits.{message_size}
@@ -16,7 +17,12 @@ use Rattle.law_routes.specs.Nodes.{input_node}
 use Rattle.spec_step.specs.Tables.{numbers_at, parents_at, source_at, next_at, links, chain_rows}
 use Rattle.spec_step.specs.TableStep.{any_of, is_up, raised, may_come, may_reach, reached_from}
 use Rattle.spec_step.specs.Carried.{end_mark, end_marked}
-use Rattle.step_collect.proofs.Laws.{rows_from, both_left}
+use Rattle.step_collect.proofs.Laws.{rows_from}
+
+-- a truth value as a number
+pub truth : (b : Bool) → bool_byte b ≡ cond b 1 0
+truth true = refl
+truth false = refl
 
 -- ---- marks
 
@@ -44,30 +50,30 @@ raised-none t c es e = rw e
 -- ---- some coupling of a chain
 
 module _ (p : ℕ → Bool) (t : List ℕ) where
-  any_step : (left link : ℕ) → (ltb 0 left && ltb 0 link) ≡ true
-      → any_of p (rows_from t left link) ≡ (p (get_or t (source_at + link) 0) || any_of p (rows_from t (left - 1) (get_or t (next_at + link) 0)))
+  any_step : (n i link : ℕ) → i < n → (link ≡ 0 → ⊥)
+      → any_of p (rows_from t (n - i) link) ≡ (p (get_or t (source_at + link) 0) || any_of p (rows_from t (n - (i + 1)) (get_or t (next_at + link) 0)))
   unfolding any_of links
-  any_step zero link h = absurd (omega (arith, (both_left 0 link h).0))
-  any_step (suc n) link h =
-      let e : suc n - 1 ≡ n = omega arith in
-      let z : eqb link 0 ≡ false = ne_eqb link 0 (λ q. omega (arith, (both_left (suc n) link h).1)) in
-      rw (z, e)
+  any_step n i link h some =
+      let e : n - i ≡ suc (n - (i + 1)) = omega arith in
+      let z : eqb link 0 ≡ false = ne_eqb link 0 some in
+      rw (e, z)
 
-  pub any_here : (left link : ℕ) → (ltb 0 left && ltb 0 link) ≡ true → p (get_or t (source_at + link) 0) ≡ true → true ≡ any_of p (rows_from t left link)
-  any_here left link h e = rw (any_step left link h, e)
+  pub any_here : (n i link : ℕ) → i < n → (link ≡ 0 → ⊥) → p (get_or t (source_at + link) 0) ≡ true → true ≡ any_of p (rows_from t (n - i) link)
+  any_here n i link h some e = rw (any_step n i link h some, e)
 
-  pub any-later : (left link : ℕ) → (ltb 0 left && ltb 0 link) ≡ true → p (get_or t (source_at + link) 0) ≡ false
-      → any_of p (rows_from t (left - 1) (get_or t (next_at + link) 0)) ≡ any_of p (rows_from t left link)
-  any-later left link h e = rw (any_step left link h, e)
+  pub any-later : (n i link : ℕ) → i < n → (link ≡ 0 → ⊥) → p (get_or t (source_at + link) 0) ≡ false
+      → any_of p (rows_from t (n - (i + 1)) (get_or t (next_at + link) 0)) ≡ any_of p (rows_from t (n - i) link)
+  any-later n i link h some e = rw (any_step n i link h some, e)
 
-  pub any-end : (left link : ℕ) → (ltb 0 left && ltb 0 link) ≡ false → false ≡ any_of p (rows_from t left link)
+  -- none left
+  pub any_none : (left link : ℕ) → link ≡ 0 → false ≡ any_of p (rows_from t left link)
   unfolding any_of links
-  any-end zero link h = refl
-  any-end (suc n) link h = go (ltb 0 link) refl h
-    where
-      go : (b : Bool) → ltb 0 link ≡ b → (ltb 0 (suc n) && b) ≡ false → false ≡ any_of p (rows_from t (suc n) link)
-      go true e k = absurd (true≢false (sym (rw (lt-ltb 0 (suc n) (omega arith))) ∙ k))
-      go false e k = rw (eq-eqb link 0 (omega (arith, ltb-false 0 link e)))
+  any_none zero link z = refl
+  any_none (suc n) link z = rw (eq-eqb link 0 z)
+
+  pub any-end : (n i link : ℕ) → n ≤ i → false ≡ any_of p (rows_from t (n - i) link)
+  unfolding any_of links
+  any-end n i link h = let e : n - i ≡ 0 = omega arith in rw e
 
 -- ---- flags
 

@@ -21,7 +21,6 @@ use step_collect::{first_link, input_node, may_come, next_link, source_of};
 use table_words::{
     COUNT_AT, FLAGS_SIZE, NUMBERS_AT, PARENTS_AT, PHASES_AT, TABLE_SIZE, mark_at, row_in, word_in,
 };
-use widen::{bool_to_u32, u8_to_u32, u8_to_usize, u16_to_u32, u16_to_usize};
 
 // ---- marks
 
@@ -30,7 +29,7 @@ fn mark_for(tables: &[u16; TABLE_SIZE], c: u16, p: u8) -> u32
     requires { c < max_components }
     ensures { result ≡ suc (record_of tables.now c p) }
 {
-    u16_to_u32(row_in(tables, PHASES_AT, c)) + u8_to_u32(p) + 1
+    row_in(tables, PHASES_AT, c) as u32 + p as u32 + 1
 }
 
 // The mark of the atomic c at position i.
@@ -38,7 +37,7 @@ fn mark_of(tables: &[u16; TABLE_SIZE], state: &[u64; STATE_SIZE], at: Moment, i:
     requires { (i < max_components) × (c < max_components) }
     ensures { result ≡ end_mark tables.now at.0 (held_in state.now).phase (ends_in state.now) i c }
 {
-    let position = u8_to_usize(i);
+    let position = i as usize;
     if run_state::end_at(state, position) == at.0 {
         mark_for(tables, c, run_state::phase_at(state, position))
     } else {
@@ -51,7 +50,7 @@ fn put_mark(flags: &mut [u32; FLAGS_SIZE], c: u16, mark: u32)
     requires { c < max_components }
     ensures { HasMarked flags.old flags.new (set (marks_in flags.old) c mark) }
 {
-    let at = u16_to_usize(c);
+    let at = c as usize;
     flags[at] = mark;
 }
 
@@ -66,12 +65,10 @@ fn mark_atomics(
     ensures { HasMarked flags.old flags.new
         (end_marked tables.now at.0 (held_in state.now).phase (ends_in state.now) n 0 (marks_in flags.old)) }
 {
-    let mut i: u8 = 0;
-    while i < n {
+    for i in 0..n {
         let c = row_in(tables, NUMBERS_AT, i as u16);
         let mark = mark_of(tables, state, at, i, c);
         put_mark(flags, c, mark);
-        i = i + 1;
     }
 }
 
@@ -80,7 +77,7 @@ fn mark_parent(tables: &[u16; TABLE_SIZE], c: u16, flags: &mut [u32; FLAGS_SIZE]
     requires { ComponentOf tables.now c }
     ensures { HasMarked flags.old flags.new (raised_at tables.now c (marks_in flags.old)) }
 {
-    if mark_at(flags, u16_to_usize(c)) != 0 {
+    if mark_at(flags, c as usize) != 0 {
         put_mark(flags, row_in(tables, PARENTS_AT, c), 1);
     }
 }
@@ -91,13 +88,8 @@ fn mark_parents(tables: &[u16; TABLE_SIZE], flags: &mut [u32; FLAGS_SIZE])
         (raised tables.now (get_or tables.now count_at 0 - 1) (marks_in flags.old)) }
 {
     let count = word_in(tables, COUNT_AT);
-    let mut c: u16 = 0;
-    if 0 < count {
-        c = count - 1;
-    }
-    while 0 < c {
+    for c in (1..count).rev() {
         mark_parent(tables, c, flags);
-        c = c - 1;
     }
 }
 
@@ -107,14 +99,15 @@ fn any_source(tables: &[u16; TABLE_SIZE], flags: &[u32; FLAGS_SIZE], target: u32
     requires { NodeOf tables.now target }
     ensures { result ≡ any_source tables.now flags.now target }
 {
-    let mut left = MAX_COUPLINGS;
     let mut link = first_link(tables, target);
-    while (0 < left) & (0 < link) {
+    for _ in 0..MAX_COUPLINGS {
+        if link == 0 {
+            return false;
+        }
         if may_come(flags, source_of(tables, link)) {
             return true;
         }
         link = next_link(tables, link);
-        left = left - 1;
     }
     false
 }
@@ -123,12 +116,10 @@ fn may_reach(tables: &[u16; TABLE_SIZE], flags: &[u32; FLAGS_SIZE], c: u16) -> b
     requires { ComponentOf tables.now c }
     ensures { result ≡ may_reach tables.now (marks_in flags.now) (reached_in flags.now) c port_count 0 }
 {
-    let mut q: u8 = 0;
-    while q < PORT_COUNT {
+    for q in 0..PORT_COUNT {
         if any_source(tables, flags, input_node(c, q)) {
             return true;
         }
-        q = q + 1;
     }
     false
 }
@@ -138,7 +129,7 @@ fn put_reach(flags: &mut [u32; FLAGS_SIZE], c: u16, up: u32)
     requires { c < max_components }
     ensures { HasReached flags.old flags.new (set (reached_in flags.old) c up) }
 {
-    let at = MAX_COMPONENTS + u16_to_usize(c);
+    let at = MAX_COMPONENTS + c as usize;
     flags[at] = up;
 }
 
@@ -148,11 +139,9 @@ fn flag_components(tables: &[u16; TABLE_SIZE], flags: &mut [u32; FLAGS_SIZE])
         (reached_from tables.now (marks_in flags.old) (get_or tables.now count_at 0 - 1) 1 (reached_in flags.old)) }
 {
     let count = word_in(tables, COUNT_AT);
-    let mut c: u16 = 1;
-    while c < count {
-        let up = bool_to_u32(may_reach(tables, flags, c));
+    for c in 1..count {
+        let up = u32::from(may_reach(tables, flags, c));
         put_reach(flags, c, up);
-        c = c + 1;
     }
 }
 
@@ -180,6 +169,6 @@ pub fn reach(tables: &[u16; TABLE_SIZE], given: &[u8], flags: &mut [u32; FLAGS_S
     ensures { HasReached flags.old flags.new
         (all_reached tables.now (to_bag given.now) (marks_in flags.old) (reached_in flags.old)) }
 {
-    put_reach(flags, 0, bool_to_u32(MESSAGE_SIZE <= given.len()));
+    put_reach(flags, 0, u32::from(MESSAGE_SIZE <= given.len()));
     flag_components(tables, flags);
 }

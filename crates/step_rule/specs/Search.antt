@@ -1,15 +1,13 @@
--- The answer of the search for the deciding rule, the two bytes by which a rule is passed over, and the test of a key by a rule's port
+-- What the search for the deciding rule answers, the two bytes by which a rule is passed over, and the test of a key by a rule's port
 -- and values. Assumes nothing.
-use Rattle.std.specs.Prelude.{ℕ, ◌+◌, ◌*◌, Bool, cond, ◌&&◌, nat_le, nat_lt}
-use Rattle.std.proofs.Math.Option.{Option, none, some}
+use Rattle.std.proofs.Math.Option as Math
+use Rattle.std.specs.Prelude.{ℕ, Option, Some, None, ◌+◌, ◌*◌, Bool, cond, ◌&&◌, nat_le, nat_lt}
 use Rattle.definition.specs.Model.{RangeReading, inclusive, half_open}
-use Rattle.step_rule.specs.declared.Found.{Found}
-use Rattle.step_rule.specs.declared.Found.TheVariants as F
 
 -- The position that the code's answer names.
-abbrev pub found_of : Found → Option ℕ
-found_of (F.At i) = some i
-found_of F.Nothing = none
+abbrev pub found_of : Option ℕ → Math.Option ℕ
+found_of (Some i) = Math.some i
+found_of None = Math.none
 
 -- The first two bytes, as one number, of the rules of component c in phase p; no two bytes make it where c is no byte.
 unfoldable pub head_of : ℕ → ℕ → ℕ

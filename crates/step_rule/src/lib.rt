@@ -16,14 +16,6 @@ use clock::Stay;
 use limits::{NEVER_FIELD, RULE_SIZE};
 use model_records::Rule;
 use std::num::wrapping_sub_u32;
-use widen::{u8_to_u32, u32_to_u64};
-
-// The position of the deciding rule, or none.
-#[derive(Clone, Copy)]
-pub enum Found {
-    At(u16),
-    Nothing,
-}
 
 // How long an atomic has been in its phase, and whether its model excludes the high ends of elapsed ranges.
 #[derive(Clone, Copy)]
@@ -73,13 +65,13 @@ fn end_ticks(elapsed: Elapsed) -> u64
 fn up_to_end(elapsed: Elapsed, high: u32) -> bool
     ensures { result ≡ up_to_end (ranges_of elapsed.half_open) elapsed.time.0 high }
 {
-    elapsed.time.0 < u32_to_u64(high) + end_ticks(elapsed)
+    elapsed.time.0 < high as u64 + end_ticks(elapsed)
 }
 
 fn within_elapsed(rule: Rule, elapsed: Elapsed) -> bool
     ensures { result ≡ within_elapsed (ranges_of elapsed.half_open) (rule_of rule) elapsed.time.0 }
 {
-    let low = u32_to_u64(rule.low_elapsed);
+    let low = rule.low_elapsed as u64;
     let high = rule.high_elapsed;
     (low <= elapsed.time.0) & (up_to_end(elapsed, high) | (high == NEVER_FIELD))
 }
@@ -92,7 +84,7 @@ fn head_of(component: u16, phase: u8) -> u32
     ensures { result ≡ head_of component phase }
 {
     if component < 256 {
-        component as u32 + 256 * u8_to_u32(phase)
+        component as u32 + 256 * phase as u32
     } else {
         NO_HEAD
     }
@@ -122,28 +114,16 @@ fn deciding_in(
     phase: u8,
     elapsed: Elapsed,
     bag: &[u32],
-) -> Found
+) -> Option<u16>
     requires { (end ≤ length rules.now) × (length bag.now ≤ max_atomic_bag) }
     ensures { found_of result ≡ deciding_in (ranges_of elapsed.half_open) (map rule_of rules.now) first end component phase elapsed.time.0 (map message_of bag.now) }
 {
-    let mut i = first;
-    loop {
-        if end <= i {
-            break Found::Nothing;
-        }
+    for i in first..end {
         if rule_holds(rules[i as usize], component, phase, elapsed, bag) {
-            break Found::At(i);
+            return Some(i);
         }
-        i = i + 1;
     }
-}
-
-// The same in an array, which it lends as a slice.
-fn deciding_of(rules: [Rule; 1], component: u16, phase: u8, elapsed: Elapsed, bag: &[u32]) -> Found
-    requires { length bag.now ≤ max_atomic_bag }
-    ensures { found_of result ≡ deciding_in (ranges_of elapsed.half_open) (map rule_of rules) 0 1 component phase elapsed.time.0 (map message_of bag.now) }
-{
-    deciding_in(&rules, 0, 1, component, phase, elapsed, bag)
+    None
 }
 
 // ---- the search: a rule of another component or phase is passed over by its first two bytes, which are one read
@@ -153,7 +133,7 @@ fn head_at(rules: &[u8], at: usize) -> u32
     requires { at + 1 < length rules.now }
     ensures { result ≡ slice_index rules.now at + 256 * slice_index rules.now (at + 1) }
 {
-    u8_to_u32(rules[at]) + 256 * u8_to_u32(rules[at + 1])
+    rules[at] as u32 + 256 * rules[at + 1] as u32
 }
 
 // The position i, where the rule there decides, or none. Its record stands at `at`; it is read only where the head fits.
@@ -166,20 +146,17 @@ fn decided_at(
     phase: u8,
     elapsed: Elapsed,
     bag: &[u32],
-) -> Found
+) -> Option<u16>
     requires { (i < length rules.now / rule_size) × (at ≡ rule_size * i) × (head ≡ head_of component phase) × (length bag.now ≤ max_atomic_bag) }
     ensures { found_of result ≡ deciding_in (ranges_of elapsed.half_open) (rules_in rules.now) i (i + 1) component phase elapsed.time.0 (map message_of bag.now) }
 {
     if head_at(rules, at) != head {
-        return Found::Nothing;
+        return None;
     }
     let rule = model_records::rule_in(rules, i as usize);
-    let found = deciding_of([rule], component, phase, elapsed, bag);
-    let Found::At(j) = found else {
-        return Found::Nothing;
-    };
+    let j = deciding_in(&[rule], 0, 1, component, phase, elapsed, bag)?;
     let position = i + j;
-    Found::At(position)
+    Some(position)
 }
 
 // Where the search stops: at `end`, or after the last record where that comes first.
@@ -203,18 +180,18 @@ fn decided_past(
     phase: u8,
     elapsed: Elapsed,
     bag: &[u32],
-) -> Found
+) -> Option<u16>
     requires { (min (length rules.now / rule_size) end ≤ i) × (length bag.now ≤ max_atomic_bag) }
     ensures { found_of result ≡ deciding_in (ranges_of elapsed.half_open) (rules_in rules.now) i end component phase elapsed.time.0 (map message_of bag.now) }
 {
     if end <= i {
-        return Found::Nothing;
+        return None;
     }
     let rule = model_records::rule_at(rules, i as usize);
     if rule_holds(rule, component, phase, elapsed, bag) {
-        return Found::At(i);
+        return Some(i);
     }
-    Found::Nothing
+    None
 }
 
 // The position of the deciding rule among those from `first` up to `end`.
@@ -226,24 +203,20 @@ pub fn deciding(
     phase: u8,
     elapsed: Elapsed,
     bag: &[u32],
-) -> Found
+) -> Option<u16>
     requires { length bag.now ≤ max_atomic_bag }
     ensures { found_of result ≡ deciding_in (ranges_of elapsed.half_open) (rules_in rules.now) first end component phase elapsed.time.0 (map message_of bag.now) }
 {
     let stop = stop_before(rules, end);
     let head = head_of(component, phase);
-    let mut i = first;
     let mut at = RULE_SIZE * (first as usize);
-    let found = loop {
-        if stop <= i {
-            break decided_past(rules, i, end, component, phase, elapsed, bag);
-        }
+    for i in first..stop {
         let here = decided_at(rules, i, at, head, component, phase, elapsed, bag);
-        if let Found::At(j) = here {
-            break Found::At(j);
+        if let Some(j) = here {
+            return Some(j);
         }
-        i = i + 1;
-        at = at + RULE_SIZE;
-    };
-    found
+        at += RULE_SIZE;
+    }
+    let next = if first < stop { stop } else { first };
+    decided_past(rules, next, end, component, phase, elapsed, bag)
 }

@@ -69,7 +69,7 @@ module _ (b d keys : List ℕ) (k : ℕ) (f : Front (length (take (root_room (le
   lent : length (take quarter b) ≡ quarter
   lent = length-take-le quarter b (omega arith)
 
-  pub same_size : length whole ≡ length b
+  same_size : length whole ≡ length b
   same_size = length_front b d quarter f.size
 
   pub sort-fits : k + k / 2 ≤ length whole

@@ -16,14 +16,13 @@ use clock::Moment;
 use run_state::STATE_SIZE;
 use step_collect::{collect_bag, collect_root};
 use table_words::{FLAGS_SIZE, NUMBERS_AT, TABLE_SIZE, mark_at, reach_at, row_in};
-use widen::u16_to_usize;
 
 // Nothing of component c changes: it is not due, and nothing may reach it. What is given reaches the root whatever its flag.
 fn is_still(flags: &[u32; FLAGS_SIZE], c: u16) -> bool
     requires { c < max_components }
     ensures { result ≡ is_still flags.now c }
 {
-    let place = u16_to_usize(c);
+    let place = c as usize;
     (mark_at(flags, place) == 0) & ((c != 0) & (reach_at(flags, place) == 0))
 }
 
@@ -51,7 +50,7 @@ fn change_one(
         return;
     }
     let k = collect_bag(phases, tables, flags, given, c, work);
-    let due = mark_at(flags, u16_to_usize(c)) != 0;
+    let due = mark_at(flags, c as usize) != 0;
     let bag = &work[..k];
     step_transition::transition(phases, rules, tables, state, at, i, c, due, bag);
 }
@@ -76,10 +75,8 @@ fn change_all(
         (length work.old) at.0 given.now n 0 (held_in state.old)) }
 {
     run_state::whole(state);
-    let mut i: u8 = 0;
-    while i < n {
+    for i in 0..n {
         change_one(phases, rules, tables, flags, given, state, at, i, work);
-        i = i + 1;
     }
 }
 

@@ -14,9 +14,8 @@ use clock::{Moment, Stay};
 use limits::NO_POSITION;
 use run_state::STATE_SIZE;
 use step_due::phase_in;
-use step_rule::{Elapsed, Found};
+use step_rule::Elapsed;
 use table_words::{ORDERS_AT, RULES_FROM_AT, RULES_TO_AT, TABLE_SIZE, half_open_in, row_in};
-use widen::{u8_to_u32, u8_to_usize, u16_to_u32, u16_to_usize, u32_to_u64};
 
 // The next phase of phase p.
 fn next_of(phases: &[u8], tables: &[u16; TABLE_SIZE], c: u16, p: u8) -> u8
@@ -32,7 +31,7 @@ fn advance_of(phases: &[u8], tables: &[u16; TABLE_SIZE], c: u16, p: u8) -> Stay
     ensures { result.0 ≡ (phase_in (phases_in phases.now) tables.now c p).advance }
 {
     let phase = phase_in(phases, tables, c, p);
-    Stay(u32_to_u64(phase.advance))
+    Stay(phase.advance as u64)
 }
 
 // What an external part answers is one number, as a state holds it: a phase, above it the position of a rule, and above both whether it leads
@@ -46,7 +45,7 @@ const NOWHERE: u32 = PHASE_VALUES * RULE_VALUES;
 fn told(rule: u16, phase: u8) -> u32
     ensures { (result < nowhere) × (result % 256 ≡ phase) × (result / 256 % 65536 ≡ rule) }
 {
-    u16_to_u32(rule) * PHASE_VALUES + u8_to_u32(phase)
+    rule as u32 * PHASE_VALUES + phase as u32
 }
 
 fn phase_told(answer: u32) -> u8
@@ -65,7 +64,7 @@ fn rule_told(answer: u32) -> u16
 fn next_by(rules: &[u8], i: u16) -> u8
     ensures { result ≡ (get_or (rules_in rules.now) i no_rule).next }
 {
-    let rule = model_records::rule_at(rules, u16_to_usize(i));
+    let rule = model_records::rule_at(rules, i as usize);
     rule.next
 }
 
@@ -88,7 +87,7 @@ fn decided(
         time: elapsed,
         half_open: half_open_in(tables),
     };
-    let Found::At(i) = step_rule::deciding(rules, first, end, c, p, since, bag) else {
+    let Some(i) = step_rule::deciding(rules, first, end, c, p, since, bag) else {
         return NOWHERE + told(NO_POSITION, 0);
     };
     told(i, next_by(rules, i))
@@ -149,7 +148,7 @@ fn lead(
         (lead_of phases.now rules.now tables.now at.0 state.now i c due bag.now)
         (part_of phases.now rules.now tables.now at.0 state.now i c due bag.now) }
 {
-    let position = u8_to_usize(i);
+    let position = i as usize;
     let p = run_state::phase_at(state, position);
     if due {
         return confluent(phases, rules, tables, c, p, bag);
@@ -177,7 +176,7 @@ pub fn transition(
         (part_of phases.now rules.now tables.now at.0 state.old i c due bag.now) }
 {
     run_state::whole(state);
-    let position = u8_to_usize(i);
+    let position = i as usize;
     if bag.len() == 0 {
         if due {
             let next = next_of(phases, tables, c, run_state::phase_at(state, position));

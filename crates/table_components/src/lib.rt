@@ -16,7 +16,7 @@ use table_words::{
     RULES_TO_AT, SIBLING_AT,
 };
 
-// What a table by component is made of.
+// What a table by component is made of. An enum, and no closure: it names the field in the contracts and laws.
 #[derive(Clone, Copy)]
 pub enum Field {
     Kind,
@@ -34,7 +34,7 @@ fn field_of(k: Component, which: Field) -> u8
         Field::Parent => k.parent,
         Field::Order => k.order,
         Field::Phases => k.phases,
-        Field::Atomic => widen::bool_to_u8(k.kind == 1),
+        Field::Atomic => u8::from(k.kind == 1),
     }
 }
 
@@ -50,10 +50,8 @@ fn put_fields(components: &[u8], which: Field, at: usize, t: &mut [u16])
     ensures { t.new ≡ column at (field_at which (components_in components.now)) (length (components_in components.now)) 0 t.old }
 {
     let n = model_records::component_count(components);
-    let mut c: usize = 0;
-    while c < n {
-        t[at + c] = widen::u8_to_u16(field_at(components, which, c));
-        c = c + 1;
+    for c in 0..n {
+        t[at + c] = field_at(components, which, c) as u16;
     }
 }
 
@@ -64,11 +62,9 @@ fn put_sums(components: &[u8], which: Field, at: usize, t: &mut [u16])
 {
     let n = model_records::component_count(components);
     let mut total: u16 = 0;
-    let mut c: usize = 0;
-    while c < n {
+    for c in 0..n {
         t[at + c] = total;
-        total = total + widen::u8_to_u16(field_at(components, which, c));
-        c = c + 1;
+        total += field_at(components, which, c) as u16;
     }
 }
 
@@ -93,8 +89,8 @@ fn put_number(components: &[u8], c: u16, i: u16, t: &mut [u16]) -> u16
     requires { (i < max_components) × (length t.old ≡ table_size) }
     ensures { (t.new, result) ≡ number_at (components_in components.now) c (t.old, i) }
 {
-    if model_records::is_atomic(components, widen::u16_to_usize(c)) {
-        t[NUMBERS_AT + widen::u16_to_usize(i)] = c;
+    if model_records::is_atomic(components, c as usize) {
+        t[NUMBERS_AT + i as usize] = c;
         i + 1
     } else {
         i
@@ -108,10 +104,8 @@ fn put_numbers(components: &[u8], t: &mut [u16])
 {
     let n = count_word(components);
     let mut i: u16 = 0;
-    let mut c: u16 = 0;
-    while c < n {
+    for c in 0..n {
         i = put_number(components, c, i, t);
-        c = c + 1;
     }
 }
 
@@ -133,8 +127,8 @@ fn put_named(t: &mut [u16], at: usize, rules: &[u8], i: u16, v: u16)
     requires { (i < length (rules_in rules.now)) × (at + max_components ≤ length t.old) }
     ensures { t.new ≡ put_in at max_components (rule_names (rules_in rules.now) i) v t.old }
 {
-    let c = little_endian::byte_at(rules, RULE_SIZE * widen::u16_to_usize(i));
-    table_words::put_in(t, at, MAX_COMPONENTS, widen::u8_to_usize(c), v);
+    let c = little_endian::byte_at(rules, RULE_SIZE * i as usize);
+    table_words::put_in(t, at, MAX_COMPONENTS, c as usize, v);
 }
 
 fn rule_word(rules: &[u8]) -> u16
@@ -148,9 +142,7 @@ fn put_rule_starts(rules: &[u8], t: &mut [u16])
     requires { (length (rules_in rules.now) ≤ max_rules) × (length t.old ≡ table_size) }
     ensures { t.new ≡ rule_starts (rules_in rules.now) (length (rules_in rules.now)) t.old }
 {
-    let mut i = rule_word(rules);
-    while 0 < i {
-        i = i - 1;
+    for i in (0..rule_word(rules)).rev() {
         put_named(t, RULES_FROM_AT, rules, i, i);
     }
 }
@@ -160,10 +152,8 @@ fn put_rule_ends(rules: &[u8], t: &mut [u16])
     ensures { t.new ≡ rule_ends (rules_in rules.now) (length (rules_in rules.now)) 0 t.old }
 {
     let n = rule_word(rules);
-    let mut i: u16 = 0;
-    while i < n {
+    for i in 0..n {
         put_named(t, RULES_TO_AT, rules, i, i + 1);
-        i = i + 1;
     }
 }
 

@@ -10,7 +10,6 @@ ghost use Rattle.table_couplings.specs.Links.{side_node, source_in, link_end, He
 use limits::{MAX_NODES, OUTPUTS_AT, PORT_COUNT, PORT_NODES};
 use model_records::Coupling;
 use table_words::{FIRST_AT, LINKS, LIVE_AT, NEXT_AT, SOURCE_AT, TABLE_SIZE};
-use widen::{bool_to_u16, u8_to_u16, u8_to_usize, u16_to_usize};
 
 // The two ends of a coupling, as the contracts name them.
 #[derive(Clone, Copy)]
@@ -24,9 +23,9 @@ fn side_node(output: bool, c: u8, q: u8) -> u16
     ensures { result ≡ side_node output c q }
 {
     if output {
-        PORT_NODES as u16 * u8_to_u16(c) + (u8_to_u16(PORT_COUNT) + u8_to_u16(q))
+        PORT_NODES as u16 * c as u16 + (PORT_COUNT as u16 + q as u16)
     } else {
-        PORT_NODES as u16 * u8_to_u16(c) + u8_to_u16(q)
+        PORT_NODES as u16 * c as u16 + q as u16
     }
 }
 
@@ -34,7 +33,7 @@ fn side_node(output: bool, c: u8, q: u8) -> u16
 fn source_node(components: &[u8], k: Coupling) -> u16
     ensures { result ≡ source_number (components_in components.now) (coupling_of k) }
 {
-    let inward = model_records::is_child(components, u8_to_usize(k.source), u8_to_usize(k.target));
+    let inward = model_records::is_child(components, k.source as usize, k.target as usize);
     side_node(!inward, k.source, k.source_port)
 }
 
@@ -42,7 +41,7 @@ fn source_node(components: &[u8], k: Coupling) -> u16
 fn target_node(components: &[u8], k: Coupling) -> u16
     ensures { result ≡ target_number (components_in components.now) (coupling_of k) }
 {
-    let outward = model_records::is_child(components, u8_to_usize(k.target), u8_to_usize(k.source));
+    let outward = model_records::is_child(components, k.target as usize, k.source as usize);
     side_node(outward, k.target, k.target_port)
 }
 
@@ -65,23 +64,22 @@ pub fn put_ends(
         × (t.new ≡ begun (components_in components.now) (couplings_in couplings.now) t.old) }
 {
     let n = model_records::coupling_count(couplings);
-    let mut i: usize = 0;
-    while i < n {
+    for i in 0..n {
         let k = model_records::coupling_at(couplings, i);
-        t[SOURCE_AT + 1 + i] = source_node(components, k);
-        i = i + 1;
-        targets[i] = target_node(components, k);
+        t[SOURCE_AT + i + 1] = source_node(components, k);
+        targets[i + 1] = target_node(components, k);
     }
 }
 
 // Whether c is the root, or whether it is an atomic.
+#[tactic(auto, unfolding(crate::specs::Links::port_flag))]
 fn port_flag(components: &[u8], root: bool, c: usize) -> u16
     ensures { result ≡ port_flag root (components_in components.now) c }
 {
     if root {
-        bool_to_u16(c == 0)
+        u16::from(c == 0)
     } else {
-        bool_to_u16(model_records::is_atomic(components, c))
+        u16::from(model_records::is_atomic(components, c))
     }
 }
 
@@ -92,12 +90,10 @@ pub fn mark_ports(components: &[u8], sources: bool, at: usize, t: &mut [u16])
     ensures { t.new ≡ marked at (flag_at sources) (components_in components.now) t.old }
 {
     let n = model_records::component_count(components);
-    let mut c: usize = 0;
-    while c < n {
+    for c in 0..n {
         let x = at + PORT_NODES * c;
         table_words::put_four(t, x, port_flag(components, sources, c));
         table_words::put_four(t, x + OUTPUTS_AT, port_flag(components, !sources, c));
-        c = c + 1;
     }
 }
 
@@ -106,8 +102,8 @@ fn spread_one(x: u16, y: u16, t: &mut [u16; TABLE_SIZE])
     requires { (x < port_nodes * max_components) × (y < port_nodes * max_components) }
     ensures { t.new ≡ spread x y t.old }
 {
-    if !(t[LIVE_AT + u16_to_usize(x)] == 0) {
-        t[LIVE_AT + u16_to_usize(y)] = 1;
+    if !(t[LIVE_AT + x as usize] == 0) {
+        t[LIVE_AT + y as usize] = 1;
     }
 }
 
@@ -116,21 +112,19 @@ fn spread_link(targets: &[u16; LINKS], j: u16, t: &mut [u16; TABLE_SIZE])
     requires { (j ≤ max_couplings) × (source_in t.old j < port_nodes * max_components) × (get_or targets.now j 0 < port_nodes * max_components) }
     ensures { t.new ≡ spread (source_in t.old j) (get_or targets.now j 0) t.old }
 {
-    let at = u16_to_usize(j);
+    let at = j as usize;
     let x = t[SOURCE_AT + at];
     let y = targets[at];
     spread_one(x, y, t);
 }
 
-// Outputs, from the deepest components up.
+// Outputs, from the deepest components up. Two directions, two functions: one for both would take the range, for a loop of one line.
 fn spread_up(targets: &[u16; LINKS], n: u16, t: &mut [u16; TABLE_SIZE])
     requires { (n ≤ max_couplings) × OnNodes (source_in t.old) (λ j. get_or targets.now j 0) n }
     ensures { t.new ≡ spread_up (source_in t.old) (λ j. get_or targets.now j 0) n t.old }
 {
-    let mut j = n;
-    while 0 < j {
+    for j in (1..n + 1).rev() {
         spread_link(targets, j, t);
-        j = j - 1;
     }
 }
 
@@ -139,10 +133,8 @@ fn spread_down(targets: &[u16; LINKS], n: u16, t: &mut [u16; TABLE_SIZE])
     requires { (n ≤ max_couplings) × OnNodes (source_in t.old) (λ j. get_or targets.now j 0) n }
     ensures { t.new ≡ spread_down (source_in t.old) (λ j. get_or targets.now j 0) n 1 t.old }
 {
-    let mut j: u16 = 1;
-    while j < n + 1 {
+    for j in 1..n + 1 {
         spread_link(targets, j, t);
-        j = j + 1;
     }
 }
 

@@ -40,10 +40,13 @@ module _ (at : ℕ) (f : ℕ → ℕ) (n : ℕ) where
 
 module _ (first size next : ℕ) (key : ℕ → ℕ) where
   -- one link more
-  pub linked-more : (j : ℕ) (t : List ℕ) → 0 < j → linked first size next key (j - 1) (link_at first size next (key j) j t) ≡ linked first size next key j t
+  pub linked-more : (i : ℕ) (t : List ℕ) → 0 < i → linked first size next key (i - 1) (link_at first size next (key (i - 1 + 1)) (i - 1 + 1) t) ≡ linked first size next key i t
   unfolding linked
   linked-more zero t h = absurd (omega arith)
-  linked-more (suc j) t h = let e : suc j - 1 ≡ j = omega arith in rw e
+  linked-more (suc i) t h =
+      let e : suc i - 1 + 1 ≡ suc i = omega arith in
+      let d : suc i - 1 ≡ i = omega arith in
+      rw (e, d)
 
   pub linked-end : (j : ℕ) (t : List ℕ) → j ≡ 0 → linked first size next key j t ≡ t
   unfolding linked

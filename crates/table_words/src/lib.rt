@@ -79,7 +79,7 @@ pub fn row_in(t: &[u16; TABLE_SIZE], at: usize, i: u16) -> u16
     requires { (at ≤ sibling_at) × (i < max_components) }
     ensures { result ≡ get_or t.now (at + i) 0 }
 {
-    word_in(t, at + widen::u16_to_usize(i))
+    word_in(t, at + i as usize)
 }
 
 // How many atomics there are.
@@ -140,7 +140,7 @@ fn link(t: &mut [u16], first: usize, size: usize, next: usize, k: usize, j: u16)
     ensures { t.new ≡ link_at first size next k j t.old }
 {
     if k < size {
-        t[next + widen::u16_to_usize(j)] = t[first + k];
+        t[next + j as usize] = t[first + k];
         t[first + k] = j;
     }
 }
@@ -150,10 +150,10 @@ pub fn link_all(keys: &[u16], n: u16, first: usize, size: usize, next: usize, t:
     requires { (first + size ≤ length t.old) × (next + n < length t.old) }
     ensures { t.new ≡ linked first size next (λ j. get_or keys.now j 0) n t.old }
 {
-    let mut j = n;
-    while 0 < j {
-        let k = widen::u16_to_usize(word_at(keys, widen::u16_to_usize(j)));
+    // Not over `1..n + 1`: n may be the largest number of its type.
+    for i in (0..n).rev() {
+        let j = i + 1;
+        let k = word_at(keys, j as usize) as usize;
         link(t, first, size, next, k, j);
-        j = j - 1;
     }
 }

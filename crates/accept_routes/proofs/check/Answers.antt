@@ -5,8 +5,5 @@ use Rattle.definition.specs.Limits.{max_couplings}
 use Rattle.table_couplings.proofs.Begun.{zeros-made}
 use Rattle.accept_routes.proofs.check.Goals as goal
 
-pub check_linked-requires : goal.check_linked-requires
-check_linked-requires c = (zeros-made, length-replicate {A = ℕ} (max_couplings + 1) 0)
-
-pub returns : goal.returns
-returns c = c.check_linked.ensures.0
+pub check_routes-requires : goal.check_routes-requires
+check_routes-requires c = (zeros-made, length-replicate {A = ℕ} (max_couplings + 1) 0)

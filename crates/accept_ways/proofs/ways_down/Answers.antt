@@ -1,32 +1,32 @@
--- The invariant is that the links left, over the table as it stands, give the whole (down-more); at link 0 none is left. Assumes nothing.
-use borrow.Author.Rules.{rules}
+-- One turn takes the last link that is left (down-more); at the end none is left. Assumes nothing.
 use native.Mathlib.Omega.{arith}
-use Prim.Native.Nat.{ℕ, ◌≤◌, ◌-◌}
-use mathlib.Core.Path.{◌≡◌, refl, sym, ap, ◌∙◌}
+use Prim.Native.Nat.{ℕ, ◌-◌, ◌+◌}
+use mathlib.Core.Path.{◌≡◌, sym, ap, ◌∙◌}
 use lib.ListN.{get_or}
 use Rattle.table_couplings.specs.Links.{source_in}
 use Rattle.accept_ways.specs.Words.{ways_down}
 use Rattle.accept_ways.proofs.Loops.{down-more, down-end}
 use Rattle.accept_ways.proofs.ways_down.Goals as goal
 
+pub loop-j-init : goal.loop-j-init
+loop-j-init c = let z : c.args.n + 1 - 1 ≡ c.args.n = omega arith in rw z
+
 pub take_side-requires : goal.take_side-requires
 take_side-requires c =
-    let w = c.requires.1 c.loop-j.j (omega arith) (omega arith) in
+    let w = c.requires.1 (c.loop-j.j - 1) (omega arith) (omega arith) in
     (omega arith, w.0, w.1)
 
 pub loop-j-preserved : goal.loop-j-preserved
 loop-j-preserved c =
     let a = c.args in
     let l = c.loop-j in
+    let j = l.j - 1 in
     let src = source_in a.tables.now in
     let tgt : ℕ → ℕ = λ j. get_or a.targets.now j 0 in
-    (omega arith, ap (ways_down src tgt (l.j - 1)) c.take_side.ensures ∙ down-more src tgt l.j l.ways (omega arith) ∙ l.invariant.1)
+    ap (ways_down src tgt (j - 1)) c.take_side.ensures ∙ down-more src tgt j l.ways (omega arith) ∙ l.invariant
 
 pub returns : goal.returns
 returns c =
     let a = c.args in
     let l = c.loop-j in
-    sym (down-end (source_in a.tables.now) (λ j. get_or a.targets.now j 0) l.j l.ways (omega arith)) ∙ l.invariant.1
-
-pub loop-j-init : goal.loop-j-init
-loop-j-init c = (omega arith, refl)
+    sym (down-end (source_in a.tables.now) (λ j. get_or a.targets.now j 0) (l.j - 1) l.ways (omega arith)) ∙ l.invariant

@@ -1,15 +1,12 @@
-use borrow.Author.Rules.{rules}
-use native.Mathlib.Omega.{arith}
-use Prim.Native.Nat.{ℕ, ◌≤◌, ◌-◌}
-use mathlib.Core.Path.{◌≡◌, refl, sym, ap, ◌∙◌}
+use Prim.Native.Nat.{ℕ, ◌-◌}
+use mathlib.Core.Path.{◌≡◌}
 use lib.ListN.{get_or}
 use Rattle.table_couplings.specs.Links.{source_in}
 use Rattle.accept_ways.specs.Words.{ways_down}
-use Rattle.accept_ways.proofs.Loops.{down-more, down-end}
 use Rattle.accept_ways.proofs.ways_down.Given as goal
 
+-- the links left, over the table as it stands, give the whole
 abbrev pub invariant-loop-j : goal.invariant-loop-j
-invariant-loop-j l = (l.j ≤ l.n) × (ways_down (source_in l.tables) (λ k. get_or l.targets k 0) l.j l.ways ≡ ways_down (source_in l.tables) (λ k. get_or l.targets k 0) l.n l.initial.ways)
-
-abbrev pub decreases-loop-j : goal.decreases-loop-j
-decreases-loop-j l = l.j
+invariant-loop-j l = let src = source_in l.tables in
+    let tgt = λ (k : ℕ). get_or l.targets k 0 in
+    ways_down src tgt (l.j - 1) l.ways ≡ ways_down src tgt l.n l.initial.ways

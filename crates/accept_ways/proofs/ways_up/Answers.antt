@@ -1,13 +1,15 @@
--- The invariant is that the links left, over the table as it stands, give the whole (up_more). Assumes nothing.
-use borrow.Author.Rules.{rules}
+-- One turn takes one link more (up_more); at the end none is left. Assumes nothing.
 use native.Mathlib.Omega.{arith}
-use Prim.Native.Nat.{ℕ, ◌<◌, ◌≤◌, ◌+◌, ◌-◌}
+use Prim.Native.Nat.{ℕ, ◌+◌, ◌-◌}
 use mathlib.Core.Path.{◌≡◌, sym, ap, ◌∙◌}
 use lib.ListN.{get_or}
 use Rattle.table_couplings.specs.Links.{source_in}
 use Rattle.accept_ways.specs.Words.{ways_up}
 use Rattle.accept_ways.proofs.Loops.{up_more, up_none}
 use Rattle.accept_ways.proofs.ways_up.Goals as goal
+
+pub loop-j-init : goal.loop-j-init
+loop-j-init c = let z : c.args.n + 1 - 1 ≡ c.args.n = omega arith in rw z
 
 pub take_side-requires : goal.take_side-requires
 take_side-requires c =
@@ -21,13 +23,10 @@ loop-j-preserved c =
     let src = source_in a.tables.now in
     let tgt : ℕ → ℕ = λ j. get_or a.targets.now j 0 in
     let z : a.n + 1 - (l.j + 1) ≡ a.n - l.j = omega arith in
-    (omega arith, omega arith, rw z (ap (ways_up src tgt (a.n - l.j) (l.j + 1)) c.take_side.ensures ∙ up_more src tgt a.n l.j l.ways (omega arith) ∙ l.invariant.2))
+    rw z (ap (ways_up src tgt (a.n - l.j) (l.j + 1)) c.take_side.ensures ∙ up_more src tgt a.n l.j l.ways c.loop-j-test.true ∙ l.invariant)
 
 pub returns : goal.returns
 returns c =
     let a = c.args in
     let l = c.loop-j in
-    sym (up_none (source_in a.tables.now) (λ j. get_or a.targets.now j 0) a.n l.j l.ways (omega arith)) ∙ l.invariant.2
-
-pub loop-j-init : goal.loop-j-init
-loop-j-init c = let a = c.args in let z : a.n + 1 - 1 ≡ a.n = omega arith in (omega arith, omega arith, rw z)
+    sym (up_none (source_in a.tables.now) (λ j. get_or a.targets.now j 0) a.n l.j l.ways (omega arith)) ∙ l.invariant

@@ -1,32 +1,23 @@
--- A check that fails gives its number (`check-refused`); what passes them all is let in.
-use borrow.Author.Rules.{rules}
+-- A check that fails gives its number (`check-refused`); what passes them all is let in, and buffers for 1,024 routes have room for every
+-- accepted model.
 use native.Mathlib.Omega.{arith}
 use mathlib.Core.Path.{sym}
-use borrow.Author.Tests.{eq-eqb}
+use Rattle.std.proofs.lemmas.Result.{err_from_is_err_and}
 use Rattle.model_file.specs.Checked.{model_of}
-use Rattle.call_advance.specs.LetIn.{LetIn}
 use Rattle.call_advance.proofs.Checks.{check-refused}
+use Rattle.call_advance.proofs.Whole.{most-routes}
 use Rattle.call_advance.proofs.advance_accepted.Goals as goal
 
-pub returns-then-number-ne0 : goal.returns-then-number-ne0
-returns-then-number-ne0 c =
+pub returns-in_err-check_call : goal.returns-in_err-check_call
+returns-in_err-check_call c =
     let a = c.args in
-    let m = model_of a.file.now a.n in
-    rw c.refused.ensures
-    (check-refused a.file.now a.run.now a.t a.bag.now a.trace.now a.table.now m c.requires.model _ c.check_call-number.ensures c.if-number-ne0.true)
+    let m = model_of a.file.now a.accepted.counts in
+    let p = err_from_is_err_and c.from_residual.result c.from_residual.ensures.1 in
+    rw (p.1, p.2) (check-refused a.file.now a.run.now a.t a.bag.now a.trace.now a.table.now m c.requires.model _ c.in_err-check_call.ensures)
 
-pub advance_few-requires : goal.advance_few-requires
-advance_few-requires c =
-    let passed : let a = c.args in LetIn a.file.now a.n a.tables.now a.run.now a.t a.bag.now = let q = c.requires in
-    let r = c.check_call-number in
-    record { model = q.model; tabled = q.tabled; checks = sym (rw (eq-eqb r.result 0 c.if-number-ne0.false) at r.ensures) } in
-    (passed, omega (arith, c.requires.counted, c.if-route_count-le-FEW_ROUTES.true))
-
-pub check_call-number-requires : goal.check_call-number-requires
-check_call-number-requires c = c.requires.model
-
-pub advance_many-requires : goal.advance_many-requires
-advance_many-requires c = let passed : let a = c.args in LetIn a.file.now a.n a.tables.now a.run.now a.t a.bag.now = let q = c.requires in
-    let r = c.check_call-number in
-    record { model = q.model; tabled = q.tabled; checks = sym (rw (eq-eqb r.result 0 c.if-number-ne0.false) at r.ensures) } in
-    passed
+pub advance_in-requires-else-accepted-le-FEW_ROUTES : goal.advance_in-requires-else-accepted-le-FEW_ROUTES
+advance_in-requires-else-accepted-le-FEW_ROUTES c =
+    let most = most-routes c.args.file.now c.args.accepted.counts (λ i. (c.type_inv.file i).fits) c.requires.model in (
+      record { model = c.requires.model; tabled = c.requires.tabled; checks = sym c.in_ok-check_call.ensures },
+      record { lent = omega arith; room = omega (arith, most) },
+    )

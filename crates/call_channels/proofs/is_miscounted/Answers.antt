@@ -1,6 +1,5 @@
 -- The number of runs by two tests, then the allowance (Counts).
-use native.Mathlib.Omega.{arith}
-use Rattle.call_channels.proofs.Counts.{counts-out, in_count, counts-in}
+use Rattle.call_channels.proofs.Counts.{counts-out, counts-in}
 use Rattle.call_channels.proofs.is_miscounted.Goals as goal
 
 pub returns-then-count : goal.returns-then-count

@@ -1,34 +1,39 @@
--- A check that fails gives its number (`check-refused`); what passes them all is let in.
+-- A check that fails gives its number (`check-refused`); what passes them all is let in, and buffers for 1,024 routes have room for every
+-- accepted model.
 use native.Mathlib.Omega.{arith}
-use mathlib.Core.Path.{sym, ap, ◌∙◌}
+use Rattle.std.proofs.lemmas.Result.{err_from_is_err_and}
 use Rattle.definition.specs.FeedCall.{nothing_fed}
 use Rattle.model_file.specs.Checked.{model_of}
-use Rattle.call_feed.specs.FeedLetIn.{checked_by, FeedLetIn}
+use Rattle.call_advance.proofs.Whole.{most-routes}
+use Rattle.call_feed.specs.FeedLetIn.{FeedLetIn}
 use Rattle.call_feed.proofs.Checks.{check-refused, checked-read}
 use Rattle.call_feed.proofs.feed_accepted.Goals as goal
-use Rattle.call_feed.proofs.feed_accepted.Goals.{In-Of}
+use Rattle.call_feed.proofs.feed_accepted.Goals.{In_ok-found}
 
-pub check_feed-requires : goal.check_feed-requires
-check_feed-requires c = c.requires.model
-
-pub returns-in-Refused : goal.returns-in-Refused
+pub returns-in_err-found : goal.returns-in_err-found
 unfolding nothing_fed
-returns-in-Refused c =
+returns-in_err-found c =
     let a = c.args in
-    rw c.refused.ensures
-    (check-refused a.file.now a.run.now a.end a.feed.now a.trace.now (model_of a.file.now a.n) c.requires.model _
-    (sym (ap checked_by c.in-Refused.is) ∙ c.check_feed.ensures))
+    let p = err_from_is_err_and c.from_residual.result c.from_residual.ensures.1 in
+    rw (p.1, p.2) (check-refused a.file.now a.run.now a.end a.feed.now a.trace.now (model_of a.file.now a.accepted.counts) c.requires.model _ c.in_err-found.ensures)
 
 -- The checks let the feed in.
-passed : (c : In-Of) → let a = c.args in FeedLetIn a.file.now a.n a.tables.now a.run.now a.end a.feed.now c.in-Of.found
+passed : (c : In_ok-found) → let a = c.args in FeedLetIn a.file.now a.accepted.counts a.tables.now a.run.now a.end a.feed.now c.in_ok-found.found
 passed c =
     let a = c.args in
     let q = c.requires in
-    let r = checked-read (model_of a.file.now a.n) a.run.now a.end a.feed.now c.in-Of.found (sym (ap checked_by c.in-Of.is) ∙ c.check_feed.ensures) in
+    let r = checked-read (model_of a.file.now a.accepted.counts) a.run.now a.end a.feed.now c.in_ok-found.found c.in_ok-found.ensures in
     record { model = q.model; tabled = q.tabled; checks = r.0; is_feed = r.1; found_so = r.2 }
 
-pub feed_few-requires : goal.feed_few-requires
-feed_few-requires c = (passed (goal.at.feed_few-requires c).In-Of, omega (arith, c.requires.counted, c.if-route_count-le-FEW_ROUTES.true))
+pub feed_in-requires : goal.feed_in-requires
+feed_in-requires c = (
+  passed (goal.at.feed_in-requires c).In_ok-found,
+  record { lent = omega arith; room = omega (arith, c.requires.counted, c.if-accepted-le-FEW_ROUTES.true) },
+)
 
-pub feed_many-requires : goal.feed_many-requires
-feed_many-requires c = passed (goal.at.feed_many-requires c).In-Of
+pub feed_in-requires-else-accepted-le-FEW_ROUTES : goal.feed_in-requires-else-accepted-le-FEW_ROUTES
+feed_in-requires-else-accepted-le-FEW_ROUTES c =
+    let most = most-routes c.args.file.now c.args.accepted.counts (λ i. (c.type_inv.file i).fits) c.requires.model in (
+      passed (goal.at.feed_in-requires-else-accepted-le-FEW_ROUTES c).In_ok-found,
+      record { lent = omega arith; room = omega (arith, most) },
+    )

@@ -7,11 +7,8 @@ use Rattle.call_feed.proofs.feed_let_in.Goals as goal
 
 -- ---- the needs
 
-pub atomics_in-requires : goal.atomics_in-requires
-atomics_in-requires c = c.requires.0.tabled.in_range.atomics
-
 pub load-requires : goal.load-requires
-load-requires c = rw (c.u8_to_usize.ensures, c.atomics_in.ensures) c.requires.0.tabled.in_range.atomics
+load-requires c = rw c.atomics_in.ensures c.requires.0.tabled.in_range.atomics
 
 pub feed_from-requires : goal.feed_from-requires
 feed_from-requires c =
@@ -28,8 +25,7 @@ returns c =
     let given : (i : ℕ) → get_or c.args.feed.now i 0 < 256 = λ i. (c.type_inv.feed i).fits in
     let a = c.args in
     let q = c.requires.0 in
-    let count = c.u8_to_usize.ensures ∙ c.atomics_in.ensures in
-    let loaded = rw count at c.load.ensures in
+    let loaded = rw c.atomics_in.ensures at c.load.ensures in
     c.feed_from.ensures
     ∙ feed-parts a.file.now a.n bytes q.model a.run.now a.end.0 a.feed.now given q.checks a.tables.now q.tabled a.trace.now _ loaded
     (length a.work.now) c.requires.1.room _ _ c.phases_of-phases.ensures c.rules_of-rules.ensures

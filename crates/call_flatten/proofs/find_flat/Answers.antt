@@ -1,6 +1,5 @@
 -- The tables are the accepted model's, so that the rows are its flat form's (`probing`), and so is the size (`size_is`). That the file is
 -- bytes is known once the atomics are counted, and cited from the later places.
-use borrow.Author.Rules.{rules}
 use Prim.Native.Nat.{ℕ, ◌<◌}
 use mathlib.Core.Path.{◌∙◌}
 use lib.ListN.{get_or}

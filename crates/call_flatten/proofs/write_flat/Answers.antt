@@ -1,5 +1,4 @@
 -- What was found is the flat form: there is too little room (`flatten-short`), or its bytes stand at the buffer's front (`flatten-whole`).
-use borrow.Author.Rules.{rules}
 use Rattle.call_flatten.proofs.Flattened.{flatten-short, flatten-room, flatten-whole}
 use Prim.Native.Nat.{ℕ, ◌<◌}
 use lib.ListN.{get_or}
@@ -30,4 +29,4 @@ returns c =
       c.phases_of-phases.ensures,
       c.rules_of-rules.ensures,
     ) at c.put_flat.ensures in
-    rw c.usize_to_u64.ensures (flatten-whole _ c.args.out.now _ (bytes (goal.at.returns c).After-atomics_in-atomics) _ _ _ c.requires c.if-out-found.false _ put)
+    flatten-whole _ c.args.out.now _ (bytes (goal.at.returns c).After-atomics_in-atomics) _ _ _ c.requires c.if-out-found.false _ put

@@ -1,14 +1,7 @@
-use borrow.Author.Rules.{rules}
-use native.Mathlib.Omega.{arith}
-use mathlib.Core.Path.{◌≡◌, ◌∙◌, refl, ap}
-use Prim.Native.Nat.{◌≤◌, ◌-◌}
-use lib.ListN.{length}
-use Rattle.run_state.proofs.Laws.{rules_size}
-use Rattle.call_rules.proofs.Entries.{put, put-none, put-more, put_all}
+use mathlib.Core.Path.{◌≡◌}
+use Rattle.call_rules.proofs.Entries.{put}
 use Rattle.call_rules.proofs.put_entries.Given as goal
 
+-- the entries put so far stand at the front of the table
 abbrev pub invariant-loop-i : goal.invariant-loop-i
-invariant-loop-i l = (l.i ≤ l.n) × (length l.table ≡ length l.initial.table) × (l.table ≡ put l.state l.initial.table l.i)
-
-abbrev pub decreases-loop-i : goal.decreases-loop-i
-decreases-loop-i l = l.n - l.i
+invariant-loop-i l = l.table ≡ put l.state l.initial.table l.i

@@ -1,5 +1,4 @@
 -- The two cases of the buffer: too short (`wrote-short`), or the first run stored at its front (`wrote-whole`).
-use borrow.Author.Rules.{rules}
 use native.Mathlib.Omega.{arith}
 use Rattle.call_start.proofs.Starts.{wrote-short, wrote-whole, start-length, start-run-is}
 use Rattle.model_records.proofs.Counting.{atomics-most}

@@ -11,15 +11,15 @@ use Rattle.definition.specs.Channels.{no_place, bag_at, Channel, ChannelsCall}
 use Rattle.definition.specs.Channels as Definition
 use Rattle.model_file.specs.Checked.{model_of}
 use Rattle.call_answers.specs.Answers.{advanced_of, place_of, channels_call_of}
-use Rattle.channel_loop.proofs.Boxes.{inside, came-back, length_back, taken_as, length_taken, more, none_left, from_start, one_more, told-keeps, others-more, boxes-told, nowhere, place_at}
+use Rattle.channel_loop.proofs.Boxes.{inside, came-back, length_back, taken_as, length_taken, more, none_left, from_start, one_more, told-keeps, others-more, boxes-told, nowhere, place_at, all-zeros}
 use Rattle.channel_loop.proofs.advance_parts.Goals as goal
 use Rattle.channel_loop.proofs.advance_parts.Goals.{In-loop-i}
 
 pub loop-i-init : goal.loop-i-init
 loop-i-init c =
     let a = c.args in
-    rw c.refused-channel.ensures (record {
-      upto = omega arith;
+    let e = c.default-channel.ensures in
+    rw (all-zeros c.default-channel.result e.0 e.1.0 e.1.1.0 e.1.1.1) (record {
       runs_long = refl;
       traces_long = refl;
       same_words = refl;
@@ -87,7 +87,6 @@ loop-i-preserved c =
     }) in
     let on = one_more (Definition.turn m a.t) b qr qt i l.left l.runs l.traces _ _ run trace l.channel told few (e ∙ same) runs traces in
     record {
-      upto = omega (arith, c.loop-i-test.true);
       runs_long = ap length runs ∙ length_back l.runs run (qr * i) qr in-run (keeps.1 ∙ length_taken l.runs (qr * i) (qr * i + qr) qr refl in-run) ∙ l.invariant.runs_long;
       traces_long = ap length traces ∙ length_back l.traces trace (qt * i) qt in-trace (keeps.2 ∙ length_taken l.traces (qt * i) (qt * i + qt) qt refl in-trace) ∙ l.invariant.traces_long;
       same_words = r.auto.work ∙ l.invariant.same_words;
@@ -102,5 +101,5 @@ returns c =
     let a = c.args in
     let l = c.loop-i in
     let none = none_left _ _ _ _ a.count l.i _ c.loop-i-test.false in
-    boxes-told a.runs.now a.traces.now l.runs l.traces l.left l.channel l.i (omega (arith, l.invariant.eight, l.invariant.upto, c.requires.few)) l.invariant.others
+    boxes-told a.runs.now a.traces.now l.runs l.traces l.left l.channel l.i (omega (arith, l.invariant.eight, l.auto.i-end, c.requires.few)) l.invariant.others
     ∙ ap (λ (g : Box). boxed a.runs.now a.traces.now (ok g)) (sym none ∙ l.invariant.from_here)

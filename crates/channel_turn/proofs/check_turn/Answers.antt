@@ -9,9 +9,6 @@ use Rattle.channel_turn.proofs.Checked.{run-unfit, bad-moment, bag-unfit, let-in
 use Rattle.channel_turn.proofs.check_turn.Goals as goal
 use Rattle.channel_turn.proofs.check_turn.Goals.{After-opening_of-opening}
 
-pub run_fits-requires : goal.run_fits-requires
-run_fits-requires c = c.requires
-
 -- The test of the run is the definition's.
 pub returns-then-not-run_fits : goal.returns-then-not-run_fits
 returns-then-not-run_fits c =

@@ -1,5 +1,4 @@
 -- The two cases of the advance field; the sum is `Moment.plus`.
-use borrow.Author.Rules.{rules}
 use Rattle.definition.specs.Devs.{finite}
 use Rattle.clock.specs.After.{due_after}
 use mathlib.Core.Path.{ap}
@@ -12,4 +11,4 @@ returns-then-advance-eq-NEVER_FIELD c = rw (eq-eqb _ _ c.if-advance-eq-NEVER_FIE
 
 pub returns : goal.returns
 unfolding due_after
-returns c = rw (ne_eqb _ _ c.if-advance-eq-NEVER_FIELD.false, ← c.u32_to_u64.ensures) (ap finite c.plus.ensures)
+returns c = rw (ne_eqb _ _ c.if-advance-eq-NEVER_FIELD.false) (ap finite c.plus.ensures)

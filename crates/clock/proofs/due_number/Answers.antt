@@ -1,12 +1,11 @@
 -- The two cases of a due moment.
-use borrow.Author.Rules.{rules}
 use Rattle.definition.specs.Engine.{due_number}
 use Rattle.clock.proofs.due_number.Goals as goal
 
-pub returns-in-At : goal.returns-in-At
+pub returns-in-Some : goal.returns-in-Some
 unfolding due_number
-returns-in-At c = rw c.in-At.is
+returns-in-Some c = rw c.in-Some.is
 
-pub returns-in-Never : goal.returns-in-Never
+pub returns-in-None : goal.returns-in-None
 unfolding due_number
-returns-in-Never c = rw c.in-Never.is
+returns-in-None c = rw c.in-None.is

@@ -1,5 +1,4 @@
 -- The two cases of a due moment.
-use borrow.Author.Rules.{rules}
 use Rattle.definition.specs.SavedRun.{not_before}
 use Rattle.clock.proofs.not_before.Goals as goal
 
@@ -9,4 +8,4 @@ returns-in_default c = rw c.in_default.is
 
 pub returns : goal.returns
 unfolding not_before
-returns c = rw c.in-At.is
+returns c = rw c.in-Some.is

@@ -1,5 +1,4 @@
 -- Both numbers are read.
-use borrow.Author.Rules.{rules}
 use Rattle.columns_forms.specs.Forms.{pair_of}
 use Rattle.columns_forms.proofs.pair_at.Goals as goal
 

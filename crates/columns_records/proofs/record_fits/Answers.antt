@@ -16,17 +16,11 @@ returns-then-not-pair_above c =
     let is = c.pair_above.ensures ∙ ap₂ (pair_above a.last) c.u64_within.ensures c.u16_within.ensures in
     sym (fits-pair a.last a.apart a.at a.s.now (sym is ∙ c.if-not-pair_above.true))
 
-pub messages_rise-requires : goal.messages_rise-requires
-messages_rise-requires c =
-    let a = c.args in
-    let n = c.u16_to_usize.ensures ∙ c.u16_within-count.ensures in
-    (c.requires.0, rw n c.requires.1.1)
-
 pub returns : goal.returns
 returns c =
     let a = c.args in
     let s = a.s.now in
     let is = c.pair_above.ensures ∙ ap₂ (pair_above a.last) c.u64_within.ensures c.u16_within.ensures in
-    let n = c.u16_to_usize.ensures ∙ c.u16_within-count.ensures in
+    let n = c.u16_within-count.ensures in
     c.messages_rise.ensures ∙ ap (λ k. keys_rise 0 (messages_at a.apart a.at.ports a.at.values k s)) n
     ∙ sym (fits-rise a.last a.apart a.at s (λ z. c.if-count-eq0.false (c.u16_within-count.ensures ∙ z)) (sym is ∙ c.if-not-pair_above.false))

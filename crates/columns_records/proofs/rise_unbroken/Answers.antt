@@ -1,47 +1,20 @@
 -- The messages that are left rise from the last key on, and those before did, exactly where all of them rise (`judged-more`).
-use native.Mathlib.Omega.{arith}
-use Prim.Native.Nat.{◌+◌, ◌-◌, ◌≤◌, ◌<◌}
-use mathlib.Core.Path.{refl, sym, ap₂, ◌∙◌}
-use lib.ListN.{length}
+use Rattle.std.proofs.Common.{sym, ap₂, ◌∙◌, length}
 use Rattle.law_base.specs.Keys.{key_of}
 use Rattle.law_bytes.proofs.Rows.{number-one}
-use Rattle.columns_records.specs.Places.{MessagesWithin}
 use Rattle.columns_records.proofs.Laws.{within_more, judged-more, judged-end}
 use Rattle.columns_records.proofs.rise_unbroken.Goals as goal
 
-pub loop-left-preserved : goal.loop-left-preserved
-loop-left-preserved c =
-    let here : (let a = c.args in let l = c.loop-left in (l.p < length a.s.now) × (l.v + 2 ≤ length a.s.now) × MessagesWithin (length a.s.now) a.apart (l.p + a.apart.ports) (l.v + a.apart.values) (l.left - 1)) = let a = c.args in let l = c.loop-left in
-    within_more (length a.s.now) a.apart l.p l.v l.left c.loop-left-test.true l.invariant.0 in
-    let a = c.args in let l = c.loop-left in
-    let s = a.s.now in
-    let k = c.key_of-key.ensures ∙ ap₂ key_of (sym (number-one l.p s)) c.u16_within.ensures in
-    ((here).2, rw (k, ← number-one l.p s) (judged-more a.apart l.p l.v l.left l.low s c.loop-left-test.true l.rise ∙ l.invariant.1))
+pub loop-preserved : goal.loop-preserved
+loop-preserved c =
+    let a = c.args in let l = c.loop in let s = a.s.now in
+    let key = c.key_of-key.ensures ∙ ap₂ key_of (sym (number-one l.p s)) c.u16_within.ensures in
+    record {
+      within = (within_more (length s) a.apart l.p l.v a.count l.counter c.loop-test.true l.invariant.within).2;
+      same = rw (key, ← number-one l.p s) (judged-more a.apart l.p l.v a.count l.counter l.low s c.loop-test.true l.rise ∙ l.invariant.same);
+    }
 
 pub returns : goal.returns
 returns c =
-    let a = c.args in let l = c.loop-left in
-    sym (judged-end a.apart l.p l.v l.left l.low a.s.now c.loop-left-test.false l.rise) ∙ l.invariant.1
-
-pub loop-left-init : goal.loop-left-init
-loop-left-init c = (c.requires.1, refl)
-
-pub bounds-s-p : goal.bounds-s-p
-bounds-s-p c = let here : (let a = c.args in let l = c.loop-left in (l.p < length a.s.now) × (l.v + 2 ≤ length a.s.now) × MessagesWithin (length a.s.now) a.apart (l.p + a.apart.ports) (l.v + a.apart.values) (l.left - 1)) = let a = c.args in let l = c.loop-left in
-    within_more (length a.s.now) a.apart l.p l.v l.left c.loop-left-test.true l.invariant.0 in
-    omega (arith, (here).0)
-
-pub u16_within-requires : goal.u16_within-requires
-u16_within-requires c = let here : (let a = c.args in let l = c.loop-left in (l.p < length a.s.now) × (l.v + 2 ≤ length a.s.now) × MessagesWithin (length a.s.now) a.apart (l.p + a.apart.ports) (l.v + a.apart.values) (l.left - 1)) = let a = c.args in let l = c.loop-left in
-    within_more (length a.s.now) a.apart l.p l.v l.left c.loop-left-test.true l.invariant.0 in
-    (here).1
-
-pub overflow_add-p : goal.overflow_add-p
-overflow_add-p c = let here : (let a = c.args in let l = c.loop-left in (l.p < length a.s.now) × (l.v + 2 ≤ length a.s.now) × MessagesWithin (length a.s.now) a.apart (l.p + a.apart.ports) (l.v + a.apart.values) (l.left - 1)) = let a = c.args in let l = c.loop-left in
-    within_more (length a.s.now) a.apart l.p l.v l.left c.loop-left-test.true l.invariant.0 in
-    omega (arith, (here).0, c.requires.0.0)
-
-pub overflow_add-v : goal.overflow_add-v
-overflow_add-v c = let here : (let a = c.args in let l = c.loop-left in (l.p < length a.s.now) × (l.v + 2 ≤ length a.s.now) × MessagesWithin (length a.s.now) a.apart (l.p + a.apart.ports) (l.v + a.apart.values) (l.left - 1)) = let a = c.args in let l = c.loop-left in
-    within_more (length a.s.now) a.apart l.p l.v l.left c.loop-left-test.true l.invariant.0 in
-    omega (arith, (here).1, c.requires.0.1)
+    let a = c.args in let l = c.loop in
+    sym (judged-end a.apart l.p l.v a.count l.counter l.low a.s.now c.loop-test.false l.rise) ∙ l.invariant.same

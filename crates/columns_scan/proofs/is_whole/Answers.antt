@@ -20,5 +20,5 @@ unfolding whole_at
 returns c =
     let a = c.args in
     let s = a.s.now in
-    let e : 12 + 3 * c.u16_to_usize.result ≡ record_head + number_at 2 (a.at + 10) s * message_size = omega (arith, c.u16_to_usize.ensures, c.u16_within.ensures) in
+    let e : 12 + 3 * c.u16_within.result ≡ record_head + number_at 2 (a.at + 10) s * message_size = omega (arith, c.u16_within.ensures) in
     ap (λ n. leb n (length s - a.at)) e

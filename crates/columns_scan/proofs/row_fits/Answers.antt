@@ -1,21 +1,13 @@
 -- A record that is not cut lies within the bytes, so that it can be judged at its places.
 use native.Mathlib.Omega.{arith}
-use mathlib.Core.Path.{sym, ap, ◌∙◌}
-use mathlib.Core.Bool.{◌&&◌}
+use mathlib.Core.Path.{sym, ◌∙◌}
 use Prim.Native.Nat.{◌+◌}
 use lib.ListN.{length}
 use Rattle.definition.specs.Bytes.{number_at}
-use Rattle.columns_records.specs.Places.{fits_after}
-use Rattle.columns_forms.specs.Forms.{in_row, row_places}
+use Rattle.columns_forms.specs.Forms.{row_places}
 use Rattle.columns_forms.proofs.InRow.{within-row}
 use Rattle.columns_scan.proofs.Laws.{whole-fits}
 use Rattle.columns_scan.proofs.row_fits.Goals as goal
-
-pub returns-then-not-is_whole : goal.returns-then-not-is_whole
-returns-then-not-is_whole c =
-    let a = c.args in
-    let s = a.s.now in
-    sym (ap (λ b. b && fits_after a.last in_row (row_places a.at) s) (sym c.is_whole.ensures ∙ c.if-not-is_whole.true))
 
 pub record_fits-requires : goal.record_fits-requires
 unfolding row_places
@@ -25,10 +17,3 @@ record_fits-requires c =
     let w = sym c.is_whole.ensures ∙ c.if-not-is_whole.false in
     let inside = within-row (length s) a.at (number_at 2 (a.at + 10) s) (whole-fits a.at s w c.requires) in
     rw (c.row_places.ensures, c.in_row.ensures) ((omega arith, omega arith), inside)
-
-pub returns : goal.returns
-returns c =
-    let a = c.args in
-    let s = a.s.now in
-    let w = sym c.is_whole.ensures ∙ c.if-not-is_whole.false in
-    c.record_fits.ensures ∙ rw (c.row_places.ensures, c.in_row.ensures, w)

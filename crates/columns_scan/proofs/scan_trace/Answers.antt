@@ -37,19 +37,19 @@ reaches c =
     let s = c.args.s.now in
     whole-fits l.at s (and_left (whole_at l.at s) _ (passes c)) l.invariant.0
 
-pub u16_within-requires : goal.u16_within-requires
-u16_within-requires c = omega (arith, reaches (goal.at.u16_within-requires c).Else-not-row_fits)
+pub u16_within-count-requires : goal.u16_within-count-requires
+u16_within-count-requires c = omega (arith, reaches (goal.at.u16_within-count-requires c).Else-not-row_fits)
 
-pub pair_at-last-requires : goal.pair_at-last-requires
-pair_at-last-requires c = rw c.row_places.ensures (within-row _ _ _ (reaches (goal.at.pair_at-last-requires c).Else-not-row_fits)).0
+pub pair_at-requires : goal.pair_at-requires
+pair_at-requires c = rw c.row_places.ensures (within-row _ _ _ (reaches (goal.at.pair_at-requires c).Else-not-row_fits)).0
 
 pub loop-at-preserved : goal.loop-at-preserved
 loop-at-preserved c =
     let past = (goal.at.loop-at-preserved c).Else-not-row_fits in
     let l = c.loop-at in
     let s = c.args.s.now in
-    let n = c.u16_to_usize-count.ensures ∙ c.u16_within.ensures in
-    let pair = c.pair_at-last.ensures ∙ ap (λ p. pair_of p s) c.row_places.ensures in (
+    let n = c.u16_within-count.ensures in
+    let pair = c.pair_at.ensures ∙ ap (λ p. pair_of p s) c.row_places.ensures in (
       omega (arith, reaches past, n),
       omega (arith, l.invariant.1),
       omega (arith, l.invariant.2),

@@ -1,5 +1,4 @@
 -- The record count, then the columns; the count's store leaves the length.
-use borrow.Author.Rules.{rules}
 use lib.ListN.{length}
 use Rattle.columns_forms.specs.Forms.{row_messages}
 use Rattle.columns_forms.proofs.Turns.{columns-start}
@@ -10,6 +9,3 @@ put_columns-requires c =
     let a = c.args in
     let s = a.s.now in
     (c.requires.0, rw (c.columns_from.ensures, c.put_number.auto.out) (columns-start (length a.out.now) a.n a.k (row_messages a.n 0 s) c.requires.2 c.requires.1))
-
-pub returns : goal.returns
-returns c = rw (c.put_columns.ensures, c.columns_from.ensures, c.put_number.ensures, c.usize_to_u64.ensures)

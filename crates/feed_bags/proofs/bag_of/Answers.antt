@@ -11,5 +11,5 @@ use Rattle.feed_bags.proofs.bag_of.Goals as goal
 pub returns : goal.returns
 unfolding to_feed_bag
 returns c =
-    let size : 3 * c.u8_to_usize-size.result ≡ number_at 1 8 c.args.here.now * message_size = omega (arith, c.u8_to_usize-size.ensures, c.byte_at.ensures) in
+    let size : 3 * c.byte_at.result ≡ number_at 1 8 c.args.here.now * message_size = omega (arith, c.byte_at.ensures) in
     c.front.ensures ∙ ap₂ take size c.rest.ensures

@@ -5,4 +5,4 @@ use Rattle.feed_bags.proofs.length_of.Goals as goal
 
 pub returns : goal.returns
 unfolding bag_length
-returns c = omega (arith, c.u8_to_usize.ensures, c.byte_at.ensures)
+returns c = omega (arith, c.byte_at.ensures)

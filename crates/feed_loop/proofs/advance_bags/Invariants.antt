@@ -6,9 +6,6 @@ use Rattle.feed_loop.specs.Onwards.{bags_in}
 use Rattle.feed_loop.proofs.Laws.{Going}
 use Rattle.feed_loop.proofs.advance_bags.Given as goal
 
-abbrev pub invariant-loop-left : goal.invariant-loop-left
-invariant-loop-left l = Going l.phases l.tables (sim_of l.phases l.rules l.tables (length l.initial.work)) l.feed l.count (length l.initial.work)
-    (bags_onward (sim_of l.phases l.rules l.tables (length l.initial.work)) (length l.initial.trace) (bags_in l.feed) 0 (progress_of l.initial.trace l.tables l.initial.state l.initial.p)) l.initial.trace l.state l.work l.trace l.at l.left l.bags l.p
-
-abbrev pub decreases-loop-left : goal.decreases-loop-left
-decreases-loop-left l = l.left
+abbrev pub invariant-loop : goal.invariant-loop
+invariant-loop l = Going l.phases l.tables (sim_of l.phases l.rules l.tables (length l.initial.work)) l.feed l.count
+    (bags_onward (sim_of l.phases l.rules l.tables (length l.initial.work)) (length l.initial.trace) (bags_in l.feed) 0 (progress_of l.initial.trace l.tables l.initial.state l.initial.p)) l.initial.trace l.state l.trace l.at l.counter l.bags l.p

@@ -1,5 +1,4 @@
--- Where a call has stopped the feed, or the end is that of the last bag, nothing is done; else the call goes on from the bags' own.
-use native.Mathlib.Omega.{arith}
+-- Where no call has stopped the feed, and the end lies past the last bag, the call goes on from the bags' own (`end_goes`).
 use mathlib.Core.Path.{◌≡◌, ◌∙◌, refl, ap}
 use mathlib.Core.List.{[]}
 use Prim.Native.Nat.{suc}
@@ -12,32 +11,8 @@ use Rattle.definition.specs.Advance as Definition
 use Rattle.run_state.specs.declared.State.{State}
 use Rattle.instant_steps.specs.Sim.{sim_of}
 use Rattle.instant_attempt.specs.Progress.{progress_of}
-use Rattle.feed_loop.proofs.Laws.{called_on, end_stays, end_goes}
+use Rattle.feed_loop.proofs.Laws.{called_on, end_goes}
 use Rattle.feed_loop.proofs.advance_to_end.Goals as goal
-
-pub returns-then-own-past : goal.returns-then-own-past
-returns-then-own-past c =
-    let a = c.args in
-    record {
-      went = record {
-        same = end_stays a.phases.now a.rules.now a.tables.now (length a.work.now) a.end.0 a.past a.trace.now a.state.now a.own c.if-own-past.true;
-        beyond = record { within = c.requires.used; size = refl; same = refl };
-      };
-      more = omega arith;
-    }
-
-pub advance_on-ended-requires : goal.advance_on-ended-requires
-advance_on-ended-requires c =
-    let q = c.requires in
-    record {
-      lent = q.lent;
-      moment = q.moment;
-      used = q.used;
-      instants = omega (arith, q.moment, q.few.instants);
-      steps = omega (arith, q.moment, q.few.steps);
-      fit = q.fit;
-      ready = q.ready;
-    }
 
 pub returns : goal.returns
 returns c =
@@ -51,7 +26,7 @@ returns c =
       went = record {
         same = ap (λ (d : Definition.Ended State). record { bags = a.own.bags; end = d })
             (c.advance_on-ended.ensures.same ∙ ap (λ x. advancing k (length trace) a.end.0 x (suc a.end.0) from) none)
-            ∙ end_goes a.phases.now a.rules.now a.tables.now (length a.work.now) a.end.0 a.past trace a.state.now a.own c.if-own-past.false;
+            ∙ end_goes a.phases.now a.rules.now a.tables.now (length a.work.now) a.end.0 a.past trace a.state.now a.own (rw c.is_some.ensures at c.if-is_some-past.false);
         beyond = c.advance_on-ended.ensures.beyond;
       };
       more = (called_on a.phases.now a.tables.now k trace trace _ a.state.now _ a.own.ended.progress c.advance_on-ended.result a.end.0 (to_bag []) q.moment max_bags

@@ -29,22 +29,6 @@ use Rattle.feed_loop.proofs.Laws.{few-more}
 use Rattle.feed_loop.proofs.Outcome.{none-counted, both-parts, feed-begins, outcome}
 use Rattle.feed_loop.proofs.feed_from.Goals as goal
 
-pub make_ready-requires : goal.make_ready-requires
-make_ready-requires c = c.requires.fit
-
-pub advance_bags-own-requires : goal.advance_bags-own-requires
-advance_bags-own-requires c =
-    let q = c.requires in
-    record {
-      lent = q.lent;
-      is_feed = q.is_feed;
-      counted = ap (λ b. b.count) q.found_so;
-      few = record { instants = omega arith; steps = omega arith };
-      used = omega arith;
-      fit = q.fit;
-      ready = c.make_ready.ensures.1;
-    }
-
 pub advance_to_end-whole-requires : goal.advance_to_end-whole-requires
 advance_to_end-whole-requires c =
     let q = c.requires in
@@ -59,14 +43,6 @@ advance_to_end-whole-requires c =
       ready = r.ensures.ready;
     }
 
-pub atomics_in-requires : goal.atomics_in-requires
-atomics_in-requires c = c.requires.fit.in_range.atomics
-
-pub store-requires : goal.store-requires
-store-requires c =
-    let q = c.requires in
-    rw (c.u8_to_usize.ensures, c.atomics_in.ensures) (q.fit.in_range.atomics, q.run_fits_lem)
-
 pub returns : goal.returns
 returns c =
     let a = c.args in
@@ -80,7 +56,6 @@ returns c =
     let bags-trace : Bytes = r.new.trace in
     let all-state : List ℕ = e.new.state in
     let all-trace : Bytes = e.new.trace in
-    let count = c.u8_to_usize.ensures ∙ c.atomics_in.ensures in
     let past : Bool = eqb a.found.count 0 || ltb a.found.last a.end.0 in
     let past_is : past ≡ (is_empty bs || ltb (last_moment bs) a.end.0)
     = ap (λ b. eqb b.count 0 || ltb b.last a.end.0) q.found_so ∙ ap (λ b. b || ltb (last_moment bs) a.end.0) (none-counted bs) in
@@ -99,7 +74,6 @@ returns c =
     let beyond = beyond-on a.trace.now bags-trace all-trace r.result.ended.progress.used e.result.ended.progress.used e.ensures.more
     r.ensures.went.beyond e.ensures.went.beyond in
     let run : c.store.new.run ≡ stored (run_bytes (run_in e.result.ended.progress.opening.0 (atomics_in t) (held_in all-state))) a.run.now
-    = c.store.ensures ∙ ap (λ (n : ℕ). stored (run_bytes (run_in e.result.ended.progress.opening.0 n (held_in all-state))) a.run.now) count in
-    rw c.usize_to_u64.ensures
-    (outcome t a.run.now c.store.new.run a.trace.now all-trace all-state e.result (feed_onward k (length a.trace.now) bs a.end.0 _)
-    (all ∙ ap (λ (z : Definition.Progress State). feed_onward k (length a.trace.now) bs a.end.0 z) begun) beyond run)
+    = c.store.ensures ∙ ap (λ (n : ℕ). stored (run_bytes (run_in e.result.ended.progress.opening.0 n (held_in all-state))) a.run.now) c.atomics_in.ensures in
+    outcome t a.run.now c.store.new.run a.trace.now all-trace all-state e.result c.from.result (feed_onward k (length a.trace.now) bs a.end.0 _) c.from.ensures
+    (all ∙ ap (λ (z : Definition.Progress State). feed_onward k (length a.trace.now) bs a.end.0 z) begun) beyond run

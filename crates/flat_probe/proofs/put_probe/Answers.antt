@@ -1,5 +1,4 @@
 -- Advance, next phase, count and four slots, one after the other, are the record (`probe-puts`).
-use borrow.Author.Rules.{rules}
 use Rattle.flat_probe.proofs.Stored.{probe-puts}
 use Rattle.flat_probe.proofs.put_probe.Goals as goal
 

@@ -1,5 +1,4 @@
 -- Port and number, one after the other, are the bytes of the message (`slot-puts`).
-use borrow.Author.Rules.{rules}
 use Rattle.flat_probe.proofs.Stored.{slot-puts}
 use Rattle.flat_probe.proofs.put_slot.Goals as goal
 
@@ -8,8 +7,5 @@ returns c =
     let a = c.args in
     rw (
       c.put_number-2.ensures,
-      c.u8_to_u64-2.ensures,
-      c.usize_to_u64.ensures,
       c.put_number.ensures,
-      c.u8_to_u64.ensures,
     ) (slot-puts a.c a.q a.at a.out.now)

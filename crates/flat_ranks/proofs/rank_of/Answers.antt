@@ -1,5 +1,4 @@
 -- The root is tested for; every other component's rank is its position and 1, as the definition has it.
-use borrow.Author.Rules.{rules}
 use native.Mathlib.Omega.{arith}
 use Rattle.flat_ranks.specs.Ranks.{rank_of}
 use borrow.Author.Tests.{eq-eqb, ne_eqb}
@@ -16,4 +15,4 @@ pub returns : goal.returns
 unfolding rank_of
 returns c =
     let a = c.args in let e : get_or a.tables.now (64 + a.c) 0 + 1 ≡ suc (get_or a.tables.now (64 + a.c) 0) = omega arith in
-    rw (ne_eqb a.c 0 c.if-c-eq0.false, c.u16_to_u32.ensures, c.word_at.ensures, c.u32_to_usize.ensures) e
+    rw (ne_eqb a.c 0 c.if-c-eq0.false, c.word_at.ensures) e

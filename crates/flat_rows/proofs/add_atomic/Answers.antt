@@ -1,12 +1,6 @@
 -- The collected bag stands whole at the front (`atomic-held`), and is made its rows (`atomic-rows`).
-use borrow.Author.Rules.{rules}
 use Rattle.flat_rows.proofs.Collected.{atomic-held, atomic-rows}
 use Rattle.flat_rows.proofs.add_atomic.Goals as goal
-
-pub collect_bag-count-requires : goal.collect_bag-count-requires
-collect_bag-count-requires c =
-    let r = c.requires.1.in_range in
-    record { below = rw c.row_in-c.ensures (r.numbers c.args.i c.requires.0); in_range = r }
 
 pub make_rows-requires : goal.make_rows-requires
 make_rows-requires c = (atomic-held _ _ _ _ c.args.i _ _ _ c.requires.1.fits (rw c.row_in-c.ensures at c.collect_bag-count.ensures)).room
@@ -14,4 +8,4 @@ make_rows-requires c = (atomic-held _ _ _ _ c.args.i _ _ _ c.requires.1.fits (rw
 pub returns : goal.returns
 returns c =
     let h = atomic-held _ _ _ _ c.args.i _ _ _ c.requires.1.fits (rw c.row_in-c.ensures at c.collect_bag-count.ensures) in
-    atomic-rows _ _ _ _ c.args.i _ _ _ h c.make_rows.auto.rows (rw c.u8_to_u32.ensures at c.make_rows.ensures)
+    atomic-rows _ _ _ _ c.args.i _ _ _ h c.make_rows.auto.rows c.make_rows.ensures

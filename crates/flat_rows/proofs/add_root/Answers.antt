@@ -1,5 +1,4 @@
 -- The collected bag stands whole at the front (`root-held`), and is made its rows (`root-rows`).
-use borrow.Author.Rules.{rules}
 use Rattle.flat_rows.proofs.Collected.{root-held, root-rows}
 use Rattle.flat_rows.proofs.add_root.Goals as goal
 

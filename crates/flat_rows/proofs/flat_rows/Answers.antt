@@ -1,5 +1,4 @@
 -- Phases, flags and given bag are the probe's (`probe-rows`), so that the collected rows are the probe's, and sorting gives them sorted (`sorted-held`).
-use borrow.Author.Rules.{rules}
 use native.Mathlib.Omega.{arith}
 use Rattle.flat_rows.proofs.Collected.{probe-rows, sorted-held, given-bag}
 use Rattle.flat_rows.specs.Rows.{probe_rows}

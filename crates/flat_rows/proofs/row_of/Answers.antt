@@ -1,5 +1,4 @@
 -- The value's component by its rank, its port, the end and the message's port: the row, field by field.
-use borrow.Author.Rules.{rules}
 use Rattle.flat_rows.specs.Rows.{row_of}
 use Rattle.spec_step.specs.Tables.{node_component, node_port}
 use Rattle.flat_rows.proofs.row_of.Goals as goal

@@ -1,5 +1,4 @@
 -- Count, root and atomics, each where the one before it ends, are the section (`components-puts`).
-use borrow.Author.Rules.{rules}
 use Rattle.flat_writer.proofs.Sections.{components-puts}
 use Rattle.model_records.specs.Values.{components_in}
 use Rattle.flat_writer.proofs.put_components.Goals as goal
@@ -11,6 +10,4 @@ returns c =
       c.put_atomics.ensures,
       c.put_number-2.ensures,
       c.put_number.ensures,
-      c.usize_to_u64.ensures,
-      c.u8_to_usize.ensures,
     ) (components-puts (components_in a.components.now) a.tables.now a.n a.out.now)

@@ -1,5 +1,4 @@
 -- A count and the rows are the section (`section-puts`).
-use borrow.Author.Rules.{rules}
 use Rattle.flat_writer.proofs.Sections.{section-puts, length-rows}
 use Rattle.law_base.specs.Keys.{coupling_of}
 use Rattle.definition.specs.Records.{coupling_bytes}
@@ -11,5 +10,5 @@ use Rattle.flat_writer.proofs.put_rows.Goals as goal
 pub returns : goal.returns
 returns c =
     let a = c.args in
-    rw (c.put_row_list.ensures, c.put_number.ensures, c.usize_to_u64.ensures)
+    rw (c.put_row_list.ensures, c.put_number.ensures)
     (section-puts coupling_bytes (map coupling_of (take a.n a.rows.now)) a.n a.at a.out.now (sym (length-rows a.rows.now a.n c.requires.0)))

@@ -1,14 +1,12 @@
 -- The rules before i stand (`one_more`); at the end all do (`all-stand`).
-use borrow.Author.Rules.{rules}
 use native.Mathlib.Omega.{arith}
-use Rattle.flat_writer.proofs.Pieces.{Standing, none-stands, one_more, all-stand}
+use Rattle.flat_writer.proofs.Pieces.{one_more, all-stand}
 use Rattle.flat_writer.proofs.Sections.{rule-at, rule-row, length-renumbered}
 use Rattle.flat_writer.specs.Written.{rule_by}
 use Rattle.law_model.proofs.Writing.{rule-size}
 use Rattle.model_records.specs.Values.{rules_in}
 use Rattle.definition.specs.Model.{no_rule}
 use Rattle.definition.specs.Records.{rule_bytes}
-use Prim.Native.Nat.{◌-◌, ◌≤◌}
 use mathlib.Core.List.{map}
 use Rattle.flat_writer.proofs.put_rule_list.Goals as goal
 
@@ -16,7 +14,7 @@ pub put_rule-requires : goal.put_rule-requires
 put_rule-requires c =
     let l = c.loop-i in
     let sized = rule-row c.args.rules.now l.i (omega (arith, c.requires.0)) in
-    (rw (c.front-rule.ensures, c.rest.ensures) sized, omega (arith, c.requires.1, l.invariant.1.long))
+    (rw (c.front-rule.ensures, c.rest.ensures) sized, omega (arith, c.requires.1, l.auto.out))
 
 pub loop-i-preserved : goal.loop-i-preserved
 loop-i-preserved c =
@@ -28,7 +26,7 @@ loop-i-preserved c =
     let e = rw (c.front-rule.ensures, c.rest.ensures, ← here) at c.put_rule.ensures in
     let more = one_more 18 rule_bytes rule-size (map (rule_by t) (rules_in s)) a.at a.out.now l.i l.out _ (rule_by t no_rule)
     (omega (arith, length-renumbered s t, c.requires.0)) e c.put_rule.auto.out in
-    (omega arith, more l.invariant.1)
+    more l.invariant
 
 pub returns : goal.returns
 returns c =
@@ -36,7 +34,4 @@ returns c =
     let l = c.loop-i in
     let s = a.rules.now in
     let t = a.tables.now in
-    all-stand 18 rule_bytes rule-size (map (rule_by t) (rules_in s)) a.at a.out.now l.i l.out (omega (arith, length-renumbered s t, c.requires.0)) l.invariant.1
-
-pub loop-i-init : goal.loop-i-init
-loop-i-init c = (omega arith, none-stands 18 rule_bytes rule-size _ _ _)
+    all-stand 18 rule_bytes rule-size (map (rule_by t) (rules_in s)) a.at a.out.now l.i l.out (omega (arith, length-renumbered s t, c.requires.0)) l.invariant

@@ -1,5 +1,4 @@
 -- Three fields and the messages, each stored where the one before it ends, are the bytes of the record (`record-puts`).
-use borrow.Author.Rules.{rules}
 use mathlib.Core.Path.{◌∙◌}
 use lib.ListN.{take}
 use lib.Seq.{length-take-le}

@@ -1,5 +1,4 @@
 -- Three ways out, each with its law of `step_put`: no message, a record that fits, one that does not.
-use borrow.Author.Rules.{rules}
 use native.Mathlib.Omega.{arith}
 use mathlib.Core.Path.{◌∙◌}
 use Rattle.instant_records.proofs.Records.{size_none, size-some, put-none, put-fits, put_out_lem}

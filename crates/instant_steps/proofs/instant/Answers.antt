@@ -5,6 +5,7 @@ use native.Mathlib.Omega.{arith}
 use mathlib.Core.Path.{◌≡◌, ◌∙◌, refl, sym, ap, ap₂, subst}
 use mathlib.Core.List.{List, [], ◌∷◌, ◌++◌}
 use mathlib.Core.Bool.{true, false, not, ◌||◌}
+use Rattle.std.proofs.Common.{Option, Some, None}
 use Prim.Native.Nat.{ℕ, ◌≤◌, ◌<◌, ◌+◌, ◌-◌}
 use lib.Dec.{eqb}
 use lib.ListN.{length}
@@ -26,8 +27,7 @@ use Rattle.run_state.proofs.Laws.{rules_size}
 use Rattle.instant_records.proofs.Records.{size-most}
 use Rattle.instant_steps.specs.Sim.{sim_of, instant_of, step_of, given_at, Stepped}
 use Rattle.instant_steps.specs.Verdicts.{Judged, RulesOver, Overlays, RulesLeft}
-use Rattle.instant_steps.specs.declared.Verdict.{Verdict}
-use Rattle.instant_steps.specs.declared.Verdict.TheVariants as VV
+use Rattle.instant_steps.specs.declared.Ran.{Ran}
 use Rattle.instant_steps.proofs.Sofar.{Sofar, sofar-none, sofar-more, keys-hold, goes-as}
 use Rattle.instant_steps.proofs.Sofar.{rest_all, rest-stops, rest-jams, rest_more, judged-jams, judged-stands, overlays-jams, overlays-done}
 use Rattle.instant_steps.proofs.Rules.{rules-none, rules-more, begun-left, begun-ready, begun-length}
@@ -91,10 +91,10 @@ said c P h =
     (omega (arith, whole-size c, q.fit.in_range.atomics)) q.moment q.ready c.begin.ensures P h
 
 -- The verdict on an instant, where the loop ends.
-abbrev judged : After-goes_on → Verdict → ℕ → ℕ → Instant State → Type 0
-judged c v steps used i =
+abbrev judged : After-goes_on → Option Ran → Instant State → Type 0
+judged c r i =
     let a = c.args in
-    Judged a.phases.now a.tables.now a.at.0 a.from a.out.now c.loop-at.out c.loop-at.state i (record { verdict = v; steps = steps; used = used })
+    Judged a.phases.now a.tables.now a.at.0 a.from a.out.now c.loop-at.out c.loop-at.state i r
 
 -- The test, as the definition has it.
 tested : (c : After-goes_on) → goes_on (sim c) c.args.at.0 (given c) (state c) ≡ c.goes_on.result
@@ -111,7 +111,7 @@ returns-then-k-eq-MAX_STEPS c =
     let l = c.loop-at in
     let g : goes_on (sim p) a.at.0 (given p) (state p) ≡ true = tested p ∙ c.loop-at-test.true in
     let stuck = rest-jams (sim p) a.at.0 (given p) (state p) l.k g c.if-k-eq-MAX_STEPS.true in
-    said p (judged p VV.Jammed 0 a.from) (
+    said p (judged p None) (
       judged-jams a.phases.now a.tables.now l.invariant.sofar l.state stuck,
       overlays-jams a.phases.now a.tables.now l.invariant.sofar l.state (atomics_in a.tables.now) (first p) stuck,
     )
@@ -184,7 +184,7 @@ returns c =
     let l = c.loop-at in
     let g : goes_on (sim p) a.at.0 (given p) (state p) ≡ false = tested p ∙ c.loop-at-test.false in
     let stops = rest-stops (sim p) a.at.0 (given p) (state p) (max_steps - l.k) g in
-    said p (judged p VV.Stands l.k l.used) (
+    said p (judged p (Some (record { steps = l.k; used = l.used }))) (
       judged-stands a.phases.now a.tables.now l.invariant.sofar l.state stops l.invariant.few l.invariant.ready,
       overlays-done a.phases.now a.tables.now l.invariant.sofar l.state (atomics_in a.tables.now) (first p) stops (λ h. h),
     )

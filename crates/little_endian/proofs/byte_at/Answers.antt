@@ -1,6 +1,5 @@
 -- `little_endian::byte_at` meets its contract. A one-byte number is the element at its place, and past the end both are 0 (number-one).
 -- Assumes nothing.
-use borrow.Author.Rules.{rules}
 use Rattle.law_bytes.proofs.Rows.{number-one}
 use lib.ListN.{get_or-eq_default}
 use mathlib.Core.Path.{sym, ◌∙◌}

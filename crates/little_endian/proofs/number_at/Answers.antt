@@ -1,6 +1,5 @@
 -- `little_endian::number_at` meets its contract. The number at the front of the rest is the number at the position (number-drop). Assumes
 -- nothing.
-use borrow.Author.Rules.{rules}
 use mathlib.Core.Path.{◌∙◌, ap}
 use Rattle.definition.specs.Bytes.{number_at}
 use Rattle.law_bytes.proofs.Rows.{number-drop}

@@ -1,5 +1,4 @@
 -- `little_endian::u16_at` meets its contract: two bytes fit (number_fits). Assumes nothing.
-use borrow.Author.Rules.{rules}
 use native.Mathlib.Nat.{le_refl}
 use Rattle.law_bytes.proofs.Rows.{number_fits}
 use Rattle.little_endian.proofs.u16_at.Goals as goal

@@ -1,5 +1,4 @@
 -- `little_endian::u32_at` meets its contract: four bytes fit (number_fits). Assumes nothing.
-use borrow.Author.Rules.{rules}
 use native.Mathlib.Nat.{le_refl}
 use Rattle.law_bytes.proofs.Rows.{number_fits}
 use Rattle.little_endian.proofs.u32_at.Goals as goal

@@ -1,5 +1,4 @@
 -- `little_endian::u32_within` meets its contract: the low half and above it the high one (number-parts). Assumes nothing.
-use borrow.Author.Rules.{rules}
 use native.Mathlib.Omega.{arith}
 use Rattle.law_bytes.proofs.Rows.{number-parts}
 use Rattle.little_endian.proofs.u32_within.Goals as goal
@@ -12,6 +11,4 @@ returns c =
       number-parts 2 2 a.at a.s.now,
       c.u16_within.ensures,
       c.u16_within-2.ensures,
-      c.u16_to_u32.ensures,
-      c.u16_to_u32-2.ensures,
     )

@@ -1,5 +1,4 @@
 -- `little_endian::u64_within` meets its contract: the low half and above it the high one (number-parts). Assumes nothing.
-use borrow.Author.Rules.{rules}
 use native.Mathlib.Omega.{arith}
 use Rattle.law_bytes.proofs.Rows.{number-parts}
 use Rattle.little_endian.proofs.u64_within.Goals as goal
@@ -12,6 +11,4 @@ returns c =
       number-parts 4 4 a.at a.s.now,
       c.u32_within.ensures,
       c.u32_within-2.ensures,
-      c.u32_to_u64.ensures,
-      c.u32_to_u64-2.ensures,
     )

@@ -1,5 +1,4 @@
 -- `model_checks::component_fits` meets its contract. The definition's own tests, in the order in which the code takes them. Assumes nothing.
-use borrow.Author.Rules.{rules}
 use mathlib.Core.Path.{◌≡◌, sym, ◌∙◌}
 use mathlib.Core.Bool.{true, false, ◌&&◌, and-true, and-false}
 use lib.Dec.{eqb, ltb}
@@ -13,16 +12,16 @@ use Rattle.model_checks.proofs.component_fits.Goals as goal
 pub returns-then-not-phase_counts-parent : goal.returns-then-not-phase_counts-parent
 unfolding fits_behind
 returns-then-not-phase_counts-parent c =
-    let e : (eqb (get_or c.args.phase_counts.now c.u8_to_usize-parent.result 0) 0 && ltb c.u8_to_usize.result 8) ≡ false = not-true _ c.if-not-phase_counts-parent.true-raw in
-    rw (ne_eqb _ _ c.if-i-eq0.false, ← c.u8_to_usize-parent.ensures, lt-ltb _ _ c.if-i-parent.false, ← c.u8_to_usize.ensures, e) (simp and-false)
+    let e : (eqb (get_or c.args.phase_counts.now c.args.component.parent 0) 0 && ltb (get_or c.args.depths.now c.args.component.parent 0) 8) ≡ false = not-true _ c.if-not-phase_counts-parent.true-raw in
+    rw (ne_eqb _ _ c.if-i-eq0.false, lt-ltb _ _ c.if-i-parent.false, e) (simp and-false)
 
 pub returns : goal.returns
 unfolding fits_behind
 returns c =
-    let e : (eqb (get_or c.args.phase_counts.now c.u8_to_usize-parent.result 0) 0 && ltb c.u8_to_usize.result 8) ≡ true = not-false _ c.if-not-phase_counts-parent.false-raw in
+    let e : (eqb (get_or c.args.phase_counts.now c.args.component.parent 0) 0 && ltb (get_or c.args.depths.now c.args.component.parent 0) 8) ≡ true = not-false _ c.if-not-phase_counts-parent.false-raw in
     let k = component_of c.args.component in
     let f : fits_behind k c.args.i c.args.phase_counts.now c.args.depths.now ≡ kind_fields k =
-    rw (ne_eqb _ _ c.if-i-eq0.false, ← c.u8_to_usize-parent.ensures, lt-ltb _ _ c.if-i-parent.false, ← c.u8_to_usize.ensures, e) (simp and-true) in
+    rw (ne_eqb _ _ c.if-i-eq0.false, lt-ltb _ _ c.if-i-parent.false, e) (simp and-true) in
     c.kind_fields-2.ensures ∙ sym f
 
 pub returns-then-i-eq0 : goal.returns-then-i-eq0
@@ -31,4 +30,4 @@ returns-then-i-eq0 c = rw (eq-eqb _ _ c.if-i-eq0.true, c.kind_fields.ensures)
 
 pub returns-then-i-parent : goal.returns-then-i-parent
 unfolding fits_behind
-returns-then-i-parent c = rw (ne_eqb _ _ c.if-i-eq0.false, ← c.u8_to_usize-parent.ensures, le-ltb _ _ c.if-i-parent.true) (simp and-false)
+returns-then-i-parent c = rw (ne_eqb _ _ c.if-i-eq0.false, le-ltb _ _ c.if-i-parent.true) (simp and-false)

@@ -12,9 +12,3 @@ returns-then-component_fits c =
 
 pub returns-else-component_fits : goal.returns-else-component_fits
 returns-else-component_fits c = sym (breaks _ 4 _ (sym (fits-known c.requires c.component_in-component.ensures) ∙ sym c.component_fits.ensures ∙ c.if-component_fits.false))
-
-pub component_in-component-requires : goal.component_in-component-requires
-component_in-component-requires c = c.requires.there
-
-pub component_fits-requires : goal.component_fits-requires
-component_fits-requires c = record { few = c.requires.accepted.few; counts_room = c.requires.counted.room; depths_room = c.requires.deep.room }

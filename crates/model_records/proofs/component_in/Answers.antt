@@ -1,5 +1,4 @@
 -- `model_records::component_in` meets its contract. The bytes read are record i (record_is), field by field. Assumes nothing.
-use borrow.Author.Rules.{rules}
 use Rattle.definition.specs.Limits.{component_size}
 use Rattle.definition.specs.Model.{component_at, no_component}
 use Rattle.definition.specs.Pinned.Decoder.{to_component}

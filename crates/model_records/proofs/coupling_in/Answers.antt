@@ -1,5 +1,4 @@
 -- `model_records::coupling_in` meets its contract. The bytes read are record i (record_is), field by field. Assumes nothing.
-use borrow.Author.Rules.{rules}
 use Rattle.definition.specs.Limits.{coupling_size}
 use Rattle.definition.specs.Model.{no_coupling}
 use Rattle.definition.specs.Pinned.Decoder.{to_coupling}

@@ -1,5 +1,4 @@
 -- `model_records::is_atomic` meets its contract. The definition's own test, on the component that was read. Assumes nothing.
-use borrow.Author.Rules.{rules}
 use Rattle.definition.specs.Model.{is_atomic}
 use Rattle.model_records.proofs.is_atomic.Goals as goal
 

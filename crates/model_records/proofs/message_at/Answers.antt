@@ -1,5 +1,4 @@
 -- `model_records::message_at` meets its contract. The definition's own two fields. Assumes nothing.
-use borrow.Author.Rules.{rules}
 use Rattle.definition.specs.Records.{message_at}
 use Rattle.model_records.proofs.message_at.Goals as goal
 

@@ -1,5 +1,4 @@
 -- `model_records::phase_in` meets its contract. The bytes read are record i (record_is), field by field. Assumes nothing.
-use borrow.Author.Rules.{rules}
 use Rattle.definition.specs.Limits.{phase_size}
 use Rattle.definition.specs.Model.{no_phase}
 use Rattle.definition.specs.Pinned.Decoder.{to_phase}

@@ -1,6 +1,5 @@
 -- `model_sections::section_part` meets its contract. The first n records' bytes after the count, by what `rest` and `front` give. Assumes
 -- nothing.
-use borrow.Author.Rules.{rules}
 use Rattle.law_bytes.specs.Parts.{part_of}
 use Rattle.model_sections.proofs.section_part.Goals as goal
 

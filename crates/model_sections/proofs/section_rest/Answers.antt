@@ -1,5 +1,4 @@
 -- `model_sections::section_rest` meets its contract. What stands after the count and n records, by what `rest` gives. Assumes nothing.
-use borrow.Author.Rules.{rules}
 use Rattle.law_bytes.specs.Parts.{rest_after}
 use Rattle.model_sections.proofs.section_rest.Goals as goal
 

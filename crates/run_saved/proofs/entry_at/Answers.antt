@@ -1,5 +1,4 @@
 -- The two fields of an entry, where they stand in the run (`entry_place`).
-use borrow.Author.Rules.{rules}
 use Rattle.run_saved.proofs.Entries.{entry_place}
 use Rattle.run_saved.proofs.entry_at.Goals as goal
 

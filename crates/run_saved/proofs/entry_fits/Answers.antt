@@ -1,5 +1,4 @@
 -- The three tests are those of the contract, in its order.
-use borrow.Author.Rules.{rules}
 use Rattle.run_saved.proofs.entry_fits.Goals as goal
 
 pub returns : goal.returns

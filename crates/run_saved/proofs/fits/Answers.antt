@@ -20,5 +20,5 @@ overflow_add-long c =
 pub returns : goal.returns
 returns c =
     let a = c.args in
-    rw (c.entries_fit.ensures, c.u16_to_usize.ensures, c.u16_at.ensures, c.opening_of-opening.ensures)
+    rw (c.entries_fit.ensures, c.u16_at.ensures, c.opening_of-opening.ensures)
     (fits_said a.components.now a.phases.now a.run.now c.atomic_count-n.result c.atomic_count-n.ensures)

@@ -20,7 +20,6 @@ returns c =
     rw (
       c.put_number-2.ensures,
       c.put_number.ensures,
-      c.u8_to_u64.ensures,
       c.phase_at.ensures,
       c.last_at-since.ensures,
     ) (entry-put a.run.now a.i (held_at (held_in a.state.now) a.i))

@@ -1,5 +1,4 @@
 -- The sum is the definition.
-use borrow.Author.Rules.{rules}
 use Rattle.definition.specs.SavedRun.{run_length}
 use mathlib.Core.Path.{refl}
 use Rattle.run_saved.proofs.run_size.Goals as goal

@@ -1,5 +1,4 @@
 -- Two bytes of a word of the first region.
-use borrow.Author.Rules.{rules}
 use mathlib.Core.Path.{refl}
 use Rattle.run_state.specs.Held.{rule_beside, rules_beside}
 use Rattle.run_state.proofs.Laws.{view-read}

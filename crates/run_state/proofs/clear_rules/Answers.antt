@@ -1,5 +1,4 @@
 -- The word of the bits is written, the rest stays.
-use borrow.Author.Rules.{rules}
 use Rattle.run_state.proofs.Laws.{rules-cleared}
 use Rattle.run_state.proofs.clear_rules.Goals as goal
 

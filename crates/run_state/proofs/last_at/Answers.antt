@@ -1,5 +1,4 @@
 -- A word of the region of last moments.
-use borrow.Author.Rules.{rules}
 use mathlib.Core.Path.{sym, refl}
 use Prim.Native.Nat.{◌+◌}
 use Rattle.run_state.specs.Held.{last_at, held_in}

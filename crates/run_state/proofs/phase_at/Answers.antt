@@ -1,5 +1,4 @@
 -- A byte of a word of the first region.
-use borrow.Author.Rules.{rules}
 use mathlib.Core.Path.{refl}
 use Rattle.run_state.specs.Held.{byte_of, held_in}
 use Rattle.run_state.proofs.Laws.{view-read}

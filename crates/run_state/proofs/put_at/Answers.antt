@@ -1,5 +1,4 @@
 -- Two regions are written, the others stay; the rule beside the phase is put back as it was.
-use borrow.Author.Rules.{rules}
 use Rattle.run_state.proofs.Laws.{entry-put}
 use Rattle.run_state.proofs.put_at.Goals as goal
 

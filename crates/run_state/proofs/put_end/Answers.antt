@@ -1,5 +1,4 @@
 -- One region is written, the others stay.
-use borrow.Author.Rules.{rules}
 use Rattle.run_state.proofs.Laws.{end-put}
 use Rattle.run_state.proofs.put_end.Goals as goal
 

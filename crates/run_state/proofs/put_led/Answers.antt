@@ -1,5 +1,4 @@
 -- The bit, and phase, rule and moment; the others stay.
-use borrow.Author.Rules.{rules}
 use Rattle.run_state.proofs.Laws.{led-put}
 use Rattle.run_state.proofs.put_led.Goals as goal
 

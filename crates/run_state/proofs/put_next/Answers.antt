@@ -1,5 +1,4 @@
 -- The last word is written, the regions stay.
-use borrow.Author.Rules.{rules}
 use Rattle.run_state.proofs.Laws.{next-put}
 use Rattle.run_state.proofs.put_next.Goals as goal
 

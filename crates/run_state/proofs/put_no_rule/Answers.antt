@@ -1,5 +1,4 @@
 -- One bit gone from the word of the bits; the others stay.
-use borrow.Author.Rules.{rules}
 use Rattle.run_state.proofs.Laws.{no-rule-put}
 use Rattle.run_state.proofs.put_no_rule.Goals as goal
 

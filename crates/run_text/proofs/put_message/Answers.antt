@@ -8,13 +8,10 @@ returns c =
     let a = c.args in
     rw (
       c.put_field.ensures,
-      c.u16_to_u64-2.ensures,
       c.u16_at.ensures,
       c.put_field-c.ensures,
-      c.u8_to_u64.ensures,
       c.byte_at.ensures,
       c.put_field-b.ensures,
-      c.u16_to_u64.ensures,
       c.put_field-a.ensures,
     )
     (sym (message-line a.moment a.step a.row.now (a.out.now, a.at)))

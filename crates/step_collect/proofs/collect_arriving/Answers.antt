@@ -19,13 +19,3 @@ returns-then-not-is_open c =
     let a = c.args in
     let r : is_root_node a.target ≡ false = unfold is_root_node in le-ltb _ _ c.if-target-lt-PORT_NODES.false in
     rw (input-shut a.phases.now a.tables.now a.flags.now a.given.now 8 a.target r (sym c.is_open.ensures ∙ c.if-not-is_open.true))
-
-pub collect_input-requires : goal.collect_input-requires
-collect_input-requires c =
-    let p = c.requires in
-    record {
-      below = p.below;
-      in_range = p.in_range;
-      enters = sym c.is_open.ensures ∙ c.if-not-is_open.false;
-      not_root = c.if-target-lt-PORT_NODES.false;
-    }

@@ -11,7 +11,7 @@ use Rattle.step_collect.proofs.collect_bag.Goals as goal
 pub returns-then-c-reach_at : goal.returns-then-c-reach_at
 returns-then-c-reach_at c =
     let a = c.args in
-    let shut = rw (c.reach_at.ensures, c.u16_to_usize.ensures) at c.if-c-reach_at.true in
+    let shut = rw c.reach_at.ensures at c.if-c-reach_at.true in
     sym (unreached a.phases.now a.tables.now a.flags.now a.given.now 8 a.c 4 0 (a.buf.now, 0) shut (omega arith))
 
 pub collect_arriving-end-requires : goal.collect_arriving-end-requires
@@ -25,7 +25,7 @@ loop-q-preserved c =
     let l = c.loop-q in
     let m = c.collect_arriving-end in
     let f : ℕ → List ℕ = λ p. arriving a.phases.now a.tables.now a.flags.now a.given.now 8 (input_node a.c p) in
-    (omega arith, m.auto.buf ∙ l.invariant.1, rw (m.ensures, c.input_node-target.ensures) (ports-more f 4 l.q (l.buf, l.end) (omega arith) ∙ l.invariant.2))
+    (m.auto.buf ∙ l.invariant.0, rw (m.ensures, c.input_node-target.ensures) (ports-more f 4 l.q (l.buf, l.end) (omega arith) ∙ l.invariant.1))
 
 pub returns : goal.returns
-returns c = sym (ports-none _ 4 c.loop-q.q _ (omega arith)) ∙ c.loop-q.invariant.2
+returns c = sym (ports-none _ 4 c.loop-q.q _ (omega arith)) ∙ c.loop-q.invariant.1

@@ -9,8 +9,3 @@ unfolding puts
 returns-then-not-is_open c =
     let a = c.args in
     rw (coupled-shut a.phases.now a.tables.now a.flags.now 8 a.target (sym c.is_open.ensures ∙ c.if-not-is_open.true))
-
-pub collect_coupled-requires : goal.collect_coupled-requires
-collect_coupled-requires c =
-    let p = c.requires in
-    record { below = p.below; in_range = p.in_range; enters = sym c.is_open.ensures ∙ c.if-not-is_open.false }

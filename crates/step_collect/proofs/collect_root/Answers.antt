@@ -17,7 +17,7 @@ loop-q-preserved c =
     let l = c.loop-q in
     let m = c.collect_leaving-end in
     let f : ℕ → List ℕ = λ p. leaving a.phases.now a.tables.now a.flags.now 8 (output_node 0 p) in
-    (omega arith, m.auto.buf ∙ l.invariant.1, rw (m.ensures, c.root_output-target.ensures) (ports-more f 4 l.q (l.buf, l.end) (omega arith) ∙ l.invariant.2))
+    (m.auto.buf ∙ l.invariant.0, rw (m.ensures, c.root_output-target.ensures) (ports-more f 4 l.q (l.buf, l.end) (omega arith) ∙ l.invariant.1))
 
 pub returns : goal.returns
-returns c = sym (ports-none _ 4 c.loop-q.q _ (omega arith)) ∙ c.loop-q.invariant.2
+returns c = sym (ports-none _ 4 c.loop-q.q _ (omega arith)) ∙ c.loop-q.invariant.1

@@ -4,4 +4,4 @@ use Rattle.step_collect.proofs.is_open.Goals as goal
 
 pub returns : goal.returns
 unfolding is_open may_come
-returns c = rw (c.may_come.ensures, c.word_in.ensures, c.u32_to_usize.ensures)
+returns c = rw (c.may_come.ensures, c.word_in.ensures)

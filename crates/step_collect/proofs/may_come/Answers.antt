@@ -6,8 +6,8 @@ use Rattle.step_collect.proofs.may_come.Goals as goal
 
 pub returns-then-source-lt-PORTS : goal.returns-then-source-lt-PORTS
 unfolding may_come is_up is_output node_component
-returns-then-source-lt-PORTS c = rw (lt-ltb _ _ c.if-source-lt-PORTS.true, c.reach_at.ensures, c.u32_to_usize-c.ensures)
+returns-then-source-lt-PORTS c = rw (lt-ltb _ _ c.if-source-lt-PORTS.true, c.reach_at.ensures)
 
 pub returns-else-source-lt-PORTS : goal.returns-else-source-lt-PORTS
 unfolding may_come is_up is_output node_component
-returns-else-source-lt-PORTS c = rw (le-ltb _ _ c.if-source-lt-PORTS.false, c.mark_at.ensures, c.u32_to_usize-c.ensures)
+returns-else-source-lt-PORTS c = rw (le-ltb _ _ c.if-source-lt-PORTS.false, c.mark_at.ensures)

@@ -11,10 +11,8 @@ use Rattle.step_due.proofs.+end_below.Given as goal
 abbrev pub decreases-end_below : goal.decreases-end_below
 decreases-end_below l = max_components - l.c
 
-abbrev pub invariant-loop-left : goal.invariant-loop-left
-invariant-loop-left l =
-    (l.left ≤ max_components) × (l.d < max_components) × (0 < l.d → l.c < l.d) × (l.least ≤ never_moment) ×
-    (min l.least (least_end (end_below l.tables (ends_in l.state) levels_left) (children_from l.tables l.left l.d)) ≡ end_below l.tables (ends_in l.state) max_components l.c)
-
-abbrev pub decreases-loop-left : goal.decreases-loop-left
-decreases-loop-left l = l.left
+abbrev pub invariant-loop : goal.invariant-loop
+invariant-loop l =
+    (l.d < max_components) × (0 < l.d → l.c < l.d) × (l.least ≤ never_moment) ×
+    (min l.least (least_end (end_below l.tables (ends_in l.state) levels_left) (children_from l.tables (max_components - l.counter) l.d))
+    ≡ end_below l.tables (ends_in l.state) max_components l.c)

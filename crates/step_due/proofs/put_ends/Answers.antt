@@ -10,10 +10,7 @@ use Rattle.step_due.proofs.Laws.{carried-more, due-named}
 use Rattle.step_due.proofs.put_ends.Goals as goal
 
 pub loop-i-init : goal.loop-i-init
-loop-i-init c = (omega arith, ends-size _ c.whole.ensures, refl, λ j l. absurd (omega arith))
-
-pub put_end-requires : goal.put_end-requires
-put_end-requires c = (omega arith, rw c.row_in-c.ensures (c.requires.1.numbers c.loop-i.i (omega arith)))
+loop-i-init c = (ends-size _ c.whole.ensures, refl, λ j l. absurd (omega arith))
 
 pub loop-i-preserved : goal.loop-i-preserved
 loop-i-preserved c =
@@ -22,10 +19,7 @@ loop-i-preserved c =
     let ps = phases_in a.phases.now in
     let t = a.tables.now in
     let st = held_in l.state in
-    let p : c.phase_at-p.result ≡ get_or st.phase l.i 0 = c.phase_at-p.ensures ∙ ap (λ k. get_or st.phase k 0) c.u8_to_usize.ensures in
+    let p : c.phase_at-p.result ≡ get_or st.phase l.i 0 = c.phase_at-p.ensures in
     let put = c.put_end.ensures in
     let ends = put.ends ∙ ap (λ u. set (ends_in l.state) l.i (due_number u)) (due-named ps t st l.i _ _ c.row_in-c.ensures p) in
-    (omega arith, rw ends (simp length-set l.invariant.1), put.held ∙ l.invariant.2, rw (put.held, ends) (carried-more ps t st (ends_in l.state) l.i (omega arith) l.invariant.3))
-
-pub returns : goal.returns
-returns c = (c.loop-i.invariant.2, λ j l. c.loop-i.invariant.3 j (omega arith))
+    (rw ends (simp length-set l.invariant.0), put.held ∙ l.invariant.1, rw (put.held, ends) (carried-more ps t st (ends_in l.state) l.i (omega arith) l.invariant.2))

@@ -1,4 +1,3 @@
-use Prim.Native.Nat.{◌≤◌, ◌-◌}
 use mathlib.Core.Path.{◌≡◌}
 use lib.ListN.{length}
 use Rattle.definition.specs.Limits.{max_components}
@@ -7,7 +6,4 @@ use Rattle.step_due.specs.Due.{CarriedIn}
 use Rattle.step_due.proofs.put_ends.Given as goal
 
 abbrev pub invariant-loop-i : goal.invariant-loop-i
-invariant-loop-i l = (l.i ≤ l.n) × (length (ends_in l.state) ≡ max_components) × (held_in l.state ≡ held_in l.initial.state) × CarriedIn l.phases l.tables l.i l.state
-
-abbrev pub decreases-loop-i : goal.decreases-loop-i
-decreases-loop-i l = l.n - l.i
+invariant-loop-i l = (length (ends_in l.state) ≡ max_components) × (held_in l.state ≡ held_in l.initial.state) × CarriedIn l.phases l.tables l.i l.state

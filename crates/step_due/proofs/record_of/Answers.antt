@@ -4,4 +4,4 @@ use Rattle.step_due.proofs.record_of.Goals as goal
 
 pub returns : goal.returns
 unfolding record_of
-returns c = rw (c.u8_to_usize.ensures, c.u16_to_usize.ensures, c.row_in.ensures)
+returns c = rw c.row_in.ensures

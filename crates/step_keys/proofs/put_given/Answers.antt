@@ -1,12 +1,8 @@
 -- The messages put so far and those of the rest of the given bag are all of them; one message more is one call more.
-use borrow.Author.Rules.{rules}
 use native.Mathlib.Omega.{arith}
-use Prim.Native.Nat.{◌/◌, ◌-◌}
 use mathlib.Core.Path.{sym}
-use lib.ListN.{length}
-use Rattle.definition.specs.Engine.{to_bag}
 use Rattle.law_model.proofs.Codec.{bag-length}
-use Rattle.step_keys.proofs.Laws.{Turn, turn-first, turn_more, turn_end, given-at}
+use Rattle.step_keys.proofs.Laws.{turn-first, turn_more, turn_end, given-at}
 use Rattle.step_keys.proofs.put_given.Goals as goal
 
 pub loop-i-init : goal.loop-i-init

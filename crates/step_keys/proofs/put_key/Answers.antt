@@ -1,5 +1,4 @@
 -- The store and the position that moves on are `put1`; a full buffer stays.
-use borrow.Author.Rules.{rules}
 use lib.Seq.{set_out}
 use borrow.Author.Tests.{lt-ltb, le-ltb}
 use Rattle.spec_step.specs.Put.{put1}

@@ -1,5 +1,4 @@
 -- No mark puts nothing, and neither does one past the last record; any other names the phase record that is put.
-use borrow.Author.Rules.{rules}
 use native.Mathlib.Omega.{arith}
 use Rattle.step_keys.proofs.Laws.{sent-in, sent-out, mark-row}
 use Rattle.step_keys.specs.Sent.{sent_on}

@@ -1,10 +1,6 @@
 -- The slots put so far and the used ones from j on are all that the record uses; one slot more is one call more.
-use borrow.Author.Rules.{rules}
 use native.Mathlib.Omega.{arith}
-use Rattle.step_keys.proofs.Laws.{Turn, turn-first, turn_more, turn_end, length-outputs, output-at}
-use Rattle.definition.specs.Pinned.Decoder.{to_phase}
-use Rattle.definition.specs.Model.{outputs}
-use Prim.Native.Nat.{◌-◌}
+use Rattle.step_keys.proofs.Laws.{turn-first, turn_more, turn_end, length-outputs, output-at}
 use Rattle.step_keys.proofs.put_slots.Goals as goal
 
 pub loop-j-init : goal.loop-j-init

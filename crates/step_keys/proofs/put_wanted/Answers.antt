@@ -1,5 +1,4 @@
 -- One value is put where it is wanted, none otherwise.
-use borrow.Author.Rules.{rules}
 use Rattle.step_keys.specs.Sent.{wanted_value}
 use Rattle.law_base.specs.Keys.{key_of}
 use Rattle.spec_step.specs.Put.{puts}

@@ -1,5 +1,4 @@
 -- The used ones of four slots are as many as the record counts, and at most four.
-use borrow.Author.Rules.{rules}
 use native.Mathlib.Omega.{arith}
 use Rattle.step_keys.proofs.Laws.{length-outputs}
 use Rattle.step_keys.proofs.used_slots.Goals as goal

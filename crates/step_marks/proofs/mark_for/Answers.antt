@@ -1,9 +1,8 @@
 -- The number of the phase record, and 1.
-use borrow.Author.Rules.{rules}
 use native.Mathlib.Numerals.{add-one}
 use Rattle.spec_step.specs.TableStep.{record_of}
 use Rattle.step_marks.proofs.mark_for.Goals as goal
 
 pub returns : goal.returns
 unfolding record_of
-returns c = rw (c.u8_to_u32.ensures, c.u16_to_u32.ensures, c.row_in.ensures) (add-one _)
+returns c = rw c.row_in.ensures (add-one _)

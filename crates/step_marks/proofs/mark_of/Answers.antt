@@ -1,5 +1,4 @@
 -- The mark where the due moment has come, 0 otherwise.
-use borrow.Author.Rules.{rules}
 use Rattle.spec_step.specs.Carried.{end_mark}
 use Rattle.spec_step.specs.TableStep.{record_of}
 use borrow.Author.Tests.{eq-eqb, ne_eqb}
@@ -11,11 +10,11 @@ pub returns-then-end_at-at : goal.returns-then-end_at-at
 unfolding end_mark record_of
 returns-then-end_at-at c =
     let a = c.args in
-    rw (eq-eqb (get_or (ends_in a.state.now) a.i 0) a.at.0 (rw (c.end_at.ensures, c.u8_to_usize-position.ensures) at c.if-end_at-at.true))
-    (rw (c.phase_at.ensures, c.u8_to_usize-position.ensures) at c.mark_for.ensures)
+    rw (eq-eqb (get_or (ends_in a.state.now) a.i 0) a.at.0 (rw c.end_at.ensures at c.if-end_at-at.true))
+    (rw c.phase_at.ensures at c.mark_for.ensures)
 
 pub returns-else-end_at-at : goal.returns-else-end_at-at
 unfolding end_mark
 returns-else-end_at-at c =
     let a = c.args in
-    rw (ne_eqb (get_or (ends_in a.state.now) a.i 0) a.at.0 (rw (c.end_at.ensures, c.u8_to_usize-position.ensures) at c.if-end_at-at.false))
+    rw (ne_eqb (get_or (ends_in a.state.now) a.i 0) a.at.0 (rw c.end_at.ensures at c.if-end_at-at.false))

@@ -1,5 +1,4 @@
 -- The parent is marked where the component's mark is up.
-use borrow.Author.Rules.{rules}
 use lib.ListN.{get_or}
 use borrow.Author.Tests.{eq-eqb, ne_eqb}
 use mathlib.Core.Path.{◌≡◌, ◌∙◌, refl, sym}
@@ -7,16 +6,11 @@ use Rattle.spec_step.specs.TableStep.{is_up}
 use Rattle.spec_step.specs.Flags.{marks_in}
 use Rattle.step_marks.proofs.mark_parent.Goals as goal
 
-pub put_mark-requires : goal.put_mark-requires
-put_mark-requires c =
-    let q = c.requires in
-    rw c.row_in.ensures (q.in_range.parents c.args.c q.below)
-
 pub returns-then-mark_at-ne0 : goal.returns-then-mark_at-ne0
 unfolding is_up
 returns-then-mark_at-ne0 c =
     let a = c.args in
-    let k : c.mark_at.result ≡ get_or (marks_in a.flags.now) a.c 0 = rw c.u16_to_usize.ensures at c.mark_at.ensures in
+    let k : c.mark_at.result ≡ get_or (marks_in a.flags.now) a.c 0 = c.mark_at.ensures in
     let put = c.put_mark.ensures in
     let up = ne_eqb (get_or (marks_in a.flags.now) a.c 0) 0 (λ q. c.if-mark_at-ne0.true (k ∙ q)) in
     record { marks = rw up (rw c.row_in.ensures at put.marks); others = put.others }
@@ -25,6 +19,6 @@ pub returns-else-mark_at-ne0 : goal.returns-else-mark_at-ne0
 unfolding is_up
 returns-else-mark_at-ne0 c =
     let a = c.args in
-    let k : c.mark_at.result ≡ get_or (marks_in a.flags.now) a.c 0 = rw c.u16_to_usize.ensures at c.mark_at.ensures in
+    let k : c.mark_at.result ≡ get_or (marks_in a.flags.now) a.c 0 = c.mark_at.ensures in
     let down = eq-eqb (get_or (marks_in a.flags.now) a.c 0) 0 (sym k ∙ c.if-mark_at-ne0.false) in
     record { marks = rw down; others = refl }

@@ -1,10 +1,8 @@
 -- Some port of those that are left, since none was found before.
-use borrow.Author.Rules.{rules}
 use Rattle.spec_step.specs.Ranges.{max_nodes}
 use native.Mathlib.Omega.{arith}
-use Prim.Native.Nat.{◌≤◌, ◌<◌, ◌-◌}
+use Prim.Native.Nat.{◌<◌}
 use mathlib.Core.Path.{◌≡◌, ◌∙◌, sym}
-use Rattle.spec_step.specs.TableStep.{may_reach}
 use Rattle.spec_step.specs.Flags.{marks_in, reached_in}
 use Rattle.step_marks.specs.Filled.{any_source}
 use Rattle.law_routes.specs.Nodes.{input_node}
@@ -23,7 +21,7 @@ returns-then-any_source c =
     let l = c.loop-q in
     let e : any_source a.tables.now a.flags.now (input_node a.c l.q) ≡ c.any_source.result =
     sym (rw c.input_node.ensures at c.any_source.ensures) in
-    reach_here a.tables.now (marks_in a.flags.now) (reached_in a.flags.now) a.c 4 l.q (omega arith) (e ∙ c.if-any_source.true) ∙ l.invariant.1
+    reach_here a.tables.now (marks_in a.flags.now) (reached_in a.flags.now) a.c 4 l.q (omega arith) (e ∙ c.if-any_source.true) ∙ l.invariant
 
 pub loop-q-preserved : goal.loop-q-preserved
 loop-q-preserved c =
@@ -31,10 +29,10 @@ loop-q-preserved c =
     let l = c.loop-q in
     let e : any_source a.tables.now a.flags.now (input_node a.c l.q) ≡ c.any_source.result =
     sym (rw c.input_node.ensures at c.any_source.ensures) in
-    (omega arith, reach-later a.tables.now (marks_in a.flags.now) (reached_in a.flags.now) a.c 4 l.q (omega arith) (e ∙ c.if-any_source.false) ∙ l.invariant.1)
+    reach-later a.tables.now (marks_in a.flags.now) (reached_in a.flags.now) a.c 4 l.q (omega arith) (e ∙ c.if-any_source.false) ∙ l.invariant
 
 pub returns : goal.returns
 returns c =
     let a = c.args in
     let l = c.loop-q in
-    reach-none a.tables.now (marks_in a.flags.now) (reached_in a.flags.now) a.c 4 l.q (omega arith) ∙ l.invariant.1
+    reach-none a.tables.now (marks_in a.flags.now) (reached_in a.flags.now) a.c 4 l.q (omega arith) ∙ l.invariant

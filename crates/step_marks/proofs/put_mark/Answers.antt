@@ -1,5 +1,4 @@
 -- A store in the front part of the flags sets its mark (`take-set-lt`), and leaves the other part (`drop-set-lt`).
-use borrow.Author.Rules.{rules}
 use lib.Seq.{take-set-lt, drop-set-lt}
 use Rattle.definition.specs.Limits.{max_components}
 use Rattle.spec_step.specs.Flags.{marks_in, reached_in}
@@ -9,8 +8,7 @@ pub returns : goal.returns
 unfolding marks_in reached_in
 returns c =
     let a = c.args in
-    rw c.u16_to_usize-at.ensures
-    (record {
+    record {
       marks = take-set-lt max_components a.flags.now a.c a.mark c.requires;
       others = drop-set-lt max_components a.flags.now a.c a.mark c.requires;
-    })
+    }

@@ -1,5 +1,4 @@
 -- A store behind the marks sets what may be reached (`drop-set-add`), and leaves them (`take-set-le`).
-use borrow.Author.Rules.{rules}
 use native.Mathlib.Omega.{arith}
 use lib.Seq.{take-set-le, drop-set-add}
 use Prim.Native.Nat.{◌+◌}
@@ -11,8 +10,7 @@ pub returns : goal.returns
 unfolding marks_in reached_in
 returns c =
     let a = c.args in
-    rw c.u16_to_usize-at.ensures
-    (record {
+    record {
       reached = drop-set-add max_components a.flags.now a.c a.up;
       others = take-set-le max_components a.flags.now (max_components + a.c) a.up (omega arith);
-    })
+    }

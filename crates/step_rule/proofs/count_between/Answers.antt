@@ -23,12 +23,12 @@ loop-i-preserved c =
       | else-above-width w ↦ rw (sym same, lt-leb r (a.high - a.low) w.if-above-width.false) w.n-is
     ] in
     let b : c.if-above-width.n ≤ l.i + 1 = elim c.if-above-width.branch [ then-above-width w ↦ omega arith | else-above-width w ↦ omega arith ] in
-    (l.invariant.0, omega arith, b, rw e (count-more (between a.low a.high) a.bag.now l.i l.n (omega arith)) ∙ l.invariant.3)
+    (b, rw e (count-more (between a.low a.high) a.bag.now l.i l.n (omega arith)) ∙ l.invariant.1)
 
 pub returns : goal.returns
 returns c =
     let a = c.args in
     let l = c.loop-i in
     let z : l.i ≡ length a.bag.now = omega arith in
-    let q : l.n + count (between a.low a.high) (drop (length a.bag.now) a.bag.now) ≡ count (between a.low a.high) a.bag.now = rw z at l.invariant.3 in
+    let q : l.n + count (between a.low a.high) (drop (length a.bag.now) a.bag.now) ≡ count (between a.low a.high) a.bag.now = rw z at l.invariant.1 in
     omega (arith, q, count-end (between a.low a.high) a.bag.now)

@@ -25,23 +25,23 @@ pub rule_in-rule-requires : goal.rule_in-rule-requires
 unfolding rules_in
 rule_in-rule-requires c = rw (length-records rule_size to_rule c.args.rules.now) c.requires.0
 
-pub returns-in_default : goal.returns-in_default
-returns-in_default c =
+pub returns-in_err-j : goal.returns-in_err-j
+returns-in_err-j c =
     let a = c.args in
-    one-moved (ranges_of a.elapsed.half_open) a.component a.phase a.elapsed.time.0 (map message_of a.bag.now) (rules_in a.rules.now) a.i (rule_of c.rule_in-rule.result) none
-    c.rule_in-rule.ensures (ap found_of (sym c.in_default.is) ∙ c.deciding_of-found.ensures)
+    ap found_of c.from_residual.ensures
+    ∙ one-moved (ranges_of a.elapsed.half_open) a.component a.phase a.elapsed.time.0 (map message_of a.bag.now) (rules_in a.rules.now) a.i (rule_of c.rule_in-rule.result) none
+    c.rule_in-rule.ensures c.in_err-j.ensures
 
 pub overflow_add-position : goal.overflow_add-position
 overflow_add-position c =
     let a = c.args in
-    let j = c.in-At.j in
-    let z : j ≡ 0 = first_alone (ranges_of a.elapsed.half_open) a.component a.phase a.elapsed.time.0 (map message_of a.bag.now) _ j
-    (ap found_of (sym c.in-At.is) ∙ c.deciding_of-found.ensures) in
+    let j = c.in_ok-j.j in
+    let z : j ≡ 0 = first_alone (ranges_of a.elapsed.half_open) a.component a.phase a.elapsed.time.0 (map message_of a.bag.now) _ j c.in_ok-j.ensures in
     record { fits = omega arith }
 
 pub returns : goal.returns
 returns c =
     let a = c.args in
     one-moved (ranges_of a.elapsed.half_open) a.component a.phase a.elapsed.time.0 (map message_of a.bag.now) (rules_in a.rules.now) a.i (rule_of c.rule_in-rule.result) (some
-    c.in-At.j)
-    c.rule_in-rule.ensures (ap found_of (sym c.in-At.is) ∙ c.deciding_of-found.ensures)
+    c.in_ok-j.j)
+    c.rule_in-rule.ensures c.in_ok-j.ensures

@@ -1,4 +1,4 @@
--- The first rule that holds from i on is the first from the range's begin on; each break is one case of the definition.
+-- The first rule that holds from i on is the first from the range's begin on; what the loop returns and what follows it are the cases of the definition.
 use Rattle.std.proofs.Common.{map, sym, ap, ◌∙◌, arith}
 use Rattle.step_rule.proofs.OneRule.{one_more}
 use Rattle.step_rule.specs.Search.{found_of}
@@ -17,12 +17,9 @@ loop-i-preserved c =
           (ap found_of (sym c.in_default.is) ∙ c.decided_at-here.ensures) ∙ l.invariant.1,
     )
 
-pub returns-then-stop-i : goal.returns-then-stop-i
-returns-then-stop-i c = c.decided_past-found.ensures ∙ c.loop-i.invariant.1
-
-pub returns-in-At : goal.returns-in-At
-returns-in-At c =
+pub returns-in-Some : goal.returns-in-Some
+returns-in-Some c =
     let a = c.args in
     let l = c.loop-i in
-    one_more (ranges_of a.elapsed.half_open) a.component a.phase a.elapsed.time.0 (map message_of a.bag.now) (rules_in a.rules.now) l.i a.end (some c.in-At.j) (omega arith)
-    (ap found_of (sym c.in-At.is) ∙ c.decided_at-here.ensures) ∙ l.invariant.1
+    one_more (ranges_of a.elapsed.half_open) a.component a.phase a.elapsed.time.0 (map message_of a.bag.now) (rules_in a.rules.now) l.i a.end (some c.in-Some.j) (omega arith)
+    (ap found_of (sym c.in-Some.is) ∙ c.decided_at-here.ensures) ∙ l.invariant.1

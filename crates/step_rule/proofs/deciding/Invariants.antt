@@ -1,4 +1,4 @@
-use Rattle.std.proofs.Common.{◌≡◌, ◌-◌, ◌*◌, map}
+use Rattle.std.proofs.Common.{◌≡◌, ◌*◌, map}
 use Rattle.spec_step.specs.TableStep.{deciding_in}
 use Rattle.law_base.specs.Keys.{message_of}
 use Rattle.law_base.specs.Ranges.{ranges_of}
@@ -8,6 +8,3 @@ use Rattle.step_rule.proofs.deciding.Given as goal
 abbrev pub invariant-loop-i : goal.invariant-loop-i
 invariant-loop-i l = (l.at ≡ 18 * l.i) × (deciding_in (ranges_of l.elapsed.half_open) (rules_in l.rules) l.i l.end l.component l.phase l.elapsed.time.0
     (map message_of l.bag) ≡ deciding_in (ranges_of l.elapsed.half_open) (rules_in l.rules) l.first l.end l.component l.phase l.elapsed.time.0 (map message_of l.bag))
-
-abbrev pub decreases-loop-i : goal.decreases-loop-i
-decreases-loop-i l = l.end - l.i

@@ -12,15 +12,15 @@ loop-i-preserved c =
     found-later a.rules.now (ranges_of a.elapsed.half_open) a.component a.phase a.elapsed.time.0 (map message_of a.bag.now) l.i a.end (omega arith)
     (sym c.rule_holds.ensures ∙ c.if-rule_holds.false) ∙ l.invariant
 
-pub returns-then-end-i : goal.returns-then-end-i
-returns-then-end-i c =
-    let a = c.args in
-    let l = c.loop-i in
-    found_none a.rules.now (ranges_of a.elapsed.half_open) a.component a.phase a.elapsed.time.0 (map message_of a.bag.now) l.i a.end c.if-end-i.true ∙ l.invariant
-
 pub returns-then-rule_holds : goal.returns-then-rule_holds
 returns-then-rule_holds c =
     let a = c.args in
     let l = c.loop-i in
     found_here a.rules.now (ranges_of a.elapsed.half_open) a.component a.phase a.elapsed.time.0 (map message_of a.bag.now) l.i a.end (omega arith)
     (sym c.rule_holds.ensures ∙ c.if-rule_holds.true) ∙ l.invariant
+
+pub returns : goal.returns
+returns c =
+    let a = c.args in
+    let l = c.loop-i in
+    found_none a.rules.now (ranges_of a.elapsed.half_open) a.component a.phase a.elapsed.time.0 (map message_of a.bag.now) l.i a.end c.loop-i-test.false ∙ l.invariant

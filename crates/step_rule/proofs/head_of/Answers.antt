@@ -5,7 +5,7 @@ use Rattle.step_rule.proofs.head_of.Goals as goal
 
 pub returns-then-component-lt256 : goal.returns-then-component-lt256
 unfolding head_of
-returns-then-component-lt256 c = rw (lt-ltb _ _ c.if-component-lt256.true, c.u8_to_u32.ensures)
+returns-then-component-lt256 c = rw (lt-ltb _ _ c.if-component-lt256.true)
 
 pub returns-else-component-lt256 : goal.returns-else-component-lt256
 unfolding head_of

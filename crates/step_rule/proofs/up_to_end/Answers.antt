@@ -1,5 +1,5 @@
 -- Below the high end and its ticks is up to the end (`below_end`).
-use Rattle.std.proofs.Common.{◌+◌, ltb, ◌∙◌, ap₂}
+use Rattle.std.proofs.Common.{◌+◌, ltb, ◌∙◌, ap}
 use Rattle.law_base.specs.Ranges.{ranges_of}
 use Rattle.step_rule.proofs.Laws.{below_end}
 use Rattle.step_rule.proofs.up_to_end.Goals as goal
@@ -7,4 +7,4 @@ use Rattle.step_rule.proofs.up_to_end.Goals as goal
 pub returns : goal.returns
 returns c =
     let e = c.args.elapsed in
-    ap₂ (λ a b. ltb e.time.0 (a + b)) c.u32_to_u64.ensures c.end_ticks.ensures.0 ∙ below_end (ranges_of e.half_open) e.time.0 c.args.high
+    ap (λ b. ltb e.time.0 (c.args.high + b)) c.end_ticks.ensures.0 ∙ below_end (ranges_of e.half_open) e.time.0 c.args.high

@@ -1,5 +1,4 @@
 -- What `collect_bag` leaves at the front of the buffer is the bag, as much as has room; the transition is the definition's with it.
-use borrow.Author.Rules.{rules}
 use native.Mathlib.Omega.{arith}
 use Rattle.step_simulator.proofs.Laws.{into-held, keys-unreached}
 use Rattle.definition.specs.Limits.{max_components}
@@ -35,9 +34,6 @@ pulled : (k : After-collect_bag-k) → Pulled k
 pulled k = let a = k.args in
     into-held a.phases.now a.tables.now a.flags.now a.given.now k.row_in-c.result a.work.now _ k.collect_bag-k.result k.collect_bag-k.ensures
 
-pub is_still-requires : goal.is_still-requires
-is_still-requires c = numbered (goal.at.is_still-requires c).After-row_in-c
-
 pub returns-then-is_still : goal.returns-then-is_still
 unfolding is_up
 returns-then-is_still c =
@@ -57,12 +53,6 @@ returns-then-is_still c =
       rules = no_rule_held;
       ends = end_kept (ends_in a.state.now) a.i _ c.requires.carried;
     }
-
-pub collect_bag-k-requires : goal.collect_bag-k-requires
-collect_bag-k-requires c = record { below = numbered (goal.at.collect_bag-k-requires c).After-row_in-c; in_range = c.requires.in_range }
-
-pub mark_at-due-requires : goal.mark_at-due-requires
-mark_at-due-requires c = rw c.u16_to_usize.ensures (numbered (goal.at.mark_at-due-requires c).After-row_in-c)
 
 pub slice_bounds-bag-end : goal.slice_bounds-bag-end
 slice_bounds-bag-end c =
@@ -86,7 +76,7 @@ returns c =
     let f = pulled (goal.at.returns c).After-collect_bag-k in
     let changed = c.transition.ensures in
     record {
-      state = rw (c.mark_at-due.ensures, c.u16_to_usize.ensures, f.held, c.row_in-c.ensures) at changed.state;
-      rules = rw (c.mark_at-due.ensures, c.u16_to_usize.ensures, f.held, c.row_in-c.ensures) at changed.rules;
+      state = rw (c.mark_at-due.ensures, f.held, c.row_in-c.ensures) at changed.state;
+      rules = rw (c.mark_at-due.ensures, f.held, c.row_in-c.ensures) at changed.rules;
       ends = changed.ends;
     }

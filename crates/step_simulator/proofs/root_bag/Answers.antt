@@ -1,13 +1,9 @@
 -- What `collect_root` leaves in the first quarter of the buffer is the root's bag, as much as has room; sorting keys sorts messages.
-use borrow.Author.Rules.{rules}
-use native.Mathlib.Omega.{arith}
-use mathlib.Core.Path.{◌∙◌, sym}
 use lib.ListN.{length, take}
-use lib.Seq.{length-take-le}
 use Rattle.law_stores.proofs.Fronts.{Front}
 use Rattle.spec_step.specs.TableStep.{root_room}
 use Rattle.step_collect.specs.Collected.{root_keys_for}
-use Rattle.step_simulator.proofs.Laws.{root-held, sort-fits, root-sorted, same_size}
+use Rattle.step_simulator.proofs.Laws.{root-held, sort-fits, root-sorted}
 use Rattle.step_simulator.proofs.root_bag.Goals as goal
 use Rattle.step_simulator.proofs.root_bag.Goals.{After-collect_root-count}
 
@@ -21,16 +17,8 @@ pulled : (k : After-collect_root-count) → Pulled k
 pulled k = let a = k.args in
     root-held a.phases.now a.tables.now a.flags.now _ _ k.collect_root-count.result k.collect_root-count.ensures
 
-pub slice_bounds-collect_root-end-2 : goal.slice_bounds-collect_root-end-2
-slice_bounds-collect_root-end-2 c =
-    let b = c.args.work.now in
-    sym (length-take-le (root_room (length b)) b (omega arith))
-
 pub sort-requires : goal.sort-requires
 sort-requires c = sort-fits c.args.work.now _ _ _ (pulled (goal.at.sort-requires c).After-collect_root-count)
-
-pub shape_of-work : goal.shape_of-work
-shape_of-work c = c.sort.auto.keys ∙ same_size c.args.work.now _ _ _ (pulled (goal.at.shape_of-work c).After-collect_root-count)
 
 pub returns : goal.returns
 returns c = root-sorted c.args.work.now _ _ _ (pulled (goal.at.returns c).After-collect_root-count) _ c.sort.ensures

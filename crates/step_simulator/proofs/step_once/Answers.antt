@@ -1,5 +1,4 @@
 -- The marks and flags over zeros are the definition's, and then the step is the definition's with them.
-use borrow.Author.Rules.{rules}
 use Rattle.step_simulator.proofs.Laws.{step_is, count-bag}
 use Rattle.definition.specs.Engine.{to_bag}
 use Rattle.run_state.specs.Held.{held_in, ends_in}
@@ -9,20 +8,6 @@ use Rattle.step_collect.specs.Collected.{root_keys_for}
 use lib.ListN.{length}
 use mathlib.Core.Path.{◌∙◌}
 use Rattle.step_simulator.proofs.step_once.Goals as goal
-
-pub mark-requires : goal.mark-requires
-mark-requires c =
-    let q = c.requires.changeable in
-    record { few = q.few; in_range = q.in_range }
-
-pub reach-requires : goal.reach-requires
-reach-requires c = c.requires.changeable.in_range
-
-pub change_all-requires : goal.change_all-requires
-change_all-requires c = c.requires.changeable
-
-pub root_bag-requires : goal.root_bag-requires
-root_bag-requires c = c.requires.changeable.in_range
 
 pub returns : goal.returns
 returns c =

@@ -1,5 +1,4 @@
 -- The deciding rule among those from the first that names the component to the last, and where it leads.
-use borrow.Author.Rules.{rules}
 use mathlib.Core.Path.{◌≡◌, ◌∙◌, sym, ap}
 use mathlib.Core.List.{map}
 use Prim.Native.Nat.{ℕ, ◌+◌, ◌/◌, ◌%◌}
@@ -41,7 +40,7 @@ pub returns : goal.returns
 unfolding leads told_as
 returns c =
     let answer = c.told-2.ensures in
-    let found = sym (ap found_of c.in-At.is) ∙ searched (goal.at.returns c).After-deciding in
+    let found = sym (ap found_of c.in-Some.is) ∙ searched (goal.at.returns c).After-deciding in
     record {
       phase = led-byte _ _ answer.0 (answer.1 ∙ c.next_by.ensures) ∙ ap (leads (rules_in c.args.rules.now)) found;
       rule = answer.2 ∙ ap told_as found;

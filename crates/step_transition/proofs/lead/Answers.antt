@@ -1,5 +1,4 @@
 -- Due or not: the two cases of the definition with messages in the bag.
-use borrow.Author.Rules.{rules}
 use mathlib.Core.Option.{some}
 use mathlib.Core.Path.{◌∙◌, ap}
 use Rattle.run_state.specs.Held.{held_in}
@@ -13,7 +12,7 @@ returns-then-due c =
     let ps = phases_in a.phases.now in
     let rs = rules_in a.rules.now in
     let st = held_in a.state.now in
-    let both = rw (c.phase_at-p.ensures, c.u8_to_usize-position.ensures) at c.confluent.ensures in
+    let both = rw c.phase_at-p.ensures at c.confluent.ensures in
     rw c.if-due.true (record {
       phase = both.phase ∙ confluent-case ps a.tables.now rs a.at.0 st a.i a.c a.bag.now c.requires.2;
       part = ap some both.rule ∙ confluent-part ps a.tables.now rs a.at.0 st a.i a.c a.bag.now c.requires.2;
@@ -27,7 +26,7 @@ returns c =
     let rs = rules_in a.rules.now in
     let st = held_in a.state.now in
     let elapsed = rw (c.since-elapsed.ensures, c.last_at.ensures) at c.decided.ensures in
-    let found = rw (c.phase_at-p.ensures, c.u8_to_usize-position.ensures) at elapsed in
+    let found = rw c.phase_at-p.ensures at elapsed in
     rw c.if-due.false (record {
       phase = found.phase ∙ external-case ps a.tables.now rs a.at.0 st a.i a.c a.bag.now c.requires.2;
       part = ap some found.rule ∙ external-part ps a.tables.now rs a.at.0 st a.i a.c a.bag.now c.requires.2;

@@ -1,5 +1,4 @@
 -- The phase that was led to, or the phase itself.
-use borrow.Author.Rules.{rules}
 use mathlib.Core.Path.{sym, ap, refl, ◌∙◌}
 use native.Mathlib.Omega.{arith}
 use Prim.Native.Nat.{◌%◌}

@@ -1,5 +1,4 @@
 -- A rule's first byte is the component that it names. Assumes nothing.
-use borrow.Author.Rules.{rules}
 use native.Mathlib.Omega.{arith}
 use Rattle.table_components.specs.Columns.{rule_names}
 use Rattle.law_bytes.proofs.Rows.{number-row}
@@ -25,5 +24,5 @@ returns c =
     let n = length-records 18 to_rule s in
     let e : get_or (rules_in s) a.i no_rule ≡ to_rule (row 18 a.i s) = record-in 18 to_rule s a.i no_rule (omega (arith, c.requires.0)) in
     let name : rule_names (rules_in s) a.i ≡ number_at 1 (18 * a.i) s = ap (λ k. k.component) e ∙ rw (number-row 1 0 18 a.i s (omega arith), add-zero) in
-    rw (c.put_in.ensures, c.u8_to_usize.ensures, c.byte_at-c.ensures, c.u16_to_usize.ensures)
+    rw (c.put_in.ensures, c.byte_at-c.ensures)
     (ap (λ k. put_in a.at max_components k a.v a.t.now) (sym name))

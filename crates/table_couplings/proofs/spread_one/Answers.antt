@@ -11,16 +11,16 @@ use Rattle.table_words.specs.Writes.{put_in}
 use Rattle.table_couplings.specs.Links.{spread}
 use Rattle.table_couplings.proofs.spread_one.Goals as goal
 
-pub returns-then-not-t-u16_to_usize : goal.returns-then-not-t-u16_to_usize
+pub returns-then-not-t-x : goal.returns-then-not-t-x
 unfolding spread put_in
-returns-then-not-t-u16_to_usize c =
+returns-then-not-t-x c =
     let a = c.args in
-    let e : is_live a.t.now a.x ≡ true = unfold is_live in rw c.u16_to_usize.ensures at c.if-not-t-u16_to_usize.true-raw in
-    rw (e, c.u16_to_usize-then-not-t-u16_to_usize.ensures, lt-ltb a.y (port_nodes * max_components) c.requires.1)
+    let e : is_live a.t.now a.x ≡ true = unfold is_live in search rules in
+    rw (e, lt-ltb a.y (port_nodes * max_components) c.requires.1)
 
-pub returns-else-not-t-u16_to_usize : goal.returns-else-not-t-u16_to_usize
+pub returns-else-not-t-x : goal.returns-else-not-t-x
 unfolding spread
-returns-else-not-t-u16_to_usize c =
+returns-else-not-t-x c =
     let a = c.args in
-    let e : is_live a.t.now a.x ≡ false = unfold is_live in rw c.u16_to_usize.ensures at c.if-not-t-u16_to_usize.false-raw in
+    let e : is_live a.t.now a.x ≡ false = unfold is_live in search rules in
     rw e

@@ -1,9 +1,8 @@
 -- A coupling to a parent ends at an output, any other at an input: the definition's test. Assumes nothing.
-use borrow.Author.Rules.{rules}
 use Rattle.spec_step.specs.Tables.{target_number}
 use Rattle.table_couplings.specs.Links.{side_node}
 use Rattle.table_couplings.proofs.target_node.Goals as goal
 
 pub returns : goal.returns
 unfolding target_number side_node
-returns c = rw (c.side_node.ensures, c.is_child-outward.ensures, c.u8_to_usize-2.ensures, c.u8_to_usize.ensures)
+returns c = rw (c.side_node.ensures, c.is_child-outward.ensures)

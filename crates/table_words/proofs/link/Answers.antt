@@ -1,5 +1,4 @@
 -- The two stores are those of the definition, in its order; a key that has no row changes nothing. Assumes nothing.
-use borrow.Author.Rules.{rules}
 use native.Mathlib.Omega.{arith}
 use Rattle.table_words.specs.Writes.{link_at}
 use lib.ListN.{length-set}
@@ -8,7 +7,7 @@ use Rattle.table_words.proofs.link.Goals as goal
 
 pub returns-then-k-size : goal.returns-then-k-size
 unfolding link_at
-returns-then-k-size c = rw (lt-ltb _ _ c.if-k-size.true, c.u16_to_usize.ensures)
+returns-then-k-size c = rw (lt-ltb _ _ c.if-k-size.true)
 
 pub bounds-t-first-then-k-size : goal.bounds-t-first-then-k-size
 bounds-t-first-then-k-size c = simp length-set (omega arith)

@@ -1,8 +1,6 @@
 -- `model_checks::kinship::are_related` meets its contract. Nobody is its own relative (related-self); two others are relatives by their parents alone
 -- (related-by). Assumes nothing.
-use borrow.Author.Rules.{rules}
-use native.Mathlib.Omega.{arith}
-use mathlib.Core.Path.{◌≡◌, sym, ◌∙◌}
+use mathlib.Core.Path.{◌≡◌, sym}
 use lib.ListN.{length}
 use Rattle.model_records.specs.Values.{components_in}
 use Rattle.model_checks.proofs.Kept.{related-self, related-by}
@@ -21,12 +19,6 @@ returns c =
     let a = c.args in
     let q = c.requires in
     let cs = components_in a.components.now in
-    let f = c.u8_to_usize-over_source.ensures ∙ q.placed.stand.holds a.source q.source_there in
-    let g = c.u8_to_usize-over_target.ensures ∙ q.placed.stand.holds a.target q.target_there in
+    let f = q.placed.stand.holds a.source q.source_there in
+    let g = q.placed.stand.holds a.target q.target_there in
     rw (f, g) (related-by cs (length cs) a.source a.target q.placed.accepted q.source_there q.target_there c.if-source-target.false)
-
-pub bounds-parents-source : goal.bounds-parents-source
-bounds-parents-source c = omega (arith, c.requires.placed.accepted.few)
-
-pub bounds-parents-target : goal.bounds-parents-target
-bounds-parents-target c = omega (arith, c.requires.placed.accepted.few)

@@ -7,7 +7,7 @@ use mathlib.Core.Bool.{true, false}
 use Rattle.spec_step.specs.Tables.{is_root_node, is_output}
 use Rattle.spec_step.specs.Put.{puts}
 use Rattle.spec_step.specs.Pull.{child_out, source_in}
-use Rattle.step_collect.proofs.Laws.{turn-first, turn_more, turn_end, input-root, input_none, input-open, input-shut, coupled-shut}
+use Rattle.step_collect.proofs.Laws.{turn-first, turn_more, turn_none, turn_end, input-root, input_none, input-open, input-shut, coupled-shut}
 use Rattle.step_collect.proofs.inputs.+collect_input_collect_source.Goals as goal
 
 pub collect_input-returns-then-depth-eq0 : goal.collect_input-returns-then-depth-eq0
@@ -17,21 +17,24 @@ collect_input-returns-then-depth-eq0 t c =
     let r : is_root_node a.target ≡ false = unfold is_root_node in le-ltb _ _ c.requires.not_root in
     rw (c.if-depth-eq0.true, input_none a.phases.now a.tables.now a.flags.now a.given.now a.target r)
 
-pub collect_input-loop-left-init : goal.collect_input-loop-left-init
-collect_input-loop-left-init t c =
+pub collect_input-loop-init : goal.collect_input-loop-init
+collect_input-loop-init t c =
     let a = c.args in
     let p = c.requires in
     let r : is_root_node a.target ≡ false = unfold is_root_node in le-ltb _ _ p.not_root in
     let all = input-open a.phases.now a.tables.now a.flags.now a.given.now a.depth a.target r (omega arith) p.enters in
     turn-first a.target p.in_range p.below all c.first_link-link.ensures
 
-pub collect_input-loop-left-preserved : goal.collect_input-loop-left-preserved
-collect_input-loop-left-preserved t c =
-    turn_more c.loop-left.invariant c.requires.in_range c.loop-left-test.true c.collect_source-next.auto.buf
+pub collect_input-loop-preserved : goal.collect_input-loop-preserved
+collect_input-loop-preserved t c =
+    turn_more c.loop.invariant c.requires.in_range c.loop-test.true c.if-link-eq0.false c.collect_source-next.auto.buf
     c.collect_source-next.ensures c.source_of-source.ensures c.next_link-link.ensures
 
+pub collect_input-returns-then-link-eq0 : goal.collect_input-returns-then-link-eq0
+collect_input-returns-then-link-eq0 t c = turn_none c.loop.invariant c.if-link-eq0.true
+
 pub collect_input-returns : goal.collect_input-returns
-collect_input-returns t c = turn_end c.loop-left.invariant c.loop-left-test.false
+collect_input-returns t c = turn_end c.loop.invariant c.loop-test.false
 
 pub collect_source-returns-then-source-lt-PORT_NODES : goal.collect_source-returns-then-source-lt-PORT_NODES
 unfolding source_in is_output

@@ -12,10 +12,7 @@ decreases-collect_input l = 2 * l.depth
 abbrev pub decreases-collect_source : goal.decreases-collect_source
 decreases-collect_source l = 2 * l.depth + 1
 
-abbrev pub invariant-collect_input-loop-left : goal.invariant-collect_input-loop-left
-invariant-collect_input-loop-left l =
+abbrev pub invariant-collect_input-loop : goal.invariant-collect_input-loop
+invariant-collect_input-loop l =
     Turn (arriving_from l.phases l.tables l.flags l.given (l.depth - 1)) l.tables l.port l.initial.buf
-    (puts l.port (arriving l.phases l.tables l.flags l.given l.depth l.target) (l.initial.buf, l.end)) l.buf l.next l.left l.link
-
-abbrev pub decreases-collect_input-loop-left : goal.decreases-collect_input-loop-left
-decreases-collect_input-loop-left l = l.left
+    (puts l.port (arriving l.phases l.tables l.flags l.given l.depth l.target) (l.initial.buf, l.end)) l.buf l.next l.counter l.link

@@ -12,10 +12,7 @@ decreases-collect_child l = 2 * l.depth + 1
 abbrev pub decreases-collect_coupled : goal.decreases-collect_coupled
 decreases-collect_coupled l = 2 * l.depth
 
-abbrev pub invariant-collect_coupled-loop-left : goal.invariant-collect_coupled-loop-left
-invariant-collect_coupled-loop-left l =
+abbrev pub invariant-collect_coupled-loop : goal.invariant-collect_coupled-loop
+invariant-collect_coupled-loop l =
     Turn (leaving_child l.phases l.tables l.flags (l.depth - 1)) l.tables l.port l.initial.buf
-    (puts l.port (leaving l.phases l.tables l.flags l.depth l.target) (l.initial.buf, l.end)) l.buf l.next l.left l.link
-
-abbrev pub decreases-collect_coupled-loop-left : goal.decreases-collect_coupled-loop-left
-decreases-collect_coupled-loop-left l = l.left
+    (puts l.port (leaving l.phases l.tables l.flags l.depth l.target) (l.initial.buf, l.end)) l.buf l.next l.counter l.link

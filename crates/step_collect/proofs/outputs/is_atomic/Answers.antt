@@ -4,4 +4,4 @@ use Rattle.step_collect.proofs.outputs.is_atomic.Goals as goal
 
 pub returns : goal.returns
 unfolding atomic_node atomic_at node_component
-returns c = rw (c.word_in.ensures, c.u32_to_usize.ensures)
+returns c = rw c.word_in.ensures

@@ -6,4 +6,4 @@ use Rattle.step_collect.proofs.outputs.put_output.Goals as goal
 
 pub returns : goal.returns
 unfolding sent_by sent_on node_component
-returns c = rw (c.mark_at-mark.ensures, c.u32_to_usize.ensures, c.port_of.ensures) at c.put_sent.ensures
+returns c = rw (c.mark_at-mark.ensures, c.port_of.ensures) at c.put_sent.ensures
