@@ -38,6 +38,11 @@ done
 # The C boundary.
 ./build.sh library >"$made/build.log" 2>&1 || { cat "$made/build.log"; exit 1; }
 
+# What the library asks of the program that it is linked into.
+nm -u "$top/target/staticlib/libc_interface.a" | sed -n 's/^ *U //p' | sort -u >"$made/asked"
+printf 'memcpy\nmemset\n' >"$made/meant"
+agree 'names that the library asks for' "$made/meant" "$made/asked"
+
 # build NAME SOURCE..: a C program over the library
 build() {
   cc -std=c99 -Wall -Wextra -Werror -pedantic -O2 -I"$top/include" "${@:2}" "$top/target/staticlib/libc_interface.a" \

@@ -8,7 +8,8 @@ ghost use Rattle.definition.specs.Pinned.Decoder.{accepted};
 ghost use Rattle.definition.specs.Engine.{advance_checks, advance};
 ghost use Rattle.model_file.specs.Checked.{model_of};
 ghost use Rattle.refusals.specs.Refusals.{settled};
-ghost use Rattle.call_answers.specs.Answers.{advanced_of, refused_advance};
+ghost use Rattle.call_answers.specs.Answers.{advanced_of};
+ghost use Rattle.call_answers.specs.Refused.{refused_advance};
 ghost use Rattle.call_advance.specs.LetIn.{ModelOpened, checked_by, LetIn, Roomy};
 
 use accept_routes::Accepted;

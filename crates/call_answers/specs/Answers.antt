@@ -1,6 +1,6 @@
 -- The structs that the calls answer, as the definitions' outcomes: the numbers and what the lent buffers hold afterwards. And the places of a
 -- channel call.
-use Rattle.std.specs.Prelude.{List, map, replicate, ℕ}
+use Rattle.std.specs.Prelude.{List, map, ℕ}
 use Rattle.definition.specs.Bytes.{Bytes}
 use Rattle.definition.specs.Engine.{Wrote, Numbers, WasRead}
 use Rattle.definition.specs.Engine.{Advanced as DefAdvanced}
@@ -45,20 +45,3 @@ numbers_in r = record { number = r.number; instants = r.instants; steps = r.step
 
 abbrev pub channelled_of : Bytes → Bytes → Channels → Channelled
 channelled_of runs traces r = record { number = r.number; answers = map numbers_in r.channel; runs = runs; traces = traces }
-
--- ---- a refused call answers its number and zeros
-
-abbrev pub refused_writing : ℕ → Written
-refused_writing number = record { number = number; bytes = 0 }
-
-abbrev pub refused_advance : ℕ → Advanced
-refused_advance number = record { number = number; instants = 0; steps = 0; trace_bytes = 0 }
-
-abbrev pub refused_feed : ℕ → Fed
-refused_feed number = record { number = number; bags = 0; instants = 0; steps = 0; trace_bytes = 0 }
-
-abbrev pub refused_reading : ℕ → Reading
-refused_reading number = record { number = number; phase = 0; last = 0; next_due = 0 }
-
-abbrev pub refused_channels : ℕ → Channels
-refused_channels number = record { number = number; channel = replicate 8 (refused_advance 0) }

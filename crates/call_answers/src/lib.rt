@@ -1,10 +1,10 @@
 // What the calls answer and what one is given by value, as C has it. Each struct stands once: a call has it, and the engine and the C interface hand
-// it on. A call that is refused answers the number and zeros.
+// it on. A call that is refused before it does anything answers the number and zeros; one that stops on its way answers how far it came.
 #![tactic(auto)]
 
 ghost use Rattle.std.specs.Prelude.{◌≡◌};
 ghost use Rattle.refusals.specs.Refusals.{number_of};
-ghost use Rattle.call_answers.specs.Answers.{refused_writing, refused_advance, refused_feed, refused_reading, refused_channels};
+ghost use Rattle.call_answers.specs.Refused.{refused_writing, refused_advance, refused_feed, refused_reading, refused_channels};
 
 use refusals::Refusal;
 

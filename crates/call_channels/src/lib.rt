@@ -7,8 +7,7 @@ ghost use Rattle.definition.specs.Bytes.{ok};
 ghost use Rattle.definition.specs.Channels.{miscounted, advance_channels};
 ghost use Rattle.definition.specs.FlatChannels.{boxed};
 ghost use Rattle.model_file.specs.Checked.{model_of};
-ghost use Rattle.refusals.specs.Refusals.{settled};
-ghost use Rattle.call_answers.specs.Answers.{channels_call_of, channelled_of, refused_channels};
+ghost use Rattle.call_answers.specs.Answers.{channels_call_of, channelled_of};
 ghost use Rattle.call_advance.specs.LetIn.{Roomy};
 ghost use Rattle.channel_loop.specs.InTurn.{all_in_turn};
 ghost use Rattle.call_channels.specs.ChannelsLetIn.{ChannelsLetIn, ChannelsOpened};
@@ -85,30 +84,6 @@ fn channels_accepted(
     }
 }
 
-fn try_channels(
-    file: &[u8],
-    runs: &mut [u8],
-    count: u64,
-    t: u64,
-    allowance: u64,
-    bags: &[u8],
-    places: Places,
-    traces: &mut [u8],
-) -> Result<Channels, Refusal>
-    ensures { channelled_of runs.new traces.new (settled refused_channels result)
-        ≡ advance_channels file.now runs.old
-        (channels_call_of count t allowance bags.now places traces.old) }
-{
-    if is_miscounted(count, allowance) {
-        return Err(Refusal::BadChannels);
-    }
-    let mut tables = [0u16; TABLE_SIZE];
-    let accepted = accept_tables::open_model(file, &mut tables)?;
-    Ok(channels_accepted(
-        file, accepted, &tables, runs, count, t, allowance, bags, places, traces,
-    ))
-}
-
 pub fn advance_channels(
     file: &[u8],
     runs: &mut [u8],
@@ -123,8 +98,15 @@ pub fn advance_channels(
         ≡ advance_channels file.now runs.old
         (channels_call_of count t allowance bags.now places traces.old) }
 {
-    match try_channels(file, runs, count, t, allowance, bags, places, traces) {
-        Ok(answer) => answer,
+    if is_miscounted(count, allowance) {
+        return Channels::from(Refusal::BadChannels);
+    }
+    let mut tables = [0u16; TABLE_SIZE];
+    // Not by `?` in a function of its own, as other calls have it: the answer is large and would go through memory once more.
+    match accept_tables::open_model(file, &mut tables) {
+        Ok(accepted) => channels_accepted(
+            file, accepted, &tables, runs, count, t, allowance, bags, places, traces,
+        ),
         Err(refusal) => Channels::from(refusal),
     }
 }

@@ -4,7 +4,8 @@
 ghost use Rattle.std.specs.Prelude.{◌≡◌};
 ghost use Rattle.definition.specs.Pinned.TraceReader.{trace_to_columns, columns_to_trace};
 ghost use Rattle.refusals.specs.Refusals.{settled};
-ghost use Rattle.call_answers.specs.Answers.{wrote_of, refused_writing};
+ghost use Rattle.call_answers.specs.Answers.{wrote_of};
+ghost use Rattle.call_answers.specs.Refused.{refused_writing};
 
 use call_answers::Written;
 use columns_check::scan_columns;

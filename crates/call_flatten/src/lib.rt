@@ -4,7 +4,8 @@
 ghost use Rattle.std.specs.Prelude.{◌≡◌, length};
 ghost use Rattle.definition.specs.Flatten.{flatten};
 ghost use Rattle.refusals.specs.Refusals.{settled};
-ghost use Rattle.call_answers.specs.Answers.{wrote_of, refused_writing};
+ghost use Rattle.call_answers.specs.Answers.{wrote_of};
+ghost use Rattle.call_answers.specs.Refused.{refused_writing};
 ghost use Rattle.call_flatten.specs.Found.{CanFlatten, FlatFound};
 
 use accept_routes::Accepted;

@@ -6,7 +6,8 @@ ghost use Rattle.definition.specs.SavedRun.{run_of, next_due};
 ghost use Rattle.definition.specs.Engine.{due_number, reading};
 ghost use Rattle.model_file.specs.Checked.{model_of};
 ghost use Rattle.refusals.specs.Refusals.{settled};
-ghost use Rattle.call_answers.specs.Answers.{read_of, refused_reading};
+ghost use Rattle.call_answers.specs.Answers.{read_of};
+ghost use Rattle.call_answers.specs.Refused.{refused_reading};
 ghost use Rattle.call_read.specs.Opened.{ModelOpened, RunOpened};
 
 use accept_routes::Accepted;

@@ -9,7 +9,8 @@ ghost use Rattle.definition.specs.Engine.{wrote, start_run, start};
 ghost use Rattle.model_records.specs.Values.{components_in};
 ghost use Rattle.run_saved.specs.Runs.{bare};
 ghost use Rattle.refusals.specs.Refusals.{settled};
-ghost use Rattle.call_answers.specs.Answers.{wrote_of, refused_writing};
+ghost use Rattle.call_answers.specs.Answers.{wrote_of};
+ghost use Rattle.call_answers.specs.Refused.{refused_writing};
 
 use call_answers::Written;
 use clock::Moment;

@@ -100,10 +100,13 @@ pub fn put_number(out: &mut [u8], at: usize, n: usize, v: u64)
     }
 }
 
-// Bytes of one slice, put at a position of another.
+// Bytes of one slice, put at a position of another. By a loop, and not by `copy_from_slice`, for which the compiled library would ask the program that
+// it is linked into for memmove; it asks for memcpy and memset alone.
 pub fn put_bytes(part: &[u8], out: &mut [u8], at: usize)
     requires { at + length part.now ≤ length out.old }
     ensures { out.new ≡ sets out.old at part.now }
 {
-    out[at..at + part.len()].copy_from_slice(part);
+    for i in 0..part.len() {
+        out[at + i] = part[i];
+    }
 }
